@@ -1,0 +1,4 @@
+pub mod Basic
+pub mod BoolLaws
+pub mod ListLaws
+pub mod WordLaws

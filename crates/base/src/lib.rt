@@ -1,0 +1,1 @@
+// Lists and sets, for definitions and laws: everything is in specs/.

@@ -1,0 +1,6 @@
+pub mod Program
+pub mod Unfolding
+pub mod Graph
+pub mod Edge
+pub mod Walk
+pub mod Examples
