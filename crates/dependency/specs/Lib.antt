@@ -1,1 +1,5 @@
 pub mod Dependency
+pub mod DependencyLaws
+pub mod Ordered
+pub mod Positions
+pub mod SerialLaw

@@ -1,0 +1,155 @@
+-- A dependency by its letter, with what the letter's test says.
+use mathlib.Core.Path.{_≡_}
+use mathlib.Core.Bool.{Bool, true, false, not, _&&_, _||_}
+use mathlib.Core.Logic.{_⊎_, inl, inr, _≢_}
+use mathlib.Core.List.{List}
+use Prim.Native.Nat.{ℕ, _<_}
+use borrow.Author.Tests.{eqb-true, eqb-false, ltb-true}
+use lib.Dec.{eqb, ltb}
+use Rattle.base.specs.Basic.{meets}
+use Rattle.base.specs.BoolLaws.{and-true, or-true, not-true}
+use Rattle.schedule.specs.Event.{Event, isRead, isWrite, isInsert, isDelete, isPredicateRead}
+use Rattle.dependency.specs.Dependency.{sameTuple, touches, sees, writeWrite, writeRead, writePredicate, readWrite, predicateWrite, depends}
+use Rattle.committing.specs.Rules.{SameTuple}
+
+-- the write w changes what the predicate read p of its relation takes
+pub record Touches (w p : Event) : Type 0 where
+  pub relation : w .relation ≡ p .relation
+  pub changes : isInsert (w .action) || isDelete (w .action) || meets (w .attributes) (p .attributes) ≡ true
+
+-- the letters A to E: a dependency from event b at position m to event a, of another transaction, at position n
+pub data Dependency (events : List Event) (m : ℕ) (b : Event) (n : ℕ) (a : Event) : Type 0 where
+  -- A: b writes, then a writes
+  write-write : b .transaction ≢ a .transaction → isWrite (b .action) ≡ true → isWrite (a .action) ≡ true
+      → SameTuple b a → meets (b .attributes) (a .attributes) ≡ true → m < n → Dependency events m b n a
+  -- B: a reads a version at or behind b's
+  write-read : b .transaction ≢ a .transaction → isWrite (b .action) ≡ true → isRead (a .action) ≡ true
+      → SameTuple b a → meets (b .attributes) (a .attributes) ≡ true → sees events n a b ≡ true → Dependency events m b n a
+  -- C: the predicate read a tests a version at or behind b's
+  write-predicate : b .transaction ≢ a .transaction → isWrite (b .action) ≡ true → isPredicateRead (a .action) ≡ true
+      → Touches b a → sees events n a b ≡ true → Dependency events m b n a
+  -- D: b reads a version before a's
+  read-write : b .transaction ≢ a .transaction → isRead (b .action) ≡ true → isWrite (a .action) ≡ true
+      → SameTuple b a → meets (b .attributes) (a .attributes) ≡ true → sees events m b a ≡ false → Dependency events m b n a
+  -- E: the predicate read b tests a version before a's
+  predicate-write : b .transaction ≢ a .transaction → isPredicateRead (b .action) ≡ true → isWrite (a .action) ≡ true
+      → Touches a b → sees events m b a ≡ false → Dependency events m b n a
+
+-- over the same tuple, from its test
+pub same-tuple : (e f : Event) → sameTuple e f ≡ true → SameTuple e f
+unfolding sameTuple
+same-tuple e f h =
+    let both = and-true (eqb (e .relation) (f .relation)) (eqb (e .tuple) (f .tuple)) h in
+    record { relation = eqb-true (e .relation) (f .relation) (both .0); tuple = eqb-true (e .tuple) (f .tuple) (both .1) }
+
+-- a change to a predicate read, from its test
+pub touches-of : (w p : Event) → touches w p ≡ true → Touches w p
+unfolding touches
+touches-of w p h =
+    let both = and-true (eqb (w .relation) (p .relation))
+    (isInsert (w .action) || isDelete (w .action) || meets (w .attributes) (p .attributes)) h in
+    record { relation = eqb-true (w .relation) (p .relation) (both .0); changes = both .1 }
+
+module _ (events : List Event) (m : ℕ) (b : Event) (n : ℕ) (a : Event) where
+  -- ---- each letter from its test
+
+  letter-A : b .transaction ≢ a .transaction → writeWrite events m b n a ≡ true → Dependency events m b n a
+  unfolding writeWrite
+  letter-A apart h =
+      let w = isWrite (b .action) in
+      let v = isWrite (a .action) in
+      let s = sameTuple b a in
+      let k = meets (b .attributes) (a .attributes) in
+      let five = and-true (w && v && s && k) (ltb m n) h in
+      let four = and-true (w && v && s) k (five .0) in
+      let three = and-true (w && v) s (four .0) in
+      let two = and-true w v (three .0) in
+      write-write apart (two .0) (two .1) (same-tuple b a (three .1)) (four .1) (ltb-true m n (five .1))
+
+  letter-B : b .transaction ≢ a .transaction → writeRead events m b n a ≡ true → Dependency events m b n a
+  unfolding writeRead
+  letter-B apart h =
+      let w = isWrite (b .action) in
+      let v = isRead (a .action) in
+      let s = sameTuple b a in
+      let k = meets (b .attributes) (a .attributes) in
+      let five = and-true (w && v && s && k) (sees events n a b) h in
+      let four = and-true (w && v && s) k (five .0) in
+      let three = and-true (w && v) s (four .0) in
+      let two = and-true w v (three .0) in
+      write-read apart (two .0) (two .1) (same-tuple b a (three .1)) (four .1) (five .1)
+
+  letter-C : b .transaction ≢ a .transaction → writePredicate events m b n a ≡ true → Dependency events m b n a
+  unfolding writePredicate
+  letter-C apart h =
+      let w = isWrite (b .action) in
+      let v = isPredicateRead (a .action) in
+      let four = and-true (w && v && touches b a) (sees events n a b) h in
+      let three = and-true (w && v) (touches b a) (four .0) in
+      let two = and-true w v (three .0) in
+      write-predicate apart (two .0) (two .1) (touches-of b a (three .1)) (four .1)
+
+  letter-D : b .transaction ≢ a .transaction → readWrite events m b n a ≡ true → Dependency events m b n a
+  unfolding readWrite
+  letter-D apart h =
+      let w = isRead (b .action) in
+      let v = isWrite (a .action) in
+      let s = sameTuple b a in
+      let k = meets (b .attributes) (a .attributes) in
+      let five = and-true (w && v && s && k) (not (sees events m b a)) h in
+      let four = and-true (w && v && s) k (five .0) in
+      let three = and-true (w && v) s (four .0) in
+      let two = and-true w v (three .0) in
+      read-write apart (two .0) (two .1) (same-tuple b a (three .1)) (four .1) (not-true (sees events m b a) (five .1))
+
+  letter-E : b .transaction ≢ a .transaction → predicateWrite events m b n a ≡ true → Dependency events m b n a
+  unfolding predicateWrite
+  letter-E apart h =
+      let w = isPredicateRead (b .action) in
+      let v = isWrite (a .action) in
+      let four = and-true (w && v && touches a b) (not (sees events m b a)) h in
+      let three = and-true (w && v) (touches a b) (four .0) in
+      let two = and-true w v (three .0) in
+      predicate-write apart (two .0) (two .1) (touches-of a b (three .1)) (not-true (sees events m b a) (four .1))
+
+  -- each dependency has a letter
+  pub dependency-cases : depends events m b n a ≡ true → Dependency events m b n a
+  unfolding depends
+  dependency-cases h = five (or-true (A || B || C || D) E (both .1))
+    where
+      A : Bool
+      A = writeWrite events m b n a
+
+      B : Bool
+      B = writeRead events m b n a
+
+      C : Bool
+      C = writePredicate events m b n a
+
+      D : Bool
+      D = readWrite events m b n a
+
+      E : Bool
+      E = predicateWrite events m b n a
+
+      both : (not (eqb (b .transaction) (a .transaction)) ≡ true) × (A || B || C || D || E ≡ true)
+      both = and-true (not (eqb (b .transaction) (a .transaction))) (A || B || C || D || E) h
+
+      apart : b .transaction ≢ a .transaction
+      apart = eqb-false (b .transaction) (a .transaction) (not-true (eqb (b .transaction) (a .transaction)) (both .0))
+
+      two : (A ≡ true) ⊎ (B ≡ true) → Dependency events m b n a
+      two (inl x) = letter-A apart x
+      two (inr x) = letter-B apart x
+
+      three : (A || B ≡ true) ⊎ (C ≡ true) → Dependency events m b n a
+      three (inl x) = two (or-true A B x)
+      three (inr x) = letter-C apart x
+
+      four : (A || B || C ≡ true) ⊎ (D ≡ true) → Dependency events m b n a
+      four (inl x) = three (or-true (A || B) C x)
+      four (inr x) = letter-D apart x
+
+      five : (A || B || C || D ≡ true) ⊎ (E ≡ true) → Dependency events m b n a
+      five (inl x) = four (or-true (A || B || C) D x)
+      five (inr x) = letter-E apart x

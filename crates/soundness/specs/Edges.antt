@@ -1,0 +1,253 @@
+-- Each dependency has its edge: between nodes that stand for the two transactions a forward edge, and where the second commits first a
+-- back edge; and what Read Committed says of the commits.
+use mathlib.Core.Bool.{Bool, true, false, not, _&&_, _||_}
+use mathlib.Core.List.{List, [], _∷_, List·Memᴰ}
+use mathlib.Core.Logic.{_⊎_, inl, inr, _≢_}
+use mathlib.Core.Option.{Option, none, some}
+use mathlib.Core.Path.{_≡_, refl, sym, ap, subst, _∙_}
+use Prim.Native.Nat.{ℕ, zero, suc, _≤_, _<_}
+use native.Mathlib.Omega.{arith}
+use lib.Dec.{eqb}
+use lib.ListN.{length, getElem?}
+use borrow.Author.Tests.{eqb-true, eq-eqb}
+use Rattle.base.specs.Basic.{any, all, meets}
+use Rattle.base.specs.BoolLaws.{decide, and-true, and-of, or-true, or-left, or-right, true-false, not-of-false, not-true, false-of}
+use Rattle.base.specs.ListLaws.{any-true, getElem?-member}
+use Rattle.text.specs.declared.Line.{Line}
+use Rattle.text.specs.declared.StatementKind.{StatementKind}
+use Rattle.graph.specs.Program.{Statement, Link}
+use Rattle.graph.specs.Unfolding.{Occurrence, occurrences, nodesOf}
+use Rattle.graph.specs.Graph.{Flow, Graph}
+use Rattle.graph.specs.Edge.{Letter, Place, at, placeAt, holds, sameRelation, guarded, shielded, forward, back, stands, graphOf, hasReads, hasTests, selects, loosens, loosensAt}
+use Rattle.graph.specs.Edge.Letter.{A, B, C, D, E}
+use Rattle.schedule.specs.Event.{Action, Event, isRead, isWrite, isPredicateRead, isInsert, isDelete, isCommit}
+use Rattle.schedule.specs.Event.Action.{read, write, insert, delete, predicateRead, commit}
+use Rattle.schedule.specs.Schedule.{Transaction, Performed, Operation, Schedule, performed}
+use Rattle.committing.specs.Rules.{CommitsAt, SameTuple, write-before}
+use Rattle.committing.specs.Letters.{Dependency}
+use Rattle.committing.specs.Letters.Dependency.{write-write, write-read, write-predicate, read-write, predicate-write}
+use Rattle.committing.specs.Commits.{write-left, update-left, back-not-write, read-left, writers-apart}
+use Rattle.committing.specs.Kinds.{write-write-kinds, write-read-kinds, read-write-kinds}
+use Rattle.transactions.specs.Operations.{Belongs, Does, updates, statementOf}
+use Rattle.transactions.specs.Events.{schedule-lawful, eventAt}
+use Rattle.transactions.specs.Statements.{Stated, operationOf, update-next, place-order}
+use Rattle.soundness.specs.Letters.{Sets, kind-implies, kinds-apart, letter-A, letter-B, letter-C, letter-D, letter-E, does-read-what, does-test-what}
+use Rattle.soundness.specs.Visits.{Visit, At, Spot, Guard, guard-of, performed-occurrence}
+
+-- ---- what a test of an action says of it
+
+read-action : (a : Action) → isRead a ≡ true → a ≡ read
+read-action read h = refl
+read-action write h = absurd (true-false h refl)
+read-action insert h = absurd (true-false h refl)
+read-action delete h = absurd (true-false h refl)
+read-action predicateRead h = absurd (true-false h refl)
+read-action commit h = absurd (true-false h refl)
+
+read-tests : (a : Action) → isRead a ≡ true → isPredicateRead a ≡ false
+read-tests read h = refl
+read-tests write h = refl
+read-tests insert h = refl
+read-tests delete h = refl
+read-tests predicateRead h = absurd (true-false h refl)
+read-tests commit h = refl
+
+write-tests : (a : Action) → isWrite a ≡ true → isPredicateRead a ≡ false
+write-tests read h = refl
+write-tests write h = refl
+write-tests insert h = refl
+write-tests delete h = refl
+write-tests predicateRead h = absurd (true-false h refl)
+write-tests commit h = refl
+
+module _ {lines : List Line} (s : Schedule lines) (set : ℕ → ℕ)
+    (sets : (x : Transaction) → List·Memᴰ x (s .transactions) → (j : ℕ) (o : Occurrence) → getElem? (occurrences (x .execution) 0) j ≡ some o
+    → Sets set (o .statement)) where
+  -- the sets of the statement of an event
+  event-sets : {i : ℕ} (v : Visit s i) (e : Event) (t : Stated s (v .transaction) e) → Sets set (statementOf (t .performs))
+  event-sets {i} v e t =
+      sets (v .transaction) (getElem?-member (s .transactions) i (v .found)) (e .place) (t .performs .occurrence)
+      (performed-occurrence (v .transaction) (e .place) (t .at) .0)
+
+  -- a dependency from event b, left at a place of node v, to event a, entered at a place of node w
+  module _ {i j : ℕ} (v : Visit s i) (w : Visit s j) {m n l r : ℕ} {b a : Event}
+      (atB : getElem? (s .events) m ≡ some b) (atA : getElem? (s .events) n ≡ some a) (ofB : b .transaction ≡ i) (ofA : a .transaction ≡ j)
+      (hereB : At s v l b) (hereA : At s w r a) (p : Spot s v l b) (q : Spot s w r a) (dependency : Dependency (s .events) m b n a) where
+    commit-b : CommitsAt (s .events) (b .transaction) (v .commit)
+    commit-b = subst (λ (i : ℕ). CommitsAt (s .events) i (v .commit)) (sym ofB) (v .commits)
+
+    commit-a : CommitsAt (s .events) (a .transaction) (w .commit)
+    commit-a = subst (λ (j : ℕ). CommitsAt (s .events) j (w .commit)) (sym ofA) (w .commits)
+
+    abbrev P : Performed
+    P = p .stated .performs
+
+    abbrev Q : Performed
+    Q = q .stated .performs
+
+    doesB : Does P (operationOf b)
+    doesB = p .stated .belongs .does
+
+    doesA : Does Q (operationOf a)
+    doesA = q .stated .belongs .does
+
+    over : b .relation ≡ a .relation → statementOf P .relation ≡ statementOf Q .relation
+    over e = sym (p .stated .belongs .relation) ∙ e ∙ q .stated .belongs .relation
+
+    -- both statements are over one relation, and a letter holds of them
+    Related : Type 0
+    Related = (statementOf P .relation ≡ statementOf Q .relation) × (letter : Letter) × (holds letter (statementOf P) (statementOf Q) ≡ true)
+
+    related : Dependency (s .events) m b n a → Related
+    unfolding Related
+    related (write-write apart wb wa t h lt) =
+        let k = write-write-kinds (schedule-lawful s) atB atA dependency wb wa in
+        let o = over (t .relation) in
+        (o, A, letter-A set doesB doesA o (event-sets v b (p .stated)) (event-sets w a (q .stated)) wb wa (k .0) (k .1) h)
+    related (write-read apart wb ra t h see) =
+        let o = over (t .relation) in (
+          o,
+          B,
+          letter-B set doesB doesA o (event-sets v b (p .stated)) (event-sets w a (q .stated)) wb ra
+              (write-read-kinds (schedule-lawful s) atB atA dependency wb ra) h,
+        )
+    related (write-predicate apart wb pa t see) = (over (t .relation), C, letter-C doesB doesA wb pa (t .changes))
+    related (read-write apart rb wa t h see) =
+        let o = over (t .relation) in (
+          o,
+          D,
+          letter-D set doesB doesA o (event-sets v b (p .stated)) (event-sets w a (q .stated)) rb wa
+              (read-write-kinds (schedule-lawful s) atB atA dependency rb wa) h,
+        )
+    related (predicate-write apart pb wa t see) = (over (sym (t .relation)), E, letter-E doesB doesA pb wa (t .changes))
+
+    any-letter : (letter : Letter) (x y : Statement) → holds letter x y ≡ true
+        → holds A x y || holds B x y || holds C x y || holds D x y || holds E x y ≡ true
+    any-letter A x y h = or-left (holds E x y) (or-left (holds D x y) (or-left (holds C x y) (or-left (holds B x y) h)))
+    any-letter B x y h = or-left (holds E x y) (or-left (holds D x y) (or-left (holds C x y) (or-right (holds A x y) h)))
+    any-letter C x y h = or-left (holds E x y) (or-left (holds D x y) (or-right (holds A x y || holds B x y) h))
+    any-letter D x y h = or-left (holds E x y) (or-right (holds A x y || holds B x y || holds C x y) h)
+    any-letter E x y h = or-right (holds A x y || holds B x y || holds C x y || holds D x y) h
+
+    -- every dependency has a forward edge
+    pub forward-edge : forward (p .spot) (q .spot) ≡ true
+    unfolding forward sameRelation Related
+    forward-edge =
+        let t = related dependency in
+        let e : (at (p .spot) .relation ≡ at (q .spot) .relation) = ap (λ (s : Statement). s .relation) (p .statement) ∙ t .0 ∙ ap (λ (s : Statement). s .relation) (sym (q .statement)) in
+        and-of (eq-eqb (at (p .spot) .relation) (at (q .spot) .relation) e)
+        (any-letter (t .1) (at (p .spot)) (at (q .spot))
+        (subst (λ (x : Statement). holds (t .1) x (at (q .spot)) ≡ true) (sym (p .statement))
+        (subst (λ (y : Statement). holds (t .1) (statementOf P) y ≡ true) (sym (q .statement)) (t .2))))
+
+    -- ---- the update's write stands right behind its read, so such a dependency is never back
+    update-commits : isRead (b .action) ≡ true → updates (statementOf P .kind) ≡ true → v .commit < n
+    update-commits rb u =
+        let f = p .stated .follows u (read-action (b .action) rb) in
+        let x = update-next s i (v .found) m b atB ofB (f .0) (f .1) (f .2 .place) in
+        update-left (schedule-lawful s) atB atA dependency rb x (rw (f .2 .writes)) (sym ofB)
+        (record { relation = sym (f .2 .relation); tuple = sym (f .2 .tuple) }) commit-b commit-a
+
+    -- what leaves no loose place waits for the commit
+    pub firm : loosens (statementOf P .kind) ≡ false → v .commit < n
+    firm h = go dependency
+      where
+        k : StatementKind
+        k = statementOf P .kind
+
+        go : Dependency (s .events) m b n a → v .commit < n
+        go (write-write apart wb wa t x lt) = write-left (schedule-lawful s) atB atA dependency wb commit-b
+        go (write-read apart wb ra t x see) = write-left (schedule-lawful s) atB atA dependency wb commit-b
+        go (write-predicate apart wb pa t see) = write-left (schedule-lawful s) atB atA dependency wb commit-b
+        go (read-write apart rb wa t x see) =
+            update-commits rb (kind-implies (λ k. hasReads k && not (loosens k)) updates refl k (and-of (does-read-what doesB rb .1) (not-of-false h)))
+        go (predicate-write apart pb wa t see) =
+            absurd (true-false (kind-implies hasTests loosens refl k (does-test-what doesB pb .1)) h)
+
+    -- a back dependency leaves before the other commits
+    pub early : w .commit < v .commit → m < w .commit
+    early h = read-left (schedule-lawful s) atB atA dependency commit-b commit-a h
+
+    -- ---- the shield: two writing parents of one tuple, both before the second commit, cannot be
+    shield-holds : w .commit < v .commit → SameTuple b a → isPredicateRead (b .action) ≡ false → isPredicateRead (a .action) ≡ false
+        → b .transaction ≢ a .transaction → shielded (p .spot) (q .spot) ≡ true → ⊥
+    unfolding shielded
+    shield-holds h t nb na apart sh =
+        let f = any-true (λ l. guarded (l .key) (p .spot) && guarded (l .key) (q .spot)) (p .spot .node .links) sh in
+        let both = and-true (guarded (f .0 .key) (p .spot)) (guarded (f .0 .key) (q .spot)) (f .2) in
+        meet (f .0 .key) (guard-of s v l (f .0 .key) b p hereB nb (both .0)) (guard-of s w r (f .0 .key) a q hereA na (both .1))
+      where
+        meet : (key : ℕ) → Guard s v key b → Guard s w key a → ⊥
+        meet key g k =
+            let same : SameTuple (g .event) (k .event) =
+            record {
+              relation =
+                  sym (g .relation)
+                  ∙ ap (λ (r : ℕ). s .key key (record { relation = r; number = b .tuple }) .relation) (t .relation)
+                  ∙ ap (λ (x : ℕ). s .key key (record { relation = a .relation; number = x }) .relation) (t .tuple)
+                  ∙ k .relation;
+              tuple =
+                  sym (g .tuple)
+                  ∙ ap (λ (r : ℕ). s .key key (record { relation = r; number = b .tuple }) .number) (t .relation)
+                  ∙ ap (λ (x : ℕ). s .key key (record { relation = a .relation; number = x }) .number) (t .tuple)
+                  ∙ k .tuple;
+            } in
+            let commit-g = subst (λ (i : ℕ). CommitsAt (s .events) i (v .commit)) (sym (g .own)) (v .commits) in
+            let commit-k = subst (λ (j : ℕ). CommitsAt (s .events) j (w .commit)) (sym (k .own)) (w .commits) in
+            let before : g .position < m = place-order s i (v .found) (g .position) m (g .event) b (g .stands) atB (g .own) ofB (g .earlier) in
+            let left : m < w .commit = early h in
+            let within : k .position < w .commit = write-before commit-k (k .position) (k .event) (k .stands) refl (k .writes) in
+            go before left within
+            (writers-apart (schedule-lawful s) (g .position) (k .position) (g .stands) (k .stands) (g .writes) (k .writes) same
+            (λ e. apart (ofB ∙ sym (g .own) ∙ e ∙ k .own ∙ sym ofA)) commit-g commit-k)
+          where
+            go : g .position < m → m < w .commit → k .position < w .commit → (v .commit < k .position) ⊎ (w .commit < g .position) → ⊥
+            go x y z (inl c) = omega arith
+            go x y z (inr c) = omega arith
+
+    -- a dependency whose second transaction commits first has a back edge
+    pub back-edge : w .commit < v .commit → back (p .spot) (q .spot) ≡ true
+    unfolding back sameRelation Related
+    back-edge h = and-of (eq-eqb (at (p .spot) .relation) (at (q .spot) .relation) relation) (go dependency)
+      where
+        k : StatementKind
+        k = statementOf P .kind
+
+        relation : at (p .spot) .relation ≡ at (q .spot) .relation
+        relation =
+            ap (λ (s : Statement). s .relation) (p .statement) ∙ related dependency .0 ∙ ap (λ (s : Statement). s .relation) (sym (q .statement))
+
+        spots : (letter : Letter) → holds letter (statementOf P) (statementOf Q) ≡ true → holds letter (at (p .spot)) (at (q .spot)) ≡ true
+        spots letter e =
+            subst (λ (x : Statement). holds letter x (at (q .spot)) ≡ true) (sym (p .statement))
+            (subst (λ (y : Statement). holds letter (statementOf P) y ≡ true) (sym (q .statement)) e)
+
+        late : n ≤ w .commit
+        late = commit-a .last n a atA refl
+
+        selecting : isRead (b .action) ≡ true → selects k ≡ true
+        selecting rb = choose (updates k) refl
+          where
+            choose : (u : Bool) → updates k ≡ u → selects k ≡ true
+            choose true u = let c = update-commits rb u in absurd (omega (arith, late))
+            choose false u =
+                kind-implies (λ k. hasReads k && not (updates k)) selects refl k (and-of (does-read-what doesB rb .1) (not-of-false u))
+
+        go : Dependency (s .events) m b n a
+            → holds E (at (p .spot)) (at (q .spot))
+            || selects (at (p .spot) .kind) && holds D (at (p .spot)) (at (q .spot)) && not (shielded (p .spot) (q .spot)) ≡ true
+        go (write-write apart wb wa t x lt) = absurd (back-not-write (schedule-lawful s) atB atA dependency commit-b commit-a h wb)
+        go (write-read apart wb ra t x see) = absurd (back-not-write (schedule-lawful s) atB atA dependency commit-b commit-a h wb)
+        go (write-predicate apart wb pa t see) = absurd (back-not-write (schedule-lawful s) atB atA dependency commit-b commit-a h wb)
+        go (read-write apart rb wa t x see) =
+            or-right (holds E (at (p .spot)) (at (q .spot)))
+            (and-of
+            (and-of (subst (λ (x : Statement). selects (x .kind) ≡ true) (sym (p .statement)) (selecting rb))
+            (spots D
+            (letter-D set doesB doesA (over (t .relation)) (event-sets v b (p .stated)) (event-sets w a (q .stated)) rb wa
+            (read-write-kinds (schedule-lawful s) atB atA dependency rb wa) x)))
+            (not-of-false
+            (false-of (shielded (p .spot) (q .spot)) (shield-holds h t (read-tests (b .action) rb) (write-tests (a .action) wa) apart))))
+        go (predicate-write apart pb wa t see) =
+            or-left (selects (at (p .spot) .kind) && holds D (at (p .spot)) (at (q .spot)) && not (shielded (p .spot) (q .spot)))
+            (spots E (letter-E doesB doesA pb wa (t .changes)))

@@ -1,0 +1,3 @@
+pub mod Operations
+pub mod Events
+pub mod Statements

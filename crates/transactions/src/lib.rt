@@ -1,0 +1,1 @@
+// What the events of a transaction say of its statements: everything is in specs/.

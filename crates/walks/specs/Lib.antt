@@ -1,0 +1,3 @@
+pub mod Commits
+pub mod Examples
+pub mod Reach
