@@ -1,52 +1,210 @@
--- Small workloads that pin each rule of unfoldings, edges and walks.
-use mathlib.Core.Bool.{Bool, true, false}
-use mathlib.Core.List.{List, [], _∷_, _++_, map, flatMap}
+-- Small workloads that pin each rule of unfoldings (U) and walks (W), and the counts of document 01's examples (G).
+use mathlib.Core.Bool.{true, false}
+use mathlib.Core.List.{List, [], _∷_, map}
 use mathlib.Core.Path.{_≡_, refl}
-use Prim.Native.Nat.{ℕ}
-use lib.ListN.{length}
-use lib.Count.{onesIn, trailingZeros}
-use Rattle.base.specs.Basic.{any, all, count}
 use Rattle.text.specs.declared.Line.{Line}
-use Rattle.text.specs.declared.LineKind.{LineKind}
-use Rattle.text.specs.declared.LineKind.the-variants.{Rl, Fk, Pr, St, Lo, Br, El, En, Li}
-use Rattle.text.specs.declared.StatementKind.{StatementKind}
-use Rattle.text.specs.declared.StatementKind.the-variants.{Is, Ks, Ps, Ku, Pu, Kd, Pd}
-use Rattle.graph.specs.Graph.{Flow, isBack}
-use Rattle.graph.specs.Program.{statementOf, behind, runOf, programsOf, linksOf}
-use Rattle.graph.specs.Unfolding.{Node, inside, occurrences, pairs, unfoldings, nodesOfProgram, nodesFrom, nodesOf}
-use Rattle.graph.specs.Edge.{Edge, W, R, T, holds, sameRelation, leads, binds, guarded, shielded, forward, back, placesFrom, placesOf, letterOf, shared, edgeOf, edgesBetween, edgesOf, graphOf}
-use Rattle.graph.specs.Walk.{Step, isDangerous}
+use Rattle.graph.specs.Graph.{Flow}
+use Rattle.graph.specs.ExampleText.{rl, fk, pr, is, ks, ps, ku, pu, kd, pd, lo, br, el, en, li, step}
+use Rattle.graph.specs.ExampleText.{counts, nodes, ids, dangerous, sizes, station, base, twice, select-first}
 
-abbrev line : LineKind → ℕ → ℕ → ℕ → ℕ → ℕ → ℕ → Line
-line k a b c r w t = record { kind = k; id = a; rel = b; to = c; reads = r; writes = w; tests = t }
+-- ---- G: document 01's examples
 
-abbrev base : List Line
-base =
-    line Rl 0 0 0 3 0 0
-    ∷ line Rl 1 0 0 3 0 0
-    ∷ line Fk 0 1 0 0 0 0
-    ∷ line Pr 0 0 0 0 0 0
-    ∷ line (St Ku) 0 0 0 2 2 0
-    ∷ line (St Ku) 1 1 0 0 2 0
-    ∷ line Li 0 1 0 0 0 0
-    ∷ line Pr 1 0 0 0 0 0
-    ∷ line (St Ps) 0 1 0 2 0 2
-    ∷ []
-
-record Counts : Type 0 where
-  nodes : ℕ
-  edges : ℕ
-  back : ℕ
-
-counts : List Line → Counts
-unfolding statementOf behind runOf linksOf programsOf inside occurrences pairs flatMap unfoldings nodesOfProgram nodesFrom nodesOf W R T holds sameRelation leads binds guarded shielded forward back placesFrom placesOf letterOf shared edgeOf edgesBetween edgesOf onesIn trailingZeros
-counts lines =
-    record {
-      nodes = length (nodesOf lines);
-      edges = length (edgesOf (nodesOf lines));
-      back = count (λ e. isBack (e .flow)) (edgesOf (nodesOf lines));
-    }
-
-probe : counts base ≡ record { nodes = 2; edges = 5; back = 1 }
+G1-base : counts base ≡ record { programs = 2; nodes = 2; edges = 5; back = 1 }
 unfolding counts
-probe = refl
+G1-base = refl
+
+G2-twice : counts twice ≡ record { programs = 2; nodes = 2; edges = 8; back = 2 }
+unfolding counts
+G2-twice = refl
+
+G3-linked : counts (station (ku 0 0 2 2 ∷ ks 1 1 2 ∷ li 0 1 0 ∷ [])) ≡ record { programs = 2; nodes = 2; edges = 7; back = 0 }
+unfolding counts
+G3-linked = refl
+
+G4-unlinked : counts (station (ku 0 0 2 2 ∷ ks 1 1 2 ∷ [])) ≡ record { programs = 2; nodes = 2; edges = 8; back = 1 }
+unfolding counts
+G4-unlinked = refl
+
+G5-select-first : counts select-first ≡ record { programs = 2; nodes = 2; edges = 8; back = 1 }
+unfolding counts
+G5-select-first = refl
+
+G6-names-alone : counts [] ≡ record { programs = 0; nodes = 0; edges = 0; back = 0 }
+unfolding counts
+G6-names-alone = refl
+
+G7-loop : counts (rl 0 3 ∷ rl 1 3 ∷ pr 0 ∷ lo ∷ ku 0 1 0 2 ∷ en ∷ []) ≡ record { programs = 1; nodes = 3; edges = 9; back = 0 }
+unfolding counts
+G7-loop = refl
+
+-- ---- U: unfoldings
+
+-- U1: a branch gives its first arm's unfoldings, then its second's
+U1-branch : ids (ks 0 0 1 ∷ br ∷ ks 1 0 1 ∷ el ∷ ks 2 0 1 ∷ ks 3 0 1 ∷ en ∷ ks 4 0 1 ∷ [])
+    ≡ (0 ∷ 1 ∷ 4 ∷ []) ∷ (0 ∷ 2 ∷ 3 ∷ 4 ∷ []) ∷ []
+unfolding ids
+U1-branch = refl
+
+-- U2: a loop gives no turn, then one, then two
+U2-loop : ids (lo ∷ ks 0 0 1 ∷ ks 1 0 1 ∷ en ∷ ks 2 0 1 ∷ [])
+    ≡ (2 ∷ []) ∷ (0 ∷ 1 ∷ 2 ∷ []) ∷ (0 ∷ 1 ∷ 0 ∷ 1 ∷ 2 ∷ []) ∷ []
+unfolding ids
+U2-loop = refl
+
+-- U2: each turn is unfolded on its own; two turns are a run of the body twice, the first turn's choice slowest
+U2-branch-in-loop : ids (lo ∷ br ∷ ks 0 0 1 ∷ el ∷ ks 1 0 1 ∷ en ∷ en ∷ [])
+    ≡ []
+    ∷ (0 ∷ [])
+    ∷ (1 ∷ [])
+    ∷ (0 ∷ 0 ∷ [])
+    ∷ (0 ∷ 1 ∷ [])
+    ∷ (1 ∷ 0 ∷ [])
+    ∷ (1 ∷ 1 ∷ [])
+    ∷ []
+unfolding ids
+U2-branch-in-loop = refl
+
+-- U1, U2: a loop in an arm, and a branch in the other
+U1-loop-in-branch : ids (br ∷ lo ∷ ks 0 0 1 ∷ en ∷ el ∷ br ∷ ks 1 0 1 ∷ el ∷ ks 2 0 1 ∷ en ∷ ks 3 0 1 ∷ en ∷ [])
+    ≡ [] ∷ (0 ∷ []) ∷ (0 ∷ 0 ∷ []) ∷ (1 ∷ 3 ∷ []) ∷ (2 ∷ 3 ∷ []) ∷ []
+unfolding ids
+U1-loop-in-branch = refl
+
+-- U2, U4: a loop in a loop; equal and empty unfoldings are kept
+U2-loop-in-loop : ids (lo ∷ lo ∷ ks 0 0 1 ∷ en ∷ en ∷ [])
+    ≡ []
+    ∷ []
+    ∷ (0 ∷ [])
+    ∷ (0 ∷ 0 ∷ [])
+    ∷ []
+    ∷ (0 ∷ [])
+    ∷ (0 ∷ 0 ∷ [])
+    ∷ (0 ∷ [])
+    ∷ (0 ∷ 0 ∷ [])
+    ∷ (0 ∷ 0 ∷ 0 ∷ [])
+    ∷ (0 ∷ 0 ∷ [])
+    ∷ (0 ∷ 0 ∷ 0 ∷ [])
+    ∷ (0 ∷ 0 ∷ 0 ∷ 0 ∷ [])
+    ∷ []
+unfolding ids
+U2-loop-in-loop = refl
+
+-- U3: in a run the leftmost choice changes slowest
+U3-two-branches : ids (br ∷ ks 0 0 1 ∷ el ∷ ks 1 0 1 ∷ en ∷ br ∷ ks 2 0 1 ∷ el ∷ ks 3 0 1 ∷ en ∷ [])
+    ≡ (0 ∷ 2 ∷ []) ∷ (0 ∷ 3 ∷ []) ∷ (1 ∷ 2 ∷ []) ∷ (1 ∷ 3 ∷ []) ∷ []
+unfolding ids
+U3-two-branches = refl
+
+U3-branch-then-loop : ids (br ∷ ks 0 0 1 ∷ el ∷ en ∷ lo ∷ ks 1 0 1 ∷ en ∷ [])
+    ≡ (0 ∷ []) ∷ (0 ∷ 1 ∷ []) ∷ (0 ∷ 1 ∷ 1 ∷ []) ∷ [] ∷ (1 ∷ []) ∷ (1 ∷ 1 ∷ []) ∷ []
+unfolding ids
+U3-branch-then-loop = refl
+
+-- U4: programs go in order; equal and empty unfoldings are kept
+U4-programs : nodes (rl 0 1 ∷ pr 0 ∷ lo ∷ en ∷ pr 1 ∷ pr 2 ∷ br ∷ ks 0 0 1 ∷ el ∷ ks 1 0 1 ∷ en ∷ pr 3 ∷ br ∷ el ∷ en ∷ ks 0 0 1 ∷ [])
+    ≡ (0, [])
+    ∷ (0, [])
+    ∷ (0, [])
+    ∷ (1, [])
+    ∷ (2, 0 ∷ [])
+    ∷ (2, 1 ∷ [])
+    ∷ (3, 0 ∷ [])
+    ∷ (3, 0 ∷ [])
+    ∷ []
+unfolding nodes
+U4-programs = refl
+
+-- N2: nodes and places count from 0
+N2-sizes : sizes (rl 0 1 ∷ pr 0 ∷ lo ∷ ks 0 0 1 ∷ en ∷ pr 1 ∷ pr 2 ∷ ks 0 0 1 ∷ ks 1 0 1 ∷ ks 2 0 1 ∷ [])
+    ≡ (5, 0 ∷ 1 ∷ 2 ∷ 0 ∷ 3 ∷ [])
+unfolding sizes
+N2-sizes = refl
+
+-- ---- W: the dangerous walk
+
+-- W1, W2, W4: document 01's walk for `ps` twice, c leaving at an earlier place than e enters
+W4-earlier : dangerous twice (step 0 1 1 Flow.forward ∷ step 1 0 1 Flow.back ∷ []) ≡ true
+unfolding dangerous
+W4-earlier = refl
+
+-- W4: the read before the parent, linked
+W4-select-first : dangerous select-first (step 0 0 1 Flow.forward ∷ step 1 0 1 Flow.back ∷ []) ≡ true
+unfolding dangerous
+W4-select-first = refl
+
+-- W2: after the last step comes the first
+W2-last-to-first : dangerous twice (step 1 0 1 Flow.back ∷ step 0 1 1 Flow.forward ∷ []) ≡ true
+unfolding dangerous
+W2-last-to-first = refl
+
+-- W1: a node may be left at any place and come again
+W1-again : dangerous twice (step 0 1 0 Flow.forward ∷ step 1 1 1 Flow.back ∷ step 0 1 1 Flow.forward ∷ step 1 0 1 Flow.back ∷ []) ≡ true
+unfolding dangerous
+W1-again = refl
+
+-- W1: edges from a node to itself make a walk: two runs of one program
+W1-itself : dangerous (rl 0 1 ∷ pr 0 ∷ ks 0 0 1 ∷ ku 1 0 0 1 ∷ []) (step 0 1 1 Flow.forward ∷ step 0 0 1 Flow.back ∷ []) ≡ true
+unfolding dangerous
+W1-itself = refl
+
+-- W4: equal places are not earlier
+W4-equal : dangerous base (step 0 1 0 Flow.forward ∷ step 1 0 1 Flow.back ∷ []) ≡ false
+unfolding dangerous
+W4-equal = refl
+
+-- W4: c leaves later than e enters, and e leaves a ku
+W4-later : dangerous twice (step 0 1 0 Flow.forward ∷ step 1 1 1 Flow.back ∷ []) ≡ false
+unfolding dangerous
+W4-later = refl
+
+-- W2: c is not back
+W2-forward : dangerous twice (step 0 1 1 Flow.forward ∷ step 1 0 1 Flow.forward ∷ []) ≡ false
+unfolding dangerous
+W2-forward = refl
+
+-- W3: no forward edge
+abbrev updates : List Line
+updates = rl 0 1 ∷ pr 0 ∷ pu 0 0 1 1 1 ∷ []
+
+W3-no-forward : dangerous updates (step 0 0 0 Flow.back ∷ step 0 0 0 Flow.back ∷ []) ≡ false
+unfolding dangerous
+W3-no-forward = refl
+
+-- W4: e is back
+W4-back : dangerous updates (step 0 0 0 Flow.back ∷ step 0 0 0 Flow.back ∷ step 0 0 0 Flow.forward ∷ []) ≡ true
+unfolding dangerous
+W4-back = refl
+
+-- W1: the walk does not close: its last edge enters place 1 of node 2, and node 0 has no such edge to itself
+W1-open : dangerous
+    (rl 0 3 ∷ rl 1 3 ∷ pr 0 ∷ ku 0 0 2 2 ∷ ku 1 1 0 2 ∷ pr 1 ∷ ps 0 1 2 2 ∷ ps 1 1 2 2 ∷ pr 2 ∷ ks 0 1 1 ∷ ks 1 0 2 ∷ [])
+    (step 0 1 1 Flow.forward ∷ step 1 0 1 Flow.back ∷ step 0 0 1 Flow.forward ∷ [])
+    ≡ false
+unfolding dangerous
+W1-open = refl
+
+-- W1: a step that is no edge: no letter holds, or the flow is the other, or no such place is left or entered
+W1-no-edge : (dangerous twice (step 0 0 1 Flow.forward ∷ step 1 0 1 Flow.back ∷ []) ≡ false)
+    × (dangerous twice (step 0 1 1 Flow.back ∷ step 1 0 1 Flow.forward ∷ []) ≡ false)
+    × (dangerous twice (step 0 2 1 Flow.forward ∷ step 1 0 1 Flow.back ∷ []) ≡ false)
+    × (dangerous twice (step 0 1 2 Flow.forward ∷ step 1 0 1 Flow.back ∷ []) ≡ false)
+unfolding dangerous
+W1-no-edge = (refl, refl, refl, refl)
+
+-- W1: no step, no walk
+W1-empty : dangerous twice [] ≡ false
+unfolding dangerous
+W1-empty = refl
+
+-- a program that ends with this statement, and one that the statement has an edge to, in front of a back edge to the first
+abbrev leaving : Line → List Line
+leaving last = rl 0 1 ∷ rl 1 1 ∷ pr 0 ∷ is 0 1 1 ∷ last ∷ pr 1 ∷ pu 0 0 1 1 1 ∷ ps 1 1 1 1 ∷ []
+
+-- W4: where c leaves later than e enters, the kinds ks, ps, pu and pd that e leaves make the pair dangerous;
+-- for the kinds is ks ps ku pu kd pd in turn
+W4-kinds : map
+    (λ last. dangerous (leaving last) (step 0 1 0 Flow.forward ∷ step 1 1 0 Flow.back ∷ []))
+    (is 1 0 1 ∷ ks 1 0 1 ∷ ps 1 0 1 1 ∷ ku 1 0 1 1 ∷ pu 1 0 1 1 1 ∷ kd 1 0 1 ∷ pd 1 0 1 1 ∷ [])
+    ≡ false ∷ true ∷ true ∷ false ∷ true ∷ false ∷ true ∷ []
+unfolding dangerous
+W4-kinds = refl

@@ -3,4 +3,6 @@ pub mod Unfolding
 pub mod Graph
 pub mod Edge
 pub mod Walk
+pub mod ExampleText
 pub mod Examples
+pub mod EdgeExamples

@@ -5,3 +5,5 @@ pub mod Edges
 pub mod Stages
 pub mod Schedules
 pub mod FromLines
+pub mod StatementSets
+pub mod Theorem

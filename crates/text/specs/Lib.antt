@@ -1,3 +1,5 @@
 pub mod Text
 pub mod Reading
 pub mod Value
+pub mod Quoted
+pub mod Examples

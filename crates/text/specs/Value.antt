@@ -1,6 +1,6 @@
 -- The workload value (document 01, "Refused because of the state", 21), and a text written out from lines. Believed.
-use mathlib.Core.Bool.{Bool, true, false, cond}
-use mathlib.Core.List.{List, [], _∷_, _++_, map}
+use mathlib.Core.Bool.{true, false, cond}
+use mathlib.Core.List.{List, [], _∷_, _++_}
 use mathlib.Core.Path.{_≡_}
 use Prim.Native.Nat.{ℕ, zero, suc, _+_, _-_, _/_, _%_, _≤_}
 use lib.Dec.{ltb}
@@ -9,7 +9,7 @@ use Rattle.text.specs.declared.Line.{Line}
 use Rattle.text.specs.declared.Workload.{Workload}
 use Rattle.text.specs.Text.{newline, space, dash, namesLine, wordOf, Form, formsOf, emptyLine}
 use Rattle.text.specs.Text.Form.{number, set, nothing}
-use Rattle.text.specs.Reading.{Outcome, read}
+use Rattle.text.specs.Reading.{read}
 use Rattle.text.specs.Reading.Outcome.{accepted}
 
 -- S21: the lines of a workload value

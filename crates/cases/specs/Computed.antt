@@ -1,0 +1,138 @@
+-- A case of the rules: a text with what it prints. A computed test of a case, and that the test gives the case.
+use mathlib.Core.Bool.{Bool, true, false, not, _&&_}
+use mathlib.Core.List.{List, [], _∷_, flatMap, List·Memᴰ}
+use mathlib.Core.Path.{_≡_, refl, sym, ap, subst, _∙_}
+use Prim.Native.Nat.{ℕ}
+use lib.Count.{onesIn, trailingZeros}
+use lib.Dec.{eqb}
+use borrow.Author.Tests.{eqb-true}
+use Rattle.base.specs.Basic.{all}
+use Rattle.base.specs.BoolLaws.{and-true, not-true, true-false}
+use Rattle.base.specs.ListLaws.{all-true}
+use Rattle.text.specs.declared.Line.{Line}
+use Rattle.text.specs.Reading.{Outcome, read}
+use Rattle.text.specs.Reading.Outcome.{refused, accepted}
+use Rattle.text.specs.Quoted.{readBytes}
+use Rattle.graph.specs.Program.{statementOf, behind, runOf, linksOf, programsOf}
+use Rattle.graph.specs.Unfolding.{inside, occurrences, pairs, unfoldings, nodesOfProgram, nodesFrom, nodesOf}
+use Rattle.graph.specs.Edge.{W, R, T, holds, sameRelation, leads, binds, guarded, shielded, forward, back, placesFrom, placesOf, letterOf}
+use Rattle.graph.specs.Edge.{shared, edgeOf, edgesBetween, edgesOf, placeAt, graphOf}
+use Rattle.walks.specs.Reach.{leavesFor, joins, joinedTo, grow, reachedFrom, opens, closesAt, dangerTest, danger-found, danger-none, regular}
+use Rattle.report.specs.State.{Counts, countsOf, statementsIn, tooMany, summaryGraph, Danger, Robust}
+
+-- what a case expects
+pub data Expected : Type 0 where
+  isRefused : ℕ → ℕ → Expected
+  isRobust isDanger : ℕ → ℕ → ℕ → ℕ → Expected
+
+pub record Case : Type 0 where
+  pub text : List ℕ
+  pub expected : Expected
+
+abbrev counted : ℕ → ℕ → ℕ → ℕ → Counts
+counted p n e b = record { programs = p; nodes = n; edges = e; back = b }
+
+-- the text is read, taken, and has these counts
+pub record Taken (text : List ℕ) (c : Counts) (lines : List Line) : Type 0 where
+  pub isRead : read text ≡ accepted lines
+  pub few : tooMany lines ≡ false
+  pub counts : countsOf lines ≡ c
+
+-- the case holds by document 01: the refusal, or the counts with a dangerous closed walk or with none of any length
+abbrev pub HoldsFor : List ℕ → Expected → Type 0
+HoldsFor text (isRefused number line) = read text ≡ refused number line
+HoldsFor text (isRobust p n e b) = (lines : List Line) × Taken text (counted p n e b) lines × Robust lines
+HoldsFor text (isDanger p n e b) = (lines : List Line) × Taken text (counted p n e b) lines × Danger lines
+
+abbrev pub Holds : Case → Type 0
+Holds c = HoldsFor (c .text) (c .expected)
+
+sameCounts : Counts → Counts → Bool
+sameCounts c d =
+    eqb (c .programs) (d .programs) && eqb (c .nodes) (d .nodes) && eqb (c .edges) (d .edges) && eqb (c .back) (d .back)
+
+same-counts : (c d : Counts) → sameCounts c d ≡ true → c ≡ d
+unfolding sameCounts
+same-counts c d h =
+    let three = and-true (eqb (c .programs) (d .programs) && eqb (c .nodes) (d .nodes) && eqb (c .edges) (d .edges)) (eqb (c .back) (d .back)) h in
+    let two = and-true (eqb (c .programs) (d .programs) && eqb (c .nodes) (d .nodes)) (eqb (c .edges) (d .edges)) (three .0) in
+    let one = and-true (eqb (c .programs) (d .programs)) (eqb (c .nodes) (d .nodes)) (two .0) in
+    let p = eqb-true (c .programs) (d .programs) (one .0) in
+    let n = eqb-true (c .nodes) (d .nodes) (one .1) in
+    let e = eqb-true (c .edges) (d .edges) (two .1) in
+    let b = eqb-true (c .back) (d .back) (three .1) in
+    λ i. record { programs = p i; nodes = n i; edges = e i; back = b i }
+
+-- the test of lines that are to be robust or dangerous: by the computed test of the graph
+agrees : Bool → Bool → Bool
+agrees true test = test
+agrees false test = not test
+
+passesLines : Bool → Counts → List Line → Bool
+passesLines danger c lines = not (tooMany lines) && sameCounts (countsOf lines) c && agrees danger (dangerTest (summaryGraph lines))
+
+passesOutcome : Bool → Counts → Outcome → Bool
+passesOutcome danger c (refused number line) = false
+passesOutcome danger c (accepted lines) = passesLines danger c lines
+
+refuses : ℕ → ℕ → Outcome → Bool
+refuses number line (refused k l) = eqb k number && eqb l line
+refuses number line (accepted lines) = false
+
+-- the test of a case
+passes : List ℕ → Expected → Bool
+passes text (isRefused number line) = refuses number line (read text)
+passes text (isRobust p n e b) = passesOutcome false (counted p n e b) (read text)
+passes text (isDanger p n e b) = passesOutcome true (counted p n e b) (read text)
+
+-- ---- a case that passes holds
+
+Passed : Bool → List ℕ → Counts → Type 0
+Passed danger text c = (lines : List Line) × Taken text c lines × (agrees danger (dangerTest (summaryGraph lines)) ≡ true)
+
+passed : (danger : Bool) (text : List ℕ) (c : Counts) (o : Outcome) → read text ≡ o → passesOutcome danger c o ≡ true → Passed danger text c
+unfolding Passed passesOutcome passesLines
+passed danger text c (refused k l) e h = absurd (true-false h refl)
+passed danger text c (accepted lines) e h =
+    let two = and-true (not (tooMany lines) && sameCounts (countsOf lines) c) (agrees danger (dangerTest (summaryGraph lines))) h in
+    let one = and-true (not (tooMany lines)) (sameCounts (countsOf lines) c) (two .0) in
+    (lines, record { isRead = e; few = not-true (tooMany lines) (one .0); counts = same-counts (countsOf lines) c (one .1) }, two .1)
+
+refuses-refused : (number line : ℕ) (o : Outcome) → refuses number line o ≡ true → o ≡ refused number line
+unfolding refuses
+refuses-refused number line (refused k l) h =
+    let both = and-true (eqb k number) (eqb l line) h in
+    ap (λ (k : ℕ). refused k l) (eqb-true k number (both .0)) ∙ ap (λ (l : ℕ). refused number l) (eqb-true l line (both .1))
+refuses-refused number line (accepted lines) h = absurd (true-false h refl)
+
+pub robust-of : (lines : List Line) → dangerTest (summaryGraph lines) ≡ false → Robust lines
+unfolding summaryGraph
+robust-of lines h = danger-none (graphOf (nodesOf lines)) (regular (nodesOf lines)) h
+
+pub danger-of : (lines : List Line) → dangerTest (summaryGraph lines) ≡ true → Danger lines
+danger-of lines h = let w = danger-found (summaryGraph lines) h in (w .0, w .1)
+
+passes-holds : (text : List ℕ) (e : Expected) → passes text e ≡ true → HoldsFor text e
+unfolding passes Passed agrees
+passes-holds text (isRefused number line) h = refuses-refused number line (read text) h
+passes-holds text (isRobust p n e b) h =
+    let r = passed false text (counted p n e b) (read text) refl h in
+    (r .0, r .1, robust-of (r .0) (not-true (dangerTest (summaryGraph (r .0))) (r .2)))
+passes-holds text (isDanger p n e b) h =
+    let r = passed true text (counted p n e b) (read text) refl h in
+    (r .0, r .1, danger-of (r .0) (r .2))
+
+-- ---- a table of cases: one computed test, and one statement over its rows
+
+-- the test with everything opened that it is defined by
+unfoldable pub allPass : List Case → Bool
+unfolding
+    passes agrees passesLines passesOutcome refuses sameCounts readBytes countsOf tooMany statementsIn summaryGraph
+    statementOf behind runOf linksOf programsOf inside occurrences pairs flatMap unfoldings nodesOfProgram nodesFrom nodesOf
+    W R T holds sameRelation leads binds guarded shielded forward back placesFrom placesOf letterOf shared edgeOf edgesBetween edgesOf placeAt
+    graphOf onesIn trailingZeros leavesFor joins joinedTo grow reachedFrom opens closesAt dangerTest
+allPass table = all (λ c. passes (c .text) (c .expected)) table
+
+pub table-holds : (table : List Case) → allPass table ≡ true → (c : Case) → List·Memᴰ c table → Holds c
+unfolding allPass
+table-holds table h c m = passes-holds (c .text) (c .expected) (all-true (λ c. passes (c .text) (c .expected)) h m)

@@ -1,0 +1,4 @@
+pub mod TextLaws
+pub mod ReadingLaws
+pub mod SizeLaws
+pub mod ValueLaws

@@ -1,0 +1,1 @@
+// Laws of accepted texts, for the proofs of other crates.

@@ -1,0 +1,77 @@
+-- The sets of the statements of an accepted text are those of T9.
+use mathlib.Core.Bool.{Bool, true, false, cond, _||_}
+use mathlib.Core.List.{List, List·Memᴰ}
+use mathlib.Core.Logic.{_≢_}
+use mathlib.Core.Option.{some}
+use mathlib.Core.Path.{_≡_, refl, sym, ap, subst, _∙_}
+use Prim.Native.Nat.{ℕ}
+use lib.Bits.{bitAnd, and-zero-l}
+use lib.ListN.{getElem?}
+use borrow.Author.Tests.{eq-eqb}
+use Rattle.base.specs.Basic.{within}
+use Rattle.base.specs.BoolLaws.{true-false}
+use Rattle.base.specs.ListLaws.{getElem?-member}
+use Rattle.text.specs.declared.Line.{Line}
+use Rattle.text.specs.declared.LineKind.the-variants.{St}
+use Rattle.text.specs.declared.StatementKind.{StatementKind}
+use Rattle.text.specs.declared.StatementKind.the-variants.{Is, Ks, Ps, Ku, Pu, Kd, Pd}
+use Rattle.text.specs.Reading.{read, relationSet}
+use Rattle.text.specs.Reading.Outcome.{accepted}
+use Rattle.reading.specs.ReadingLaws.{SetsLawful, statement-sets, insert-whole, key-delete-whole, predicate-delete-whole}
+use Rattle.graph.specs.Program.{Statement, Program, programsOf, statementOf}
+use Rattle.graph.specs.Unfolding.{Occurrence, occurrences}
+use Rattle.graph.specs.Edge.{R, W, hasReads, hasWrites, inserts, deletes}
+use Rattle.schedule.specs.Schedule.{Transaction, Schedule}
+use Rattle.soundness.specs.FromLines.{OnLines, execution-holds, program-holds}
+use Rattle.soundness.specs.Letters.{Sets}
+
+-- the empty set lies within every set
+within-empty : (x : ℕ) → within 0 x ≡ true
+within-empty x = eq-eqb (bitAnd 0 x) 0 (and-zero-l x)
+
+-- a set that counts only where the kind has it
+within-if : (b : Bool) (x whole : ℕ) → within x whole ≡ true → within (cond b x 0) whole ≡ true
+within-if true x whole h = h
+within-if false x whole h = within-empty whole
+
+-- an insert or delete of a line that passed its tests writes the whole relation
+whole-set : (k : StatementKind) {whole : ℕ} {l : Line} → SetsLawful whole k l → inserts k || deletes k ≡ true → l .writes ≡ whole
+whole-set Is s h = insert-whole s
+whole-set Kd s h = key-delete-whole s
+whole-set Pd s h = predicate-delete-whole s
+whole-set Ks s h = absurd (true-false h refl)
+whole-set Ps s h = absurd (true-false h refl)
+whole-set Ku s h = absurd (true-false h refl)
+whole-set Pu s h = absurd (true-false h refl)
+
+writing : (k : StatementKind) → inserts k || deletes k ≡ true → hasWrites k ≡ true
+writing Is h = refl
+writing Kd h = refl
+writing Pd h = refl
+writing Ks h = absurd (true-false h refl)
+writing Ps h = absurd (true-false h refl)
+writing Ku h = refl
+writing Pu h = refl
+
+-- the statement of a line that passed its tests
+sets-of-line : (set : ℕ → ℕ) (k : StatementKind) (l : Line) → SetsLawful (set (l .rel)) k l → Sets set (statementOf k l)
+unfolding statementOf R W
+sets-of-line set k l s =
+    record {
+      reads = within-if (hasReads k) (l .reads) (set (l .rel)) (s .reads-within);
+      writes = within-if (hasWrites k) (l .writes) (set (l .rel)) (s .writes-within);
+      whole = λ h. ap (λ (b : Bool). cond b (l .writes) 0) (writing k h) ∙ whole-set k s h;
+      filled = λ h. s .nonempty;
+    }
+
+-- every statement that a transaction of the workload performs
+pub schedule-sets : (text : List ℕ) (lines : List Line) → read text ≡ accepted lines → (s : Schedule lines)
+    → (x : Transaction) → List·Memᴰ x (s .transactions) → (j : ℕ) (o : Occurrence) → getElem? (occurrences (x .execution) 0) j ≡ some o
+    → Sets (relationSet lines) (o .statement)
+schedule-sets text lines h s x m j o e =
+    execution-holds (Sets (relationSet lines)) (x .execution)
+    (program-holds (Sets (relationSet lines)) lines onLines (x .program) (s .ofPrograms x m))
+    0 o (getElem?-member (occurrences (x .execution) 0) j e)
+  where
+    onLines : OnLines (Sets (relationSet lines)) lines
+    onLines k l inLines kind = sets-of-line (relationSet lines) k l (statement-sets text h inLines k kind)

@@ -1,0 +1,26 @@
+-- Demand 3. For every workload value that some accepted text gives: if its summary graph has no dangerous closed walk of any length, then every
+-- schedule of it has a serial order.
+use mathlib.Core.List.{List}
+use mathlib.Core.Logic.{_⊎_, inl, inr}
+use Rattle.text.specs.declared.Workload.{Workload}
+use Rattle.text.specs.Value.{Given, linesOf}
+use Rattle.text.specs.Reading.{relationSet}
+use Rattle.report.specs.State.{Danger, Robust, summaryGraph}
+use Rattle.schedule.specs.Schedule.{Schedule}
+use Rattle.schedule.specs.Serial.{Serialisable}
+use Rattle.soundness.specs.StatementSets.{schedule-sets}
+use Rattle.soundness.specs.Schedules.{serialisable-or-dangerous}
+
+-- the statement: nothing but document 01's definitions
+abbrev pub Demand3 : Type 0
+Demand3 = (w : Workload) → Given w → Robust (linesOf w) → (s : Schedule (linesOf w)) → Serialisable s
+
+pub demand-3 : Demand3
+unfolding summaryGraph
+demand-3 w given robust s =
+    go
+    (serialisable-or-dangerous s (relationSet (linesOf w)) (schedule-sets (given .text) (linesOf w) (given .isRead) s))
+  where
+    go : Serialisable s ⊎ Danger (linesOf w) → Serialisable s
+    go (inl order) = order
+    go (inr walk) = absurd (robust walk)

@@ -1,0 +1,52 @@
+-- Quoted texts, for closed cases: who unfolds one of these unfolds all that reading and writing are defined by.
+use mathlib.Core.Bool.{Bool, true, false}
+use mathlib.Core.List.{List, [], _∷_, _++_, headD}
+use Prim.Native.Nat.{ℕ}
+use Prim.Native.Char.{code}
+use Prim.Native.String.{String}
+use Rattle.text.specs.declared.Line.{Line}
+use Rattle.text.specs.Text.{newline, same, onFirst, linesIn, fieldsIn, namesLine, digitsForm, digitValue, valueBehind, numberOf}
+use Rattle.text.specs.Text.{setOf, dashOf, wordOf, kinds, kindOf, formsOf, fieldOf, valuesOf, lineWith, lineOf, emptyLine}
+use Rattle.text.specs.Reading.{sort, isRelation, isKey, isProgram, isStatementOrFlow, isLink, isStatementOf, isStatement}
+use Rattle.text.specs.Reading.{program, relation, key, statement, sameBlock, toSecondArm, blocksAfter, blocksBehind, openBlocks}
+use Rattle.text.specs.Reading.{beforeStatement, blocksAround, relationSet, bounded, withinBounds, inBody, noneOpen, innermost}
+use Rattle.text.specs.Reading.{ordered, named, kindSets, setsFit, canBeParent, allAround, linkFits, testsOf, firstFailed, fault}
+use Rattle.text.specs.Reading.{Outcome, readLines, isAllowed, otherByte, endsLine, read}
+use Rattle.text.specs.Reading.Outcome.{refused, accepted}
+use Rattle.text.specs.Value.{written, digit, digitsOf, fieldWritten, fieldsWritten, lineWritten, linesWritten}
+
+-- the bytes of a quoted text
+unfoldable pub bytes : String → List ℕ
+bytes String.[] = []
+bytes (String._∷_ c s) = code c ∷ bytes s
+
+-- the text of these lines, each with the byte 0A that ends it
+unfoldable pub text : List String → List ℕ
+unfolding bytes
+text [] = []
+text (line ∷ lines) = bytes line ++ (newline ∷ text lines)
+
+-- what is read of bytes
+unfoldable pub readBytes : List ℕ → Outcome
+unfolding
+    namesLine lineOf fieldsIn onFirst kindOf kinds same wordOf valuesOf formsOf fieldOf numberOf setOf dashOf digitsForm digitValue
+    valueBehind lineWith emptyLine linesIn sort isRelation isKey isProgram isStatementOrFlow isLink isStatementOf isStatement program
+    relation key statement sameBlock toSecondArm blocksAfter blocksBehind openBlocks beforeStatement blocksAround relationSet bounded withinBounds
+    inBody noneOpen innermost ordered named kindSets setsFit canBeParent allAround linkFits testsOf firstFailed fault readLines isAllowed
+    otherByte endsLine read headD
+readBytes b = read b
+
+-- what is read of the text of these lines behind the names line
+unfoldable pub given : List String → Outcome
+unfolding text readBytes
+given lines = readBytes (text ("kind id rel to reads writes tests" ∷ lines))
+
+-- the text of these lines behind the names line is accepted
+unfoldable pub accepts : List String → Bool
+unfolding given
+accepts lines = elim (given lines) [ refused number line ↦ false | accepted taken ↦ true ]
+
+-- what is read of lines written out
+unfoldable pub rereads : List Line → Outcome
+unfolding written digit digitsOf fieldWritten fieldsWritten lineWritten linesWritten readBytes
+rereads lines = readBytes (written lines)
