@@ -13,8 +13,9 @@ use Rattle.base.specs.BoolLaws.{true-false}
 use Rattle.base.specs.ListLaws.{getElem?-same}
 use Rattle.schedule.specs.Event.{Event, isRead, isWrite, isPredicateRead, pastAt, committed}
 use Rattle.dependency.specs.Dependency.{sees}
+use Rattle.dependency.specs.Positions.{writesTo-of, writesTo-parts}
 use Rattle.committing.specs.Rules.{Lawful, CommitsAt, SameTuple, write-not-read}
-use Rattle.committing.specs.Rules.{write-not-predicate, read-not-predicate, writes-to, to-writes}
+use Rattle.committing.specs.Rules.{write-not-predicate, read-not-predicate}
 use Rattle.committing.specs.Rules.{committed-before, before-committed, write-before, commit-apart, no-dirty}
 use Rattle.committing.specs.Seen.{Covered, OwnWrite, unseen, sees-not, sees-covered}
 use Rattle.committing.specs.Letters.{Dependency}
@@ -30,7 +31,7 @@ module _ {start : ℕ → ℕ → Bool} {events : List Event} (lawful : Lawful s
       v = cover .event
 
       wrote : (isWrite (v .action) ≡ true) × (v .relation ≡ b .relation) × (v .tuple ≡ b .tuple)
-      wrote = to-writes (b .relation) (b .tuple) v (cover .writes)
+      wrote = writesTo-parts (b .relation) (b .tuple) v (cover .writes)
 
       behind : b .transaction ≢ v .transaction → m ≢ cover .position
       behind d q =
@@ -50,13 +51,13 @@ module _ {start : ℕ → ℕ → Bool} {events : List Event} (lawful : Lawful s
       → b .transaction ≢ a .transaction → sees events m b a ≡ false
       → CommitsAt events (b .transaction) ci → CommitsAt events (a .transaction) cj → (ci < n) ⊎ (m ≤ cj)
   unseen-left m n b a {ci} {cj} h ata wa apart s commit-b commit-a =
-      go (unseen events m (b .transaction) (a .relation) (a .tuple) n h ata (writes-to (a .relation) (a .tuple) a wa refl refl)
+      go (unseen events m (b .transaction) (a .relation) (a .tuple) n h ata (writesTo-of (a .relation) (a .tuple) a wa refl refl)
       (sees-not events m b a s))
     where
       go : OwnWrite events n (b .transaction) (a .relation) (a .tuple) ⊎ (committed (pastAt events m) (a .transaction) ≡ false)
           → (ci < n) ⊎ (m ≤ cj)
       go (inl own) =
-          let wrote = to-writes (a .relation) (a .tuple) (own .event) (own .writes) in
+          let wrote = writesTo-parts (a .relation) (a .tuple) (own .event) (own .writes) in
           inl (no-dirty lawful (own .before) (own .stands) ata (wrote .0) wa (record { relation = wrote .1; tuple = wrote .2 })
           (λ q. apart (sym (own .own) ∙ q)) (subst (λ (i : ℕ). CommitsAt events i ci) (sym (own .own)) commit-b))
       go (inr running) = inr (later (decLt cj m))

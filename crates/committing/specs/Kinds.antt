@@ -12,9 +12,10 @@ use Rattle.base.specs.BoolLaws.{true-false, false-of, or-right}
 use Rattle.base.specs.ListLaws.{getElem?-same, first-some, first-none}
 use Rattle.schedule.specs.Event.{Event, isRead, isWrite, isInsert, isDelete, pastAt, seen, existence, visible}
 use Rattle.dependency.specs.Dependency.{sees}
+use Rattle.dependency.specs.Positions.{writesTo-parts}
 use Rattle.committing.specs.Past.{falling-first, falling-member}
 use Rattle.committing.specs.Rules.{Lawful, SameTuple, write-not-read, write-not-predicate}
-use Rattle.committing.specs.Rules.{read-not-predicate, insert-not-delete, insert-is-write, to-writes}
+use Rattle.committing.specs.Rules.{read-not-predicate, insert-not-delete, insert-is-write}
 use Rattle.committing.specs.Rules.{insert-first, insert-unborn, delete-last, read-visible}
 use Rattle.committing.specs.Seen.{falling-seen, seen-writes, sees-not, sees-found}
 use Rattle.committing.specs.Letters.{Dependency}
@@ -54,8 +55,8 @@ module _ {start : ℕ → ℕ → Bool} {events : List Event} (lawful : Lawful s
           insert-not-delete (b .action)
           (ap (λ (x : Event). isInsert (x .action)) (getElem?-same events j atb (ap (getElem? events) q ∙ atw)) ∙ i) d
       order w k j atw atb h mw i d (no q) =
-          let ww = to-writes (b .relation) (b .tuple) w (seen-writes events n (a .transaction) (b .relation) (b .tuple) mw) in
-          let wb = to-writes (b .relation) (b .tuple) b (seen-writes events n (a .transaction) (b .relation) (b .tuple) m) in
+          let ww = writesTo-parts (b .relation) (b .tuple) w (seen-writes events n (a .transaction) (b .relation) (b .tuple) mw) in
+          let wb = writesTo-parts (b .relation) (b .tuple) b (seen-writes events n (a .transaction) (b .relation) (b .tuple) m) in
           insert-first lawful (omega arith) atb atw (wb .0) (record { relation = sym (ww .1); tuple = sym (ww .2) }) i
 
       go : isDelete (b .action) ≡ true
@@ -88,10 +89,10 @@ module _ {start : ℕ → ℕ → Bool} {events : List Event} (lawful : Lawful s
       order : (w : Event) (k : ℕ) → getElem? events k ≡ some w → List·Memᴰ w version → isInsert (w .action) ≡ true → isInsert (a .action) ≡ true
           → Dec (k < n) → Dec (n < k) → ⊥
       order w k atw mw iw ia (yes l) g =
-          let ww = to-writes (a .relation) (a .tuple) w (seen-writes events m (b .transaction) (a .relation) (a .tuple) mw) in
+          let ww = writesTo-parts (a .relation) (a .tuple) w (seen-writes events m (b .transaction) (a .relation) (a .tuple) mw) in
           insert-first lawful l atw ata (ww .0) (record { relation = ww .1; tuple = ww .2 }) ia
       order w k atw mw iw ia (no l) (yes g) =
-          let ww = to-writes (a .relation) (a .tuple) w (seen-writes events m (b .transaction) (a .relation) (a .tuple) mw) in
+          let ww = writesTo-parts (a .relation) (a .tuple) w (seen-writes events m (b .transaction) (a .relation) (a .tuple) mw) in
           insert-first lawful g ata atw (insert-is-write (a .action) ia) (record { relation = sym (ww .1); tuple = sym (ww .2) }) iw
       order w k atw mw iw ia (no l) (no g) =
           let here : n ≡ k = omega arith in

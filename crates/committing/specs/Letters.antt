@@ -10,6 +10,8 @@ use Rattle.base.specs.Basic.{meets}
 use Rattle.base.specs.BoolLaws.{and-true, or-true, not-true}
 use Rattle.schedule.specs.Event.{Event, isRead, isWrite, isInsert, isDelete, isPredicateRead}
 use Rattle.dependency.specs.Dependency.{sameTuple, touches, sees, writeWrite, writeRead, writePredicate, readWrite, predicateWrite, depends}
+use Rattle.dependency.specs.DependencyLaws.{Letter, depends-letter}
+use Rattle.dependency.specs.DependencyLaws.Letter.{isWriteWrite, isWriteRead, isWritePredicate, isReadWrite, isPredicateWrite}
 use Rattle.committing.specs.Rules.{SameTuple}
 
 -- the write w changes what the predicate read p of its relation takes
@@ -114,42 +116,11 @@ module _ (events : List Event) (m : ℕ) (b : Event) (n : ℕ) (a : Event) where
 
   -- each dependency has a letter
   pub dependency-cases : depends events m b n a ≡ true → Dependency events m b n a
-  unfolding depends
-  dependency-cases h = five (or-true (A || B || C || D) E (both .1))
+  dependency-cases h = go (depends-letter events m n b a h)
     where
-      A : Bool
-      A = writeWrite events m b n a
-
-      B : Bool
-      B = writeRead events m b n a
-
-      C : Bool
-      C = writePredicate events m b n a
-
-      D : Bool
-      D = readWrite events m b n a
-
-      E : Bool
-      E = predicateWrite events m b n a
-
-      both : (not (eqb (b .transaction) (a .transaction)) ≡ true) × (A || B || C || D || E ≡ true)
-      both = and-true (not (eqb (b .transaction) (a .transaction))) (A || B || C || D || E) h
-
-      apart : b .transaction ≢ a .transaction
-      apart = eqb-false (b .transaction) (a .transaction) (not-true (eqb (b .transaction) (a .transaction)) (both .0))
-
-      two : (A ≡ true) ⊎ (B ≡ true) → Dependency events m b n a
-      two (inl x) = letter-A apart x
-      two (inr x) = letter-B apart x
-
-      three : (A || B ≡ true) ⊎ (C ≡ true) → Dependency events m b n a
-      three (inl x) = two (or-true A B x)
-      three (inr x) = letter-C apart x
-
-      four : (A || B || C ≡ true) ⊎ (D ≡ true) → Dependency events m b n a
-      four (inl x) = three (or-true (A || B) C x)
-      four (inr x) = letter-D apart x
-
-      five : (A || B || C || D ≡ true) ⊎ (E ≡ true) → Dependency events m b n a
-      five (inl x) = four (or-true (A || B || C) D x)
-      five (inr x) = letter-E apart x
+      go : (b .transaction ≢ a .transaction) × Letter events m b n a → Dependency events m b n a
+      go (apart, isWriteWrite x) = letter-A apart x
+      go (apart, isWriteRead x) = letter-B apart x
+      go (apart, isWritePredicate x) = letter-C apart x
+      go (apart, isReadWrite x) = letter-D apart x
+      go (apart, isPredicateWrite x) = letter-E apart x

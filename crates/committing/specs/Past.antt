@@ -15,20 +15,11 @@ use Rattle.base.specs.Basic.{keep, first, from}
 use Rattle.base.specs.BoolLaws.{true-false}
 use Rattle.base.specs.ListLaws.{some-injective, getElem?-member, getElem?-same, getElem?-take, keep-yes, member-keep, from-member}
 use Rattle.schedule.specs.Event.{Event, pastAt}
+use Rattle.dependency.specs.Positions.{position-past}
 
 -- ---- lists turned round
 
 module _ {A : Type 0} where
-  -- an element behind stays
-  member-reverse-right : (l : List A) {r : List A} {x : A} → List·Memᴰ x r → List·Memᴰ x (reverseAux l r)
-  member-reverse-right [] m = m
-  member-reverse-right (y ∷ l) m = member-reverse-right l (List·Memᴰ·tail m)
-
-  -- an element of the list that is turned round stays
-  member-reverse-left : {l : List A} {x : A} → List·Memᴰ x l → (r : List A) → List·Memᴰ x (reverseAux l r)
-  member-reverse-left (List·Memᴰ·head {xs = l} e) r = member-reverse-right l (List·Memᴰ·head e)
-  member-reverse-left (List·Memᴰ·tail {x = y} m) r = member-reverse-left m (y ∷ r)
-
   -- taking one element more puts it in front
   reverse-take : (l : List A) (n : ℕ) (r : List A) {x : A} → getElem? l n ≡ some x
       → reverseAux (take (suc n) l) r ≡ x ∷ reverseAux (take n l) r
@@ -71,11 +62,6 @@ past-next events n h = reverse-take events n [] h
 pub past-end : (events : List Event) (n : ℕ) → getElem? events n ≡ none → pastAt events (suc n) ≡ pastAt events n
 unfolding pastAt
 past-end events n h = ap {B = List Event} reverse (take-end events n h)
-
--- what stands at an earlier position is in the past
-pub member-past : (events : List Event) (n k : ℕ) {e : Event} → k < n → getElem? events k ≡ some e → List·Memᴰ e (pastAt events n)
-unfolding pastAt
-member-past events n k h at = member-reverse-left (getElem?-member (take n events) k (getElem?-take n events k h ∙ at)) []
 
 -- ---- lists that run back in time
 
@@ -128,10 +114,6 @@ module _ (events : List Event) where
           → (k : ℕ) × (k < n) × (getElem? events k ≡ some x)
       go rest (inl q) = (f .0, f .1, f .2 ∙ ap {B = Option Event} some (sym q))
       go rest (inr r) = let t = rest r in (t .0, omega arith, t .2)
-
-  -- what is in the past stands at an earlier position
-  pub past-member : (n : ℕ) {x : Event} → List·Memᴰ x (pastAt events n) → (k : ℕ) × (k < n) × (getElem? events k ≡ some x)
-  past-member n m = falling-member (pastAt events n) n (falling-past n) m
 
   -- the first that passes is the latest that passes
   pub falling-first : (p : Event → Bool) (l : List Event) (n : ℕ) → Falling events n l → {x : Event} → first p l ≡ some x
@@ -193,7 +175,7 @@ module _ (events : List Event) where
         where
           behind : Dec (k ≡ n) → List·Memᴰ w (v ∷ keep q (pastAt events n))
           behind (yes d) = List·Memᴰ·head (getElem?-same events k atw (ap (getElem? events) (d ∙ sym e) ∙ atv))
-          behind (no d) = List·Memᴰ·tail (member-keep q (member-past events n k (omega arith) atw) qw)
+          behind (no d) = List·Memᴰ·tail (member-keep q (position-past events n k (omega arith) atw) qw)
 
       go : (j < n → Goal (pastAt events n)) → Dec (j ≡ n) → (o : Option Event) → getElem? events n ≡ o → Goal (pastAt events (suc n))
       go rest (yes e) o at = latest e

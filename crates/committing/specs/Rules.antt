@@ -20,7 +20,8 @@ use Rattle.schedule.specs.Event.{writesTo, pastAt, writesOf, committed, seen, v
 use Rattle.schedule.specs.Event.{insertsFirst, deletesLast, meetsVisible, waits, sameStatement, together, obeys, allObey}
 use Rattle.schedule.specs.Event.Action.{read, write, insert, delete, predicateRead, commit}
 use Rattle.dependency.specs.Dependency.{Numbered}
-use Rattle.committing.specs.Past.{past-next, member-past, past-member}
+use Rattle.dependency.specs.Positions.{writesTo-of, past-position, position-past}
+use Rattle.committing.specs.Past.{past-next}
 
 -- a list of events that obeys the rules of Read Committed, its events numbered in each transaction
 pub record Lawful (start : ℕ → ℕ → Bool) (events : List Event) : Type 0 where
@@ -139,26 +140,13 @@ insert-is-write commit h = h
 
 -- ---- writes of a tuple
 
--- a write over a tuple writes it
-pub writes-to : (r t : ℕ) (e : Event) → isWrite (e .action) ≡ true → e .relation ≡ r → e .tuple ≡ t → writesTo r t e ≡ true
-unfolding writesTo
-writes-to r t e w p q = and-of (and-of w (eq-eqb (e .relation) r p)) (eq-eqb (e .tuple) t q)
-
--- what writes a tuple is a write over it
-pub to-writes : (r t : ℕ) (e : Event) → writesTo r t e ≡ true → (isWrite (e .action) ≡ true) × (e .relation ≡ r) × (e .tuple ≡ t)
-unfolding writesTo
-to-writes r t e h =
-    let all = and-true (isWrite (e .action) && eqb (e .relation) r) (eqb (e .tuple) t) h in
-    let two = and-true (isWrite (e .action)) (eqb (e .relation) r) (all .0) in
-    (two .0, eqb-true (e .relation) r (two .1), eqb-true (e .tuple) t (all .1))
-
 -- a write of e's tuple at an earlier position is among its writes
 pub earlier-write : (events : List Event) (m n : ℕ) (w e : Event) → m < n → getElem? events m ≡ some w
     → isWrite (w .action) ≡ true → SameTuple w e → List·Memᴰ w (writesOf (e .relation) (e .tuple) (pastAt events n))
 unfolding writesOf
 earlier-write events m n w e h at k s =
-    member-keep (writesTo (e .relation) (e .tuple)) (member-past events n m h at)
-    (writes-to (e .relation) (e .tuple) w k (s .relation) (s .tuple))
+    member-keep (writesTo (e .relation) (e .tuple)) (position-past events n m h at)
+    (writesTo-of (e .relation) (e .tuple) w k (s .relation) (s .tuple))
 
 -- ---- commits
 
@@ -169,7 +157,7 @@ module _ {events : List Event} {i c : ℕ} (commit-i : CommitsAt events i c) whe
   committed-before n h =
       let found = any-true (λ e. isCommit (e .action) && by i e) (pastAt events n) h in
       let e = found .0 in
-      let place = past-member events n (found .1) in
+      let place = past-position events n (found .1) in
       let both = and-true (isCommit (e .action)) (by i e) (found .2) in
       let same : place .0 ≡ c = commit-i .only (place .0) e (place .2) (eqb-true (e .transaction) i (both .1)) (both .0) in
       let earlier : place .0 < n = place .1 in
@@ -179,7 +167,7 @@ module _ {events : List Event} {i c : ℕ} (commit-i : CommitsAt events i c) whe
   pub before-committed : (n : ℕ) → c < n → committed (pastAt events n) i ≡ true
   unfolding committed
   before-committed n h =
-      any-of (λ e. isCommit (e .action) && by i e) (member-past events n c h (commit-i .stands))
+      any-of (λ e. isCommit (e .action) && by i e) (position-past events n c h (commit-i .stands))
       (and-of (commit-i .commits) (eq-eqb (commit-i .event .transaction) i (commit-i .own)))
 
   -- a write of the transaction stands before its commit
@@ -212,8 +200,8 @@ module _ {start : ℕ → ℕ → Bool} {events : List Event} (lawful : Lawful s
       let writes = any (writesTo (e .relation) (e .tuple)) (pastAt events n) in
       let rule = applies (isInsert (e .action)) (not writes && not (start (e .relation) (e .tuple))) (rules-at lawful n e ate .0) i in
       true-false
-      (any-of (writesTo (e .relation) (e .tuple)) (member-past events n m h atw)
-      (writes-to (e .relation) (e .tuple) w ww (s .relation) (s .tuple)))
+      (any-of (writesTo (e .relation) (e .tuple)) (position-past events n m h atw)
+      (writesTo-of (e .relation) (e .tuple) w ww (s .relation) (s .tuple)))
       (not-true writes (and-true (not writes) (not (start (e .relation) (e .tuple))) rule .0))
 
   -- H5: and its tuple started unborn
@@ -293,7 +281,7 @@ module _ {start : ℕ → ℕ → Bool} {events : List Event} (lawful : Lawful s
 
       found : earlier ≡ true
       found =
-          any-of (sameStatement e) (member-past events n m h atd)
+          any-of (sameStatement e) (position-past events n m h atd)
           (and-of (eq-eqb (d .transaction) (e .transaction) p) (eq-eqb (d .place) (e .place) q))
 
       go : (sameStatement g e ≡ true) ⊎ (not earlier ≡ true) → (e .transaction ≡ g .transaction) × (e .place ≡ g .place)
@@ -334,37 +322,3 @@ module _ {start : ℕ → ℕ → Bool} {events : List Event} (lawful : Lawful s
       go : Dec (c < n) → c < n
       go (yes k) = k
       go (no k) = absurd (within (λ f. commit-apart commits n e ate (λ r. apart (p ∙ r)) (sym f)) (omega arith))
-
--- ---- numbers tell positions apart
-
--- an element more that passes is one more
-rising : {A : Type 0} (p : A → Bool) (l : List A) (m n : ℕ) {x : A} → m < n → getElem? l m ≡ some x → p x ≡ true
-    → length (keep p (take m l)) < length (keep p (take n l))
-rising p [] m n {x} h at k = absurd (Option·none-ne-some x at)
-rising p (y ∷ l) m zero h at k = absurd (not-suc-le-zero h)
-rising {A} p (y ∷ l) zero (suc n) h at k =
-    subst (λ (s : List A). 0 < length s) (sym (keep-yes p y (take n l) (ap p (some-injective at) ∙ k))) (omega arith)
-rising p (y ∷ l) (suc m) (suc n) h at k = go (rising p l m n (le-of-suc-le-suc h) at k) (p y)
-  where
-    go : length (keep p (take m l)) < length (keep p (take n l)) → (b : Bool)
-        → length (cond b (y ∷ keep p (take m l)) (keep p (take m l))) < length (cond b (y ∷ keep p (take n l)) (keep p (take n l)))
-    go r true = omega arith
-    go r false = r
-
--- two events of one transaction with one number stand at one position
-pub one-position : {events : List Event} → Numbered events → (m n : ℕ) {d e : Event} → getElem? events m ≡ some d → getElem? events n ≡ some e
-    → d .transaction ≡ e .transaction → d .number ≡ e .number → m ≡ n
-one-position {events} numbered m n {d} {e} atd ate p q = go (decLt m n) (decLt n m)
-  where
-    here : d .number ≡ length (keep (by (e .transaction)) (take m events))
-    here = numbered m d atd ∙ ap (λ (i : ℕ). length (keep (by i) (take m events))) p
-
-    there : e .number ≡ length (keep (by (e .transaction)) (take n events))
-    there = numbered n e ate
-
-    go : Dec (m < n) → Dec (n < m) → m ≡ n
-    go (yes h) g =
-        absurd (omega (arith, here, there, rising (by (e .transaction)) events m n h atd (eq-eqb (d .transaction) (e .transaction) p)))
-    go (no h) (yes g) =
-        absurd (omega (arith, here, there, rising (by (e .transaction)) events n m g ate (eq-eqb (e .transaction) (e .transaction) refl)))
-    go (no h) (no g) = omega arith

@@ -15,9 +15,9 @@ use Rattle.base.specs.BoolLaws.{true-false, false-of, and-true, and-of}
 use Rattle.base.specs.ListLaws.{getElem?-same, any-true, any-false, keep-member, member-keep, from-member, member-from}
 use Rattle.schedule.specs.Event.{Event, by, writesTo, pastAt, writesOf, committed, seen}
 use Rattle.dependency.specs.Dependency.{Numbered, same, sees}
+use Rattle.dependency.specs.Positions.{one-position, position-past}
 use Rattle.committing.specs.Past.{Falling, falling-past, falling-keep, falling-from}
-use Rattle.committing.specs.Past.{falling-member, falling-up-to, past-up-to, member-past}
-use Rattle.committing.specs.Rules.{one-position}
+use Rattle.committing.specs.Past.{falling-member, falling-up-to, past-up-to}
 
 -- at or behind position k, before n, stands a write of tuple t of relation r that transaction i sees: its own or a committed one
 pub record Covered (events : List Event) (n i r t k : ℕ) : Type 0 where
@@ -135,7 +135,7 @@ module _ (events : List Event) (n i r t : ℕ) where
           let wrote = keep-member (writesTo r t) (pastAt events n) (own .1) .1 in
           inl (earlier g v wrote (own .2) (place .0) (place .1) (place .2) (decLt (place .0) k))
       go false e g =
-          inr (false-of (done w) (λ c. g (member-from done (member-keep (writesTo r t) (member-past events n k h atw) q) c)))
+          inr (false-of (done w) (λ c. g (member-from done (member-keep (writesTo r t) (position-past events n k h atw) q) c)))
 
 -- ---- the test of a dependency
 
@@ -161,7 +161,7 @@ sees-found {events} numbered m n e w atw h =
     let place = falling-member events version n (falling-seen events n (e .transaction) (w .relation) (w .tuple)) (found .1) in
     let both = and-true (eqb (w .transaction) (x .transaction)) (eqb (w .number) (x .number)) (found .2) in
     let here : m ≡ place .0 =
-    one-position numbered m (place .0) atw (place .2) (eqb-true (w .transaction) (x .transaction) (both .0))
+    one-position events numbered m (place .0) atw (place .2) (eqb-true (w .transaction) (x .transaction) (both .0))
     (eqb-true (w .number) (x .number) (both .1)) in
     Memᴰ·cast (getElem?-same events m atw (ap (getElem? events) here ∙ place .2)) (found .1)
 
@@ -170,4 +170,4 @@ pub sees-covered : {events : List Event} → Numbered events → (m n : ℕ) (e 
     → Covered events n (e .transaction) (w .relation) (w .tuple) m
 sees-covered {events} numbered m n e w atw h =
     let u = seen-covered events n (e .transaction) (w .relation) (w .tuple) (sees-found numbered m n e w atw h) in
-    subst (Covered events n (e .transaction) (w .relation) (w .tuple)) (one-position numbered (u .0) m (u .1) atw refl refl) (u .2)
+    subst (Covered events n (e .transaction) (w .relation) (w .tuple)) (one-position events numbered (u .0) m (u .1) atw refl refl) (u .2)

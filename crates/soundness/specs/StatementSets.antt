@@ -23,7 +23,7 @@ use Rattle.graph.specs.Unfolding.{Occurrence, occurrences}
 use Rattle.graph.specs.Edge.{R, W, hasReads, hasWrites, inserts, deletes}
 use Rattle.schedule.specs.Schedule.{Transaction, Schedule}
 use Rattle.soundness.specs.FromLines.{OnLines, execution-holds, program-holds}
-use Rattle.soundness.specs.Letters.{Sets}
+use Rattle.soundness.specs.Letters.{Sets, kind-implies}
 
 -- the empty set lies within every set
 within-empty : (x : ℕ) → within 0 x ≡ true
@@ -44,14 +44,9 @@ whole-set Ps s h = absurd (true-false h refl)
 whole-set Ku s h = absurd (true-false h refl)
 whole-set Pu s h = absurd (true-false h refl)
 
+-- inserts and deletes write
 writing : (k : StatementKind) → inserts k || deletes k ≡ true → hasWrites k ≡ true
-writing Is h = refl
-writing Kd h = refl
-writing Pd h = refl
-writing Ks h = absurd (true-false h refl)
-writing Ps h = absurd (true-false h refl)
-writing Ku h = refl
-writing Pu h = refl
+writing = kind-implies (λ k. inserts k || deletes k) hasWrites refl
 
 -- the statement of a line that passed its tests
 sets-of-line : (set : ℕ → ℕ) (k : StatementKind) (l : Line) → SetsLawful (set (l .rel)) k l → Sets set (statementOf k l)

@@ -13,6 +13,7 @@ use lib.ListN.{length, getElem?, take, length-append}
 use borrow.Author.Tests.{ltb-true, eqb-true, eq-eqb}
 use Rattle.base.specs.Basic.{keep}
 use Rattle.base.specs.BoolLaws.{decide, true-false}
+use Rattle.base.specs.FlatLaws.{keep-position, position-keep}
 use Rattle.base.specs.ListLaws.{all-true, getElem?-lt, getElem?-member, getElem?-found, getElem?-same, some-injective, keep-yes, keep-no}
 use Rattle.text.specs.declared.Line.{Line}
 use Rattle.schedule.specs.Event.{Action, Event, by, isInsert, isDelete, isCommit, allObey}
@@ -22,38 +23,6 @@ use Rattle.dependency.specs.Dependency.{Numbered, Filled, Known}
 use Rattle.dependency.specs.Positions.{number-grows, one-position}
 use Rattle.committing.specs.Rules.{CommitsAt, Lawful}
 use Rattle.transactions.specs.Operations.{Does, does-test, does-read, does-write, does-insert, does-delete, Belongs, InStatement, operation-cases, commit-at}
-
-module _ {A : Type 0} where
-  -- an element that passes stands, among those that pass, behind as many as pass before it
-  pub keep-position : (p : A → Bool) (l : List A) (n : ℕ) {x : A} → getElem? l n ≡ some x → p x ≡ true
-      → getElem? (keep p l) (length (keep p (take n l))) ≡ some x
-  keep-position p [] n e h = e
-  keep-position p (y ∷ l) zero {x} e h = rw (keep-yes p y l (ap p (some-injective e) ∙ h)) e
-  keep-position p (y ∷ l) (suc n) {x} e h = go (p y) refl (keep-position p l n e h)
-    where
-      go : (b : Bool) → p y ≡ b → getElem? (keep p l) (length (keep p (take n l))) ≡ some x
-          → getElem? (keep p (y ∷ l)) (length (keep p (y ∷ take n l))) ≡ some x
-      go true b r = rw (keep-yes p y l b, keep-yes p y (take n l) b) r
-      go false b r = rw (keep-no p y l b, keep-no p y (take n l) b) r
-
-  -- and what stands among those that pass stands in the list, behind as many that pass
-  pub position-keep : (p : A → Bool) (l : List A) (k : ℕ) {x : A} → getElem? (keep p l) k ≡ some x
-      → (n : ℕ) × (getElem? l n ≡ some x) × (length (keep p (take n l)) ≡ k)
-  position-keep p [] k e = let z : _≡_ {A = ℕ} 0 1 = cc in absurd (omega arith)
-  position-keep p (y ∷ l) k {x} e = go (p y) refl k e (λ k. position-keep p l k)
-    where
-      Found : ℕ → Type 0
-      Found k = (n : ℕ) × (getElem? (y ∷ l) n ≡ some x) × (length (keep p (take n (y ∷ l))) ≡ k)
-
-      go : (b : Bool) → p y ≡ b → (k : ℕ) → getElem? (keep p (y ∷ l)) k ≡ some x
-          → ((k : ℕ) → getElem? (keep p l) k ≡ some x → (n : ℕ) × (getElem? l n ≡ some x) × (length (keep p (take n l)) ≡ k)) → Found k
-      go true b zero h rest = (0, rw (keep-yes p y l b) at h, refl)
-      go true b (suc k) h rest =
-          let r = rest k (rw (keep-yes p y l b) at h) in
-          (suc (r .0), r .1, ap length (keep-yes p y (take (r .0) l) b) ∙ ap suc (r .2))
-      go false b k h rest =
-          let r = rest k (rw (keep-no p y l b) at h) in
-          (suc (r .0), r .1, ap length (keep-no p y (take (r .0) l) b) ∙ r .2)
 
 -- the event that an operation of a transaction makes
 abbrev pub eventAt : ℕ → ℕ → Operation → Event
