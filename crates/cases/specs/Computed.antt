@@ -1,7 +1,7 @@
--- A case of the rules: a text with what it prints. A computed test of a case, and that the test gives the case.
+-- A case of the rules: a text with its report. A computed test of a case, and that the test gives the case.
 use mathlib.Core.Bool.{Bool, true, false, not, _&&_}
-use mathlib.Core.List.{List, [], _∷_, flatMap, List·Memᴰ}
-use mathlib.Core.Path.{_≡_, refl, sym, ap, subst, _∙_}
+use mathlib.Core.List.{List, flatMap, List·Memᴰ}
+use mathlib.Core.Path.{_≡_, refl, ap, subst, _∙_}
 use Prim.Native.Nat.{ℕ}
 use lib.Count.{onesIn, trailingZeros}
 use lib.Dec.{eqb}
@@ -17,8 +17,13 @@ use Rattle.graph.specs.Program.{statementOf, behind, runOf, linksOf, programsOf
 use Rattle.graph.specs.Unfolding.{inside, occurrences, pairs, unfoldings, nodesOfProgram, nodesFrom, nodesOf}
 use Rattle.graph.specs.Edge.{W, R, T, holds, sameRelation, leads, binds, guarded, shielded, forward, back, placesFrom, placesOf, letterOf}
 use Rattle.graph.specs.Edge.{shared, edgeOf, edgesBetween, edgesOf, placeAt, graphOf}
-use Rattle.walks.specs.Reach.{leavesFor, joins, joinedTo, grow, reachedFrom, opens, closesAt, dangerTest, danger-found, danger-none, regular}
-use Rattle.report.specs.State.{Counts, countsOf, statementsIn, tooMany, summaryGraph, Danger, Robust}
+use Rattle.walks.specs.Reach.{leavesFor, joins, joinedTo, grow, reachedFrom, opens, closesAt, dangerTest}
+use Rattle.graph.specs.Walk.{Step}
+use Rattle.report.specs.State.{Counts, countsOf, statementsIn, tooMany, summaryGraph}
+use Rattle.report.specs.Report.{Report, refusalReport, robustReport, dangerReport}
+use Rattle.report.specs.Report.Report.{refusal, robust, danger}
+use Rattle.reporting.specs.Reports.{robust-of, danger-of}
+use Rattle.reporting.specs.Shown.{shown-walk}
 
 -- what a case expects
 pub data Expected : Type 0 where
@@ -32,17 +37,11 @@ pub record Case : Type 0 where
 abbrev counted : ℕ → ℕ → ℕ → ℕ → Counts
 counted p n e b = record { programs = p; nodes = n; edges = e; back = b }
 
--- the text is read, taken, and has these counts
-pub record Taken (text : List ℕ) (c : Counts) (lines : List Line) : Type 0 where
-  pub isRead : read text ≡ accepted lines
-  pub few : tooMany lines ≡ false
-  pub counts : countsOf lines ≡ c
-
--- the case holds by document 01: the refusal, or the counts with a dangerous closed walk or with none of any length
+-- the case holds by document 01: these bytes are a report of the text, where for danger some lawful walk is shown
 abbrev pub HoldsFor : List ℕ → Expected → Type 0
-HoldsFor text (isRefused number line) = read text ≡ refused number line
-HoldsFor text (isRobust p n e b) = (lines : List Line) × Taken text (counted p n e b) lines × Robust lines
-HoldsFor text (isDanger p n e b) = (lines : List Line) × Taken text (counted p n e b) lines × Danger lines
+HoldsFor text (isRefused number line) = Report text (refusalReport number line)
+HoldsFor text (isRobust p n e b) = Report text (robustReport (counted p n e b))
+HoldsFor text (isDanger p n e b) = (walk : List Step) × Report text (dangerReport (counted p n e b) walk)
 
 abbrev pub Holds : Case → Type 0
 Holds c = HoldsFor (c .text) (c .expected)
@@ -69,11 +68,11 @@ agrees true test = test
 agrees false test = not test
 
 passesLines : Bool → Counts → List Line → Bool
-passesLines danger c lines = not (tooMany lines) && sameCounts (countsOf lines) c && agrees danger (dangerTest (summaryGraph lines))
+passesLines dangerous c lines = not (tooMany lines) && sameCounts (countsOf lines) c && agrees dangerous (dangerTest (summaryGraph lines))
 
 passesOutcome : Bool → Counts → Outcome → Bool
-passesOutcome danger c (refused number line) = false
-passesOutcome danger c (accepted lines) = passesLines danger c lines
+passesOutcome dangerous c (refused number line) = false
+passesOutcome dangerous c (accepted lines) = passesLines dangerous c lines
 
 refuses : ℕ → ℕ → Outcome → Bool
 refuses number line (refused k l) = eqb k number && eqb l line
@@ -87,16 +86,22 @@ passes text (isDanger p n e b) = passesOutcome true (counted p n e b) (read text
 
 -- ---- a case that passes holds
 
-Passed : Bool → List ℕ → Counts → Type 0
-Passed danger text c = (lines : List Line) × Taken text c lines × (agrees danger (dangerTest (summaryGraph lines)) ≡ true)
+-- the text is read, taken, and has these counts, and the computed test of its graph agrees
+record Taken (dangerous : Bool) (text : List ℕ) (c : Counts) : Type 0 where
+  lines : List Line
+  isRead : read text ≡ accepted lines
+  few : tooMany lines ≡ false
+  counts : countsOf lines ≡ c
+  test : agrees dangerous (dangerTest (summaryGraph lines)) ≡ true
 
-passed : (danger : Bool) (text : List ℕ) (c : Counts) (o : Outcome) → read text ≡ o → passesOutcome danger c o ≡ true → Passed danger text c
-unfolding Passed passesOutcome passesLines
-passed danger text c (refused k l) e h = absurd (true-false h refl)
-passed danger text c (accepted lines) e h =
-    let two = and-true (not (tooMany lines) && sameCounts (countsOf lines) c) (agrees danger (dangerTest (summaryGraph lines))) h in
+passed : (dangerous : Bool) (text : List ℕ) (c : Counts) (o : Outcome) → read text ≡ o → passesOutcome dangerous c o ≡ true → Taken dangerous text c
+unfolding passesOutcome passesLines
+passed dangerous text c (refused k l) e h = absurd (true-false h refl)
+passed dangerous text c (accepted lines) e h =
+    let two = and-true (not (tooMany lines) && sameCounts (countsOf lines) c) (agrees dangerous (dangerTest (summaryGraph lines))) h in
     let one = and-true (not (tooMany lines)) (sameCounts (countsOf lines) c) (two .0) in
-    (lines, record { isRead = e; few = not-true (tooMany lines) (one .0); counts = same-counts (countsOf lines) c (one .1) }, two .1)
+    record
+    { lines = lines; isRead = e; few = not-true (tooMany lines) (one .0); counts = same-counts (countsOf lines) c (one .1); test = two .1 }
 
 refuses-refused : (number line : ℕ) (o : Outcome) → refuses number line o ≡ true → o ≡ refused number line
 unfolding refuses
@@ -105,22 +110,19 @@ refuses-refused number line (refused k l) h =
     ap (λ (k : ℕ). refused k l) (eqb-true k number (both .0)) ∙ ap (λ (l : ℕ). refused number l) (eqb-true l line (both .1))
 refuses-refused number line (accepted lines) h = absurd (true-false h refl)
 
-pub robust-of : (lines : List Line) → dangerTest (summaryGraph lines) ≡ false → Robust lines
-unfolding summaryGraph
-robust-of lines h = danger-none (graphOf (nodesOf lines)) (regular (nodesOf lines)) h
-
-pub danger-of : (lines : List Line) → dangerTest (summaryGraph lines) ≡ true → Danger lines
-danger-of lines h = let w = danger-found (summaryGraph lines) h in (w .0, w .1)
-
 passes-holds : (text : List ℕ) (e : Expected) → passes text e ≡ true → HoldsFor text e
-unfolding passes Passed agrees
-passes-holds text (isRefused number line) h = refuses-refused number line (read text) h
+unfolding passes agrees
+passes-holds text (isRefused number line) h = refusal number line (refuses-refused number line (read text) h)
 passes-holds text (isRobust p n e b) h =
-    let r = passed false text (counted p n e b) (read text) refl h in
-    (r .0, r .1, robust-of (r .0) (not-true (dangerTest (summaryGraph (r .0))) (r .2)))
+    let t = passed false text (counted p n e b) (read text) refl h in
+    subst (λ (c : Counts). Report text (robustReport c)) (t .counts)
+    (robust (t .lines) (t .isRead) (t .few) (robust-of (t .lines) (not-true (dangerTest (summaryGraph (t .lines))) (t .test))))
 passes-holds text (isDanger p n e b) h =
-    let r = passed true text (counted p n e b) (read text) refl h in
-    (r .0, r .1, danger-of (r .0) (r .2))
+    let t = passed true text (counted p n e b) (read text) refl h in
+    let w = shown-walk (t .lines) (t .few) (danger-of (t .lines) (t .test)) in (
+      w .0,
+      subst (λ (c : Counts). Report text (dangerReport c (w .0))) (t .counts) (danger (t .lines) (t .isRead) (t .few) (w .0) (w .1) (w .2)),
+    )
 
 -- ---- a table of cases: one computed test, and one statement over its rows
 

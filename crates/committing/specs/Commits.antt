@@ -181,3 +181,27 @@ module _ {start : ℕ → ℕ → Bool} {events : List Event} (lawful : Lawful s
       go (no h) (no g) =
           let here : k ≡ l = omega arith in
           absurd (apart (ap (λ (x : Event). x .transaction) (getElem?-same events k atw (ap (getElem? events) here ∙ atv))))
+
+  -- the shield: a dependency is not back where both transactions write one tuple, the first of them before the event left
+  pub shield : (k l : ℕ) {m n : ℕ} {b a w v : Event} {ci cj : ℕ} → getElem? events m ≡ some b → getElem? events n ≡ some a
+      → Dependency events m b n a → b .transaction ≢ a .transaction → getElem? events k ≡ some w → getElem? events l ≡ some v
+      → isWrite (w .action) ≡ true → isWrite (v .action) ≡ true → SameTuple w v → w .transaction ≡ b .transaction → v .transaction ≡ a .transaction
+      → k < m → CommitsAt events (b .transaction) ci → CommitsAt events (a .transaction) cj → cj < ci → ⊥
+  shield k l {m} {n} {b} {a} {w} {v} {ci} {cj} atb ata dependency apart atw atv ww wv s ow ov near commit-b commit-a back =
+      go (writers-apart k l atw atv ww wv s (λ q. apart (sym ow ∙ q ∙ ov)) commit-w commit-v)
+    where
+      commit-w : CommitsAt events (w .transaction) ci
+      commit-w = subst (λ (i : ℕ). CommitsAt events i ci) (sym ow) commit-b
+
+      commit-v : CommitsAt events (v .transaction) cj
+      commit-v = subst (λ (i : ℕ). CommitsAt events i cj) (sym ov) commit-a
+
+      left : m < cj
+      left = read-left atb ata dependency commit-b commit-a back
+
+      inside : l < cj
+      inside = write-before commit-v l v atv refl wv
+
+      go : (ci < l) ⊎ (cj < k) → ⊥
+      go (inl h) = let x = left in let y = inside in omega arith
+      go (inr h) = let x = left in omega arith

@@ -1,13 +1,13 @@
 -- A dependency by its letter, with what the letter's test says.
 use mathlib.Core.Path.{_≡_}
-use mathlib.Core.Bool.{Bool, true, false, not, _&&_, _||_}
-use mathlib.Core.Logic.{_⊎_, inl, inr, _≢_}
+use mathlib.Core.Bool.{true, false, not, _&&_, _||_}
+use mathlib.Core.Logic.{_≢_}
 use mathlib.Core.List.{List}
 use Prim.Native.Nat.{ℕ, _<_}
-use borrow.Author.Tests.{eqb-true, eqb-false, ltb-true}
+use borrow.Author.Tests.{eqb-true, ltb-true}
 use lib.Dec.{eqb, ltb}
 use Rattle.base.specs.Basic.{meets}
-use Rattle.base.specs.BoolLaws.{and-true, or-true, not-true}
+use Rattle.base.specs.BoolLaws.{and-true, not-true}
 use Rattle.schedule.specs.Event.{Event, isRead, isWrite, isInsert, isDelete, isPredicateRead}
 use Rattle.dependency.specs.Dependency.{sameTuple, touches, sees, writeWrite, writeRead, writePredicate, readWrite, predicateWrite, depends}
 use Rattle.dependency.specs.DependencyLaws.{Letter, depends-letter}

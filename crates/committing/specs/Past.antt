@@ -13,7 +13,7 @@ use native.Mathlib.Decide.{ℕ-discrete}
 use lib.ListN.{getElem?, take}
 use Rattle.base.specs.Basic.{keep, first, from}
 use Rattle.base.specs.BoolLaws.{true-false}
-use Rattle.base.specs.ListLaws.{some-injective, getElem?-member, getElem?-same, getElem?-take, keep-yes, member-keep, from-member}
+use Rattle.base.specs.ListLaws.{some-injective, getElem?-same, keep-yes, member-keep, from-member}
 use Rattle.schedule.specs.Event.{Event, pastAt}
 use Rattle.dependency.specs.Positions.{position-past}
 

@@ -1,20 +1,20 @@
 -- What the rules on a list of events say of the events at its positions.
 use mathlib.Core.Path.{_≡_, refl, sym, ap, subst, _∙_}
-use mathlib.Core.Bool.{Bool, true, false, cond, not, _&&_, _||_, false≢true}
+use mathlib.Core.Bool.{Bool, true, false, not, _&&_, _||_, false≢true}
 use mathlib.Core.Logic.{_⊎_, inl, inr, _≢_}
 use mathlib.Core.List.{List, [], _∷_, reverseAux, List·Memᴰ}
 use mathlib.Core.Option.{some, Option·none-ne-some}
 use Prim.Native.Nat.{ℕ, zero, suc, _≤_, _<_}
-use native.Mathlib.Nat.{not-suc-le-zero, le-of-suc-le-suc}
+use native.Mathlib.Nat.{not-suc-le-zero}
 use native.Mathlib.Omega.{arith}
 use native.Mathlib.Decide.{ℕ-discrete, decLt}
 use borrow.Author.Tests.{eqb-true, eq-eqb}
 use lib.Dec.{eqb}
-use lib.ListN.{length, getElem?, take}
-use Rattle.base.specs.Basic.{any, all, keep}
+use lib.ListN.{getElem?, take}
+use Rattle.base.specs.Basic.{any, all}
 use Rattle.base.specs.BoolLaws.{true-false, and-true, and-of, or-true, not-true}
 use Rattle.base.specs.ListLaws.{some-injective, getElem?-same, getElem?-found, getElem?-lt, any-of}
-use Rattle.base.specs.ListLaws.{any-false, any-true, all-true, member-keep, keep-yes}
+use Rattle.base.specs.ListLaws.{any-false, any-true, all-true, member-keep}
 use Rattle.schedule.specs.Event.{Action, Event, by, isRead, isWrite, isInsert, isDelete, isCommit, isPredicateRead}
 use Rattle.schedule.specs.Event.{writesTo, pastAt, writesOf, committed, seen, visible}
 use Rattle.schedule.specs.Event.{insertsFirst, deletesLast, meetsVisible, waits, sameStatement, together, obeys, allObey}

@@ -1,13 +1,13 @@
 -- Dependencies between the events of different transactions, computed over a plain list of events.
-use mathlib.Core.Bool.{Bool, true, false, cond, not, _&&_, _||_}
-use mathlib.Core.List.{List, [], _∷_}
-use mathlib.Core.Option.{Option, none, some}
+use mathlib.Core.Bool.{Bool, true, false, not, _&&_, _||_}
+use mathlib.Core.List.{List}
+use mathlib.Core.Option.{none, some}
 use mathlib.Core.Path.{_≡_}
 use Prim.Native.Nat.{ℕ, _<_}
 use lib.Dec.{eqb, ltb}
 use lib.ListN.{length, getElem?, take}
-use Rattle.base.specs.Basic.{any, all, keep, numbers, meets}
-use Rattle.schedule.specs.Event.{Event, Action, by, isRead, isWrite, isPredicateRead, isInsert, isDelete, isCommit, writesTo, pastAt, seen}
+use Rattle.base.specs.Basic.{any, keep, numbers, meets}
+use Rattle.schedule.specs.Event.{Event, by, isRead, isWrite, isPredicateRead, isInsert, isDelete, pastAt, seen}
 use Rattle.schedule.specs.Schedule.{everyAttribute}
 
 -- X7: the same operation of the same transaction

@@ -3,3 +3,4 @@ pub mod DependencyLaws
 pub mod Ordered
 pub mod Positions
 pub mod SerialLaw
+pub mod History

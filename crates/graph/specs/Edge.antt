@@ -1,13 +1,13 @@
 -- Edges of the summary graph (document 01, "Edges"). Believed.
 use mathlib.Core.Bool.{Bool, true, false, cond, not, _&&_, _||_}
-use mathlib.Core.List.{List, [], _∷_, _++_, map, flatMap}
+use mathlib.Core.List.{List, [], _∷_, _++_, flatMap}
 use mathlib.Core.Option.{Option, none, some}
-use Prim.Native.Nat.{ℕ, zero, suc}
+use Prim.Native.Nat.{ℕ, suc}
 use lib.Bits.{bitAnd}
 use lib.Count.{onesIn, trailingZeros}
 use lib.Dec.{eqb}
 use lib.ListN.{length, getElem?, take}
-use Rattle.base.specs.Basic.{any, count, numbers, meets}
+use Rattle.base.specs.Basic.{any, meets}
 use Rattle.text.specs.declared.StatementKind.{StatementKind}
 use Rattle.text.specs.declared.StatementKind.the-variants.{Is, Ks, Ps, Ku, Pu, Kd, Pd}
 use Rattle.graph.specs.Program.{Statement, Link}

@@ -4,7 +4,7 @@ use mathlib.Core.List.{List, [], _∷_, map}
 use mathlib.Core.Path.{_≡_, refl}
 use Rattle.text.specs.declared.Line.{Line}
 use Rattle.graph.specs.Graph.{Flow}
-use Rattle.graph.specs.ExampleText.{rl, fk, pr, is, ks, ps, ku, pu, kd, pd, lo, br, el, en, li, step}
+use Rattle.graph.specs.ExampleText.{rl, pr, is, ks, ps, ku, pu, kd, pd, lo, br, el, en, li, step}
 use Rattle.graph.specs.ExampleText.{counts, nodes, ids, dangerous, sizes, station, base, twice, select-first}
 
 -- ---- G: document 01's examples

@@ -1,6 +1,6 @@
 -- Unfoldings (document 01, "Unfoldings"). Believed.
 use mathlib.Core.List.{List, [], _∷_, _++_, map, flatMap}
-use Prim.Native.Nat.{ℕ, zero, suc}
+use Prim.Native.Nat.{ℕ, suc}
 use Rattle.graph.specs.Program.{Statement, Link, Item, Run, Program, programsOf}
 use Rattle.graph.specs.Program.Item.{statement, loop, branch}
 use Rattle.graph.specs.Program.Run.{done, next}

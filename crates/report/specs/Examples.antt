@@ -1,23 +1,33 @@
 -- Closed cases of the refusals of the state and of the report.
 use mathlib.Core.Bool.{Bool, true, false}
-use mathlib.Core.List.{List, [], _∷_, _++_, map, flatMap}
+use mathlib.Core.List.{List, [], _∷_, _++_, flatMap}
+use mathlib.Core.Option.{some}
 use mathlib.Core.Path.{_≡_, refl}
 use Prim.Native.Nat.{ℕ, zero, suc}
+use Prim.Native.String.{String}
+use native.Mathlib.Omega.{arith}
+use lib.Count.{onesIn, trailingZeros}
 use lib.ListN.{replicate}
+use Rattle.base.specs.BoolLaws.{true-false}
 use Rattle.text.specs.declared.Line.{Line}
 use Rattle.text.specs.declared.LineKind.{LineKind}
 use Rattle.text.specs.declared.LineKind.the-variants.{Pr, St, Lo, Br, El, En}
 use Rattle.text.specs.declared.StatementKind.the-variants.{Ku}
+use Rattle.text.specs.Reading.{Outcome}
+use Rattle.text.specs.Reading.Outcome.{refused, accepted}
 use Rattle.text.specs.Value.{digit, digitsOf}
 use Rattle.text.specs.Quoted.{bytes, text, readBytes}
 use Rattle.graph.specs.Graph.{Flow}
 use Rattle.graph.specs.Program.{statementOf, behind, runOf, linksOf, programsOf}
 use Rattle.graph.specs.Unfolding.{inside, occurrences, pairs, unfoldings, nodesOfProgram, nodesFrom, nodesOf}
-use Rattle.graph.specs.Walk.{Step}
-use Rattle.report.specs.State.{Counts, statementsIn, tooMany, shortForUnfoldings, shortForWalk}
+use Rattle.graph.specs.Edge.{W, R, T, holds, sameRelation, leads, binds, guarded, shielded, forward, back, placesFrom, placesOf, letterOf}
+use Rattle.graph.specs.Edge.{shared, edgeOf, edgesBetween, edgesOf, placeAt, graphOf}
+use Rattle.graph.specs.Walk.{Step, isEdge, dangerousPair, isDangerous}
+use Rattle.report.specs.State.{Counts, countsOf, statementsIn, tooMany, shortForUnfoldings, shortForEdges, shortForWalk, summaryGraph, StateRefusal}
+use Rattle.report.specs.State.StateRefusal.{not-given}
 use Rattle.report.specs.Report.{verdictNames, robustWord, dangerWord, stepNames, refusedNames, decimal, verdictLine, stepLine, stepLines}
 use Rattle.report.specs.Report.{refusalReport, robustReport, dangerReport, Report}
-use Rattle.report.specs.Report.Report.{refusal}
+use Rattle.report.specs.Report.Report.{refusal, unfolding-refusal, robust, danger}
 
 -- ---- S22, S20
 
@@ -80,32 +90,32 @@ walk-short = refl
 -- ---- P1, P2, P3: the bytes of a report
 
 counts : Counts
-counts = record { programs = 2; nodes = 2; edges = 8; back = 0 }
+counts = record { programs = 1; nodes = 3; edges = 9; back = 0 }
 
-robust : List ℕ
+robustBytes : List ℕ
 unfolding bytes digit digitsOf decimal verdictNames robustWord dangerWord verdictLine robustReport counts
-robust = robustReport counts
+robustBytes = robustReport counts
 
 -- P1
-robust-bytes : robust ≡ text ("verdict programs nodes edges back" ∷ "robust 2 2 8 0" ∷ [])
-unfolding robust text
+robust-bytes : robustBytes ≡ text ("verdict programs nodes edges back" ∷ "robust 1 3 9 0" ∷ [])
+unfolding robustBytes text
 robust-bytes = refl
 
-danger : List ℕ
-unfolding robust stepNames stepLine stepLines dangerReport
-danger =
-    dangerReport (record { programs = 2; nodes = 2; edges = 524288; back = 10 })
-    (record { node = 0; leaves = 0; enters = 1; flow = Flow.forward } ∷ record { node = 1; leaves = 17; enters = 0; flow = Flow.back } ∷ [])
+dangerBytes : List ℕ
+unfolding robustBytes stepNames stepLine stepLines dangerReport
+dangerBytes =
+    dangerReport (record { programs = 2; nodes = 5; edges = 524288; back = 10 })
+    (record { node = 4; leaves = 2; enters = 1; flow = Flow.forward } ∷ record { node = 3; leaves = 17; enters = 0; flow = Flow.back } ∷ [])
 
 -- P2
-danger-bytes : danger
+danger-bytes : dangerBytes
     ≡ text
-    ("verdict programs nodes edges back" ∷ "danger 2 2 524288 10" ∷ "step node leaves enters flow" ∷ "0 0 0 1 f" ∷ "1 1 17 0 b" ∷ [])
-unfolding danger text
+    ("verdict programs nodes edges back" ∷ "danger 2 5 524288 10" ∷ "step node leaves enters flow" ∷ "0 4 2 1 f" ∷ "1 3 17 0 b" ∷ [])
+unfolding dangerBytes text
 danger-bytes = refl
 
 refusal-of : ℕ → ℕ → List ℕ
-unfolding robust refusedNames refusalReport
+unfolding robustBytes refusedNames refusalReport
 refusal-of number line = refusalReport number line
 
 -- P3
@@ -113,7 +123,72 @@ refusal-bytes : refusal-of 22 0 ≡ text ("refused line" ∷ "22 0" ∷ [])
 unfolding refusal-of text
 refusal-bytes = refl
 
+-- ---- S20 for edges, S21
+
+edgesShort : ℕ → Bool
+unfolding
+    many shortForEdges W R T holds sameRelation leads binds guarded shielded forward back placesFrom placesOf letterOf shared edgeOf edgesBetween
+    edgesOf onesIn trailingZeros
+edgesShort area = shortForEdges (line Pr ∷ line (St Ku) ∷ []) area
+
+-- S20: an update of nothing has no edge, so an empty area is long enough
+edges-enough : edgesShort 0 ≡ false
+unfolding edgesShort
+edges-enough = refl
+
+-- S21: a value that counts more lines than it has cells is given by no text
+not-a-workload : StateRefusal (record { count = 2000; lines = [] }) true (some 21)
+not-a-workload = not-given (λ g. omega (arith, g .fits))
+
+-- ---- reports of texts
+
+abbrev names : String
+names = "kind id rel to reads writes tests"
+
 -- P3: the report of the empty text
 empty-refused : Report [] (refusalReport 2 0)
 unfolding readBytes
 empty-refused = refusal 2 0 refl
+
+-- S22, P3: 64 unfoldings of one program and one of another
+abbrev br : List String
+br = "br - - - - - -" ∷ "el - - - - - -" ∷ "en - - - - - -" ∷ []
+
+abbrev manyText : List String
+manyText = names ∷ "pr 0 - - - - -" ∷ br ++ (br ++ (br ++ (br ++ (br ++ (br ++ ("pr 1 - - - - -" ∷ []))))))
+
+-- the outcome of a text, computed
+taken-lines : List ℕ → List Line
+unfolding readBytes
+taken-lines t = elim (readBytes t) [ refused number line ↦ [] | accepted lines ↦ lines ]
+
+many-refused : Report (text manyText) (refusalReport 22 0)
+unfolding many text taken-lines
+many-refused = unfolding-refusal (taken-lines (text manyText)) refl refl
+
+-- N1, P1: the names line alone is robust: with no node no step is an edge
+no-walk : (walk : List Step) → isDangerous (summaryGraph []) walk ≡ true → ⊥
+unfolding many summaryGraph graphOf placeAt isDangerous isEdge dangerousPair
+no-walk [] h = true-false h refl
+no-walk (s ∷ []) h = true-false h refl
+no-walk (s ∷ t ∷ walk) h = true-false h refl
+
+names-robust : Report (text (names ∷ [])) (robustReport (countsOf []))
+unfolding many text readBytes
+names-robust = robust [] refl refl (λ w. no-walk (w .0) (w .1))
+
+-- P2: a lost update: each run reads the tuple, then writes it; the walk goes from the program to itself and back
+abbrev updateText : List String
+updateText = names ∷ "rl 0 - - 1 - -" ∷ "pr 0 - - - - -" ∷ "ks 0 0 - 1 - -" ∷ "ku 1 0 - 0 1 -" ∷ []
+
+abbrev updateWalk : List Step
+updateWalk =
+    record { node = 0; leaves = 0; enters = 1; flow = Flow.forward } ∷ record { node = 0; leaves = 0; enters = 1; flow = Flow.back } ∷ []
+
+update-lines : List Line
+unfolding taken-lines text
+update-lines = taken-lines (text updateText)
+
+update-danger : Report (text updateText) (dangerReport (countsOf update-lines) updateWalk)
+unfolding update-lines edgesShort summaryGraph graphOf placeAt isDangerous isEdge dangerousPair
+update-danger = danger update-lines refl refl updateWalk refl (omega arith)

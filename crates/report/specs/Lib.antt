@@ -1,3 +1,4 @@
 pub mod State
 pub mod Report
 pub mod Examples
+pub mod ReportLaws

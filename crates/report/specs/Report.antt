@@ -1,12 +1,12 @@
 -- The report of a text, as bytes (document 01, "Report"). Believed.
-use mathlib.Core.Bool.{Bool, true, false}
+use mathlib.Core.Bool.{true, false}
 use mathlib.Core.List.{List, [], _∷_, _++_}
 use mathlib.Core.Path.{_≡_}
-use Prim.Native.Nat.{ℕ, zero, suc, _≤_}
+use Prim.Native.Nat.{ℕ, suc, _≤_}
 use lib.ListN.{length}
 use Rattle.text.specs.declared.Line.{Line}
 use Rattle.text.specs.Text.{newline, space}
-use Rattle.text.specs.Reading.{Outcome, read}
+use Rattle.text.specs.Reading.{read}
 use Rattle.text.specs.Reading.Outcome.{refused, accepted}
 use Rattle.text.specs.Value.{digitsOf}
 use Rattle.graph.specs.Graph.{Flow}

@@ -3,7 +3,7 @@ use mathlib.Core.Bool.{Bool, true, false, _||_}
 use mathlib.Core.List.{List, [], _∷_}
 use mathlib.Core.Option.{Option, none, some}
 use mathlib.Core.Path.{_≡_}
-use Prim.Native.Nat.{ℕ, zero, suc, _+_}
+use Prim.Native.Nat.{ℕ, _+_}
 use lib.Dec.{ltb}
 use lib.ListN.{length}
 use Rattle.base.specs.Basic.{count}
@@ -13,7 +13,7 @@ use Rattle.text.specs.Value.{Given, linesOf}
 use Rattle.graph.specs.Graph.{Graph, isBack}
 use Rattle.graph.specs.Program.{programsOf}
 use Rattle.graph.specs.Unfolding.{Node, nodesOf}
-use Rattle.graph.specs.Edge.{Edge, edgesOf, graphOf}
+use Rattle.graph.specs.Edge.{edgesOf, graphOf}
 use Rattle.graph.specs.Walk.{DangerousWalk}
 
 -- the statements in unfoldings

@@ -4,7 +4,7 @@ use mathlib.Core.Bool.{Bool, true, false, false≢true}
 use mathlib.Core.List.{List, [], _∷_, flatMap, List·Memᴰ, List·Memᴰ·cases-cons, List·Memᴰ·not-nil, Memᴰ·cast, _++_, map}
 use mathlib.Core.Logic.{_⊎_, inl, inr}
 use mathlib.Core.Path.{_≡_, ap, refl, sym, _∙_, subst, subst₂}
-use Prim.Native.Nat.{ℕ, _%_}
+use Prim.Native.Nat.{ℕ, _+_, _*_, _%_}
 use Rattle.text.specs.declared.Line.{Line}
 use Rattle.text.specs.declared.LineKind.{LineKind}
 use Rattle.text.specs.declared.StatementKind.{StatementKind}
@@ -365,6 +365,32 @@ visible-unborn : visible (λ r t. false) 0 1 [] ≡ false
 unfolding openRules
 visible-unborn = refl
 
+-- H4: each relation's tuples start on their own
+visible-relation : visible (λ r t. eqb r 1) 1 2 [] ≡ true
+unfolding openRules
+visible-relation = refl
+
+insert-relation : insertsFirst (λ r t. eqb r 0) [] (event 0 0 0 insert 1 0 0) ≡ true
+unfolding openRules
+insert-relation = refl
+
+-- H2: each place has its own tuples
+abbrev twoSelects : Transaction
+twoSelects =
+    record {
+      program = record { body = next (statement (says Ps 0 5 1 0 0)) (next (statement (says Ps 1 5 1 0 0)) done); links = [] };
+      execution = step perform (step perform end);
+      tuple = λ i. 0;
+      tuples = λ i. i ∷ [];
+    }
+
+tuples-by-place : operations twoSelects
+    ≡ operation 0 predicateRead 5 0 0 ∷ operation 0 read 5 0 1
+    ∷ operation 1 predicateRead 5 0 0 ∷ operation 1 read 5 1 1
+    ∷ operation 2 commit 0 0 0 ∷ []
+unfolding openWorkload
+tuples-by-place = refl
+
 -- ---- H7: foreign keys
 
 -- a key into relation 0, by the last digit
@@ -445,6 +471,37 @@ link-each-tuple = refl
 link-second-tuple : keysKept byTen (childMany (10 ∷ 21 ∷ [])) ≡ false
 unfolding openWorkload
 link-second-tuple = refl
+
+-- two children by two links: statement 1 by key 1 and statement 2 by key 2, on the tuples given by place
+abbrev twoLinks : (ℕ → ℕ) → Transaction
+twoLinks tuples =
+    record {
+      program =
+          record {
+            body =
+                next
+                (statement (says Ku 0 0 0 1 0))
+                (next (statement (says Ku 1 1 0 1 0)) (next (statement (says Ku 2 2 0 1 0)) done));
+            links = record { key = 1; child = 1; parent = 0 } ∷ record { key = 2; child = 2; parent = 0 } ∷ [];
+          };
+      execution = step perform (step perform (step perform end));
+      tuple = tuples;
+      tuples = λ i. [];
+    }
+
+-- a key that looks at its own number and at the relation and number of the tuple it is applied to
+abbrev byAll : ℕ → Tuple → Tuple
+byAll f t = record { relation = 0; number = f * 100 + t .relation * 10 + t .number }
+
+-- each link's own key is applied to its child's tuple, relation and number: both give the parent's 225
+link-by-key : keysKept byAll (twoLinks (λ i. getD (225 ∷ 115 ∷ 5 ∷ []) i 0)) ≡ true
+unfolding openWorkload
+link-by-key = refl
+
+-- every link counts, the second too
+link-second : keysKept byAll (twoLinks (λ i. getD (225 ∷ 115 ∷ 6 ∷ []) i 0)) ≡ false
+unfolding openWorkload
+link-second = refl
 
 -- a schedule in which a link is broken is none
 link-refused : {lines : List Line} (s : Schedule lines) → s .key ≡ byTen

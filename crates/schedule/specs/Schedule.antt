@@ -1,16 +1,16 @@
 -- Executions, transactions and schedules of a workload (document 01, "Schedules"). Believed.
-use mathlib.Core.Bool.{Bool, true, false, cond, not, _&&_, _||_}
-use mathlib.Core.List.{List, [], _∷_, _++_, map, flatMap, List·Memᴰ}
-use mathlib.Core.Option.{Option, none, some}
+use mathlib.Core.Bool.{Bool, true, cond, not, _&&_, _||_}
+use mathlib.Core.List.{List, [], _∷_, _++_, flatMap, List·Memᴰ}
+use mathlib.Core.Option.{some}
 use mathlib.Core.Path.{_≡_}
-use Prim.Native.Nat.{ℕ, zero, suc}
+use Prim.Native.Nat.{ℕ, suc}
 use lib.Dec.{eqb, ltb}
 use lib.ListN.{length, getElem?}
 use Rattle.base.specs.Basic.{all, keep}
 use Rattle.text.specs.declared.Line.{Line}
 use Rattle.text.specs.declared.StatementKind.{StatementKind}
 use Rattle.text.specs.declared.StatementKind.the-variants.{Is, Ks, Ps, Ku, Pu, Kd, Pd}
-use Rattle.graph.specs.Program.{Statement, Link, Program, programsOf}
+use Rattle.graph.specs.Program.{Link, Program, programsOf}
 use Rattle.graph.specs.Unfolding.{Execution, Occurrence, occurrences}
 use Rattle.graph.specs.Edge.{W, R, T, hasTests, binds}
 use Rattle.schedule.specs.Event.{Action, Event, by, allObey}

@@ -1,7 +1,7 @@
 -- The serial run and demand 3's conclusion (document 01, "The serial run"). Believed.
-use mathlib.Core.Bool.{Bool, true, false, cond}
+use mathlib.Core.Bool.{true, cond}
 use mathlib.Core.List.{List, flatMap}
-use mathlib.Core.Option.{Option, some}
+use mathlib.Core.Option.{some}
 use mathlib.Core.Path.{_≡_}
 use Prim.Native.Nat.{ℕ}
 use lib.Dec.{eqb, ltb}
@@ -32,7 +32,8 @@ pub record SamePredicateRead (events : List Event) (n : ℕ) (e : Event) (state 
   pub exists : (t : ℕ) → existence (seen (pastAt events n) (e .transaction) (e .relation) t) ≡ existence (state (e .relation) t)
 
 -- X8: one order that holds each transaction exactly once; in the serial run in that order each read and each predicate read takes
--- its values from the same writes as in the schedule, and each attribute of each tuple ends with the same last write
+-- its values from the same writes as in the schedule, and each attribute of each tuple ends with the same last write.
+-- An event of a schedule stands at one position k of the run: its transaction and number tell which operation it is
 pub record SerialOrder (transactions : ℕ) (events : List Event) : Type 0 where
   pub order : List ℕ
   pub eachOnce : (i : ℕ) → count (eqb i) order ≡ cond (ltb i transactions) 1 0

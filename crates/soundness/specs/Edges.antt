@@ -1,37 +1,34 @@
 -- Each dependency has its edge: between nodes that stand for the two transactions a forward edge, and where the second commits first a
 -- back edge; and what Read Committed says of the commits.
 use mathlib.Core.Bool.{Bool, true, false, not, _&&_, _||_}
-use mathlib.Core.List.{List, [], _∷_, List·Memᴰ}
-use mathlib.Core.Logic.{_⊎_, inl, inr, _≢_}
-use mathlib.Core.Option.{Option, none, some}
+use mathlib.Core.List.{List, List·Memᴰ}
+use mathlib.Core.Logic.{_≢_}
+use mathlib.Core.Option.{some}
 use mathlib.Core.Path.{_≡_, refl, sym, ap, subst, _∙_}
-use Prim.Native.Nat.{ℕ, zero, suc, _≤_, _<_}
+use Prim.Native.Nat.{ℕ, _≤_, _<_}
 use native.Mathlib.Omega.{arith}
-use lib.Dec.{eqb}
-use lib.ListN.{length, getElem?}
-use borrow.Author.Tests.{eqb-true, eq-eqb}
-use Rattle.base.specs.Basic.{any, all, meets}
-use Rattle.base.specs.BoolLaws.{decide, and-true, and-of, or-true, or-left, or-right, true-false, not-of-false, not-true, false-of}
+use lib.ListN.{getElem?}
+use borrow.Author.Tests.{eq-eqb}
+use Rattle.base.specs.BoolLaws.{and-true, and-of, or-left, or-right, true-false, not-of-false, false-of}
 use Rattle.base.specs.ListLaws.{any-true, getElem?-member}
 use Rattle.text.specs.declared.Line.{Line}
 use Rattle.text.specs.declared.StatementKind.{StatementKind}
-use Rattle.graph.specs.Program.{Statement, Link}
-use Rattle.graph.specs.Unfolding.{Occurrence, occurrences, nodesOf}
-use Rattle.graph.specs.Graph.{Flow, Graph}
-use Rattle.graph.specs.Edge.{Letter, Place, at, placeAt, holds, sameRelation, guarded, shielded, forward, back, stands, graphOf, hasReads, hasTests, selects, loosens, loosensAt}
+use Rattle.graph.specs.Program.{Statement}
+use Rattle.graph.specs.Unfolding.{Occurrence, occurrences}
+use Rattle.graph.specs.Edge.{Letter, at, holds, sameRelation, guarded, shielded, forward, back, stands, hasReads, hasTests, selects, loosens}
 use Rattle.graph.specs.Edge.Letter.{A, B, C, D, E}
-use Rattle.schedule.specs.Event.{Action, Event, isRead, isWrite, isPredicateRead, isInsert, isDelete, isCommit}
+use Rattle.schedule.specs.Event.{Action, Event, isRead, isWrite, isPredicateRead}
 use Rattle.schedule.specs.Event.Action.{read, write, insert, delete, predicateRead, commit}
-use Rattle.schedule.specs.Schedule.{Transaction, Performed, Operation, Schedule, performed}
-use Rattle.committing.specs.Rules.{CommitsAt, SameTuple, write-before}
+use Rattle.schedule.specs.Schedule.{Transaction, Performed, Schedule}
+use Rattle.committing.specs.Rules.{CommitsAt, SameTuple}
 use Rattle.committing.specs.Letters.{Dependency}
 use Rattle.committing.specs.Letters.Dependency.{write-write, write-read, write-predicate, read-write, predicate-write}
-use Rattle.committing.specs.Commits.{write-left, update-left, back-not-write, read-left, writers-apart}
+use Rattle.committing.specs.Commits.{write-left, update-left, back-not-write, read-left, shield}
 use Rattle.committing.specs.Kinds.{write-write-kinds, write-read-kinds, read-write-kinds}
-use Rattle.transactions.specs.Operations.{Belongs, Does, updates, statementOf}
-use Rattle.transactions.specs.Events.{schedule-lawful, eventAt}
+use Rattle.transactions.specs.Operations.{Does, updates, statementOf}
+use Rattle.transactions.specs.Events.{schedule-lawful}
 use Rattle.transactions.specs.Statements.{Stated, operationOf, update-next, place-order}
-use Rattle.soundness.specs.Letters.{Sets, kind-implies, kinds-apart, letter-A, letter-B, letter-C, letter-D, letter-E, does-read-what, does-test-what}
+use Rattle.soundness.specs.Letters.{Sets, kind-implies, letter-A, letter-B, letter-C, letter-D, letter-E, does-read-what, does-test-what}
 use Rattle.soundness.specs.Visits.{Visit, At, Spot, Guard, guard-of, performed-occurrence}
 
 -- ---- what a test of an action says of it
@@ -192,18 +189,9 @@ module _ {lines : List Line} (s : Schedule lines) (set : ℕ → ℕ)
                   ∙ ap (λ (x : ℕ). s .key key (record { relation = a .relation; number = x }) .number) (t .tuple)
                   ∙ k .tuple;
             } in
-            let commit-g = subst (λ (i : ℕ). CommitsAt (s .events) i (v .commit)) (sym (g .own)) (v .commits) in
-            let commit-k = subst (λ (j : ℕ). CommitsAt (s .events) j (w .commit)) (sym (k .own)) (w .commits) in
-            let before : g .position < m = place-order s i (v .found) (g .position) m (g .event) b (g .stands) atB (g .own) ofB (g .earlier) in
-            let left : m < w .commit = early h in
-            let within : k .position < w .commit = write-before commit-k (k .position) (k .event) (k .stands) refl (k .writes) in
-            go before left within
-            (writers-apart (schedule-lawful s) (g .position) (k .position) (g .stands) (k .stands) (g .writes) (k .writes) same
-            (λ e. apart (ofB ∙ sym (g .own) ∙ e ∙ k .own ∙ sym ofA)) commit-g commit-k)
-          where
-            go : g .position < m → m < w .commit → k .position < w .commit → (v .commit < k .position) ⊎ (w .commit < g .position) → ⊥
-            go x y z (inl c) = omega arith
-            go x y z (inr c) = omega arith
+            shield (schedule-lawful s) (g .position) (k .position) atB atA dependency apart (g .stands) (k .stands) (g .writes) (k .writes) same
+            (g .own ∙ sym ofB) (k .own ∙ sym ofA)
+            (place-order s i (v .found) (g .position) m (g .event) b (g .stands) atB (g .own) ofB (g .earlier)) commit-b commit-a h
 
     -- a dependency whose second transaction commits first has a back edge
     pub back-edge : w .commit < v .commit → back (p .spot) (q .spot) ≡ true

@@ -1,22 +1,20 @@
 -- From a dependency of events to a letter of their statements.
-use mathlib.Core.Bool.{Bool, true, false, cond, not, _&&_, _||_}
+use mathlib.Core.Bool.{Bool, true, false, not, _||_}
 use mathlib.Core.List.{List, [], _∷_, List·Memᴰ, List·Memᴰ·head, List·Memᴰ·tail}
-use mathlib.Core.Logic.{_⊎_, inl, inr, _≢_}
+use mathlib.Core.Logic.{_≢_}
 use mathlib.Core.Path.{_≡_, refl, sym, ap, subst, _∙_}
 use Prim.Native.Nat.{ℕ}
-use native.Mathlib.Omega.{arith}
 use Rattle.base.specs.Basic.{all, has, meets, within}
-use Rattle.base.specs.BoolLaws.{decide, true-false, and-of, or-true, or-left, or-right, or-false, not-of-false, not-true, false-of}
+use Rattle.base.specs.BoolLaws.{true-false, and-of, or-left, or-right, not-of-false, not-true}
 use Rattle.base.specs.ListLaws.{all-true}
-use Rattle.base.specs.WordLaws.{meets-has, has-meets, within-has, meets-self, meets-comm}
+use Rattle.base.specs.WordLaws.{meets-has, has-meets, within-has, meets-self}
 use Rattle.text.specs.declared.StatementKind.{StatementKind}
 use Rattle.text.specs.declared.StatementKind.the-variants.{Is, Ks, Ps, Ku, Pu, Kd, Pd}
 use Rattle.graph.specs.Program.{Statement}
-use Rattle.graph.specs.Edge.{Letter, W, R, T, holds, hasReads, hasWrites, hasTests, inserts, deletes, selects, loosens}
+use Rattle.graph.specs.Edge.{W, R, T, holds, hasReads, hasWrites, hasTests, inserts, deletes}
 use Rattle.graph.specs.Edge.Letter.{A, B, C, D, E}
-use Rattle.schedule.specs.Event.{Action, Event, isRead, isWrite, isPredicateRead, isInsert, isDelete}
-use Rattle.schedule.specs.Event.Action.{read, write, insert, delete, predicateRead, commit}
-use Rattle.schedule.specs.Schedule.{Performed, Operation, everyAttribute}
+use Rattle.schedule.specs.Event.{Action, isRead, isWrite, isPredicateRead, isInsert, isDelete}
+use Rattle.schedule.specs.Schedule.{Performed, Operation}
 use Rattle.transactions.specs.Operations.{Does, does-test, does-read, does-write, does-insert, does-delete, updates, statementOf}
 
 -- ---- a rule over all kinds is one computed test

@@ -1,5 +1,4 @@
 -- A schedule has its serial order, or the summary graph has a dangerous closed walk.
-use mathlib.Core.Bool.{Bool, true, false, not, _&&_}
 use mathlib.Core.List.{List, List·Memᴰ}
 use mathlib.Core.Logic.{_⊎_, inl, inr}
 use mathlib.Core.Option.{some}
@@ -11,12 +10,10 @@ use Rattle.graph.specs.Unfolding.{Occurrence, occurrences, nodesOf}
 use Rattle.graph.specs.Edge.{graphOf}
 use Rattle.graph.specs.Walk.{DangerousWalk}
 use Rattle.schedule.specs.Schedule.{Transaction, Schedule}
-use Rattle.schedule.specs.Serial.{SerialOrder, Serialisable}
+use Rattle.schedule.specs.Serial.{Serialisable}
+use Rattle.order.specs.Order.{ClosedWalk}
 use Rattle.dependency.specs.Dependency.{before}
-use Rattle.dependency.specs.SerialLaw.{serialOrder}
-use Rattle.order.specs.Order.{Found, InOrder, ClosedWalk, search}
-use Rattle.order.specs.Order.Found.{ordered, circular}
-use Rattle.order.specs.OrderLaws.{search-cases}
+use Rattle.dependency.specs.History.{order-or-walk}
 use Rattle.transactions.specs.Events.{schedule-numbered, schedule-filled, schedule-known}
 use Rattle.soundness.specs.Letters.{Sets}
 use Rattle.soundness.specs.Stages.{closed-dangerous}
@@ -26,14 +23,9 @@ module _ {lines : List Line} (s : Schedule lines) (set : ℕ → ℕ)
     → Sets set (o .statement)) where
   -- an order of the transactions in which every dependency points forward gives the serial order; a closed walk gives the dangerous one
   pub serialisable-or-dangerous : Serialisable s ⊎ DangerousWalk (graphOf (nodesOf lines))
-  serialisable-or-dangerous = go (search-cases (before (s .events)) (length (s .transactions)))
+  serialisable-or-dangerous = go (order-or-walk (length (s .transactions)) (s .events) (schedule-numbered s) (schedule-filled s) (schedule-known s))
     where
-      n : ℕ
-      n = length (s .transactions)
-
-      go : ((order : List ℕ) × (search (before (s .events)) n ≡ ordered order) × InOrder (before (s .events)) n order)
-          ⊎ ((walk : List ℕ) × (search (before (s .events)) n ≡ circular walk) × ClosedWalk (before (s .events)) n walk)
+      go : Serialisable s ⊎ ((walk : List ℕ) × ClosedWalk (before (s .events)) (length (s .transactions)) walk)
           → Serialisable s ⊎ DangerousWalk (graphOf (nodesOf lines))
-      go (inl (order, e, o)) =
-          inl (serialOrder n (s .events) (schedule-numbered s) (schedule-filled s) (schedule-known s) order (o .each-once) (o .forward))
-      go (inr (walk, e, w)) = inr (closed-dangerous s set sets walk (w .not-empty) (w .linked))
+      go (inl order) = inl order
+      go (inr (walk, w)) = inr (closed-dangerous s set sets walk (w .not-empty) (w .linked))

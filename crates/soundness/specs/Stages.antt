@@ -1,38 +1,37 @@
 -- A closed walk of dependencies between the transactions of a schedule, laid out on the summary graph.
-use mathlib.Core.Bool.{Bool, true, false, not, _&&_}
-use mathlib.Core.List.{List, [], _∷_, map, List·Memᴰ, List·Memᴰ·head, List·Memᴰ·tail, Memᴰ·map, List·Memᴰ·cases-cons}
-use mathlib.Core.Logic.{_⊎_, inl, inr, _≢_}
-use mathlib.Core.Option.{Option, none, some}
+use mathlib.Core.Bool.{true, false, not, _&&_}
+use mathlib.Core.List.{List, [], _∷_, map, List·Memᴰ, List·Memᴰ·head, List·Memᴰ·tail, Memᴰ·map}
+use mathlib.Core.Logic.{_≢_}
+use mathlib.Core.Option.{some}
 use mathlib.Core.Path.{_≡_, refl, sym, ap, subst, _∙_}
-use Prim.Native.Nat.{ℕ, zero, suc, _≤_, _<_}
+use Prim.Native.Nat.{ℕ, _≤_, _<_}
 use native.Mathlib.Decide.{decLt}
 use native.Mathlib.Omega.{arith}
 use lib.Dec.{eqb}
-use lib.ListN.{length, getElem?}
+use lib.ListN.{getElem?}
 use Rattle.base.specs.Basic.{all, around}
 use Rattle.base.specs.BoolLaws.{and-true, true-false}
-use Rattle.base.specs.ListLaws.{all-true, map-member, around-member, getElem?-lt, getElem?-member, getElem?-same, getElem?-found}
+use Rattle.base.specs.ListLaws.{map-member, around-member, getElem?-lt, getElem?-member, getElem?-same}
 use Rattle.text.specs.declared.Line.{Line}
 use Rattle.graph.specs.Program.{Statement}
 use Rattle.graph.specs.Unfolding.{Occurrence, occurrences, nodesOf}
-use Rattle.graph.specs.Graph.{Flow, Graph}
-use Rattle.graph.specs.Edge.{Place, at, placeAt, stands, bothPass, loosens, loosensAt, graphOf}
+use Rattle.graph.specs.Graph.{Flow}
+use Rattle.graph.specs.Edge.{at, stands, loosens, graphOf}
 use Rattle.graph.specs.Walk.{DangerousWalk}
 use Rattle.schedule.specs.Event.{Action, Event, isRead, isWrite, isPredicateRead, isCommit}
 use Rattle.schedule.specs.Event.Action.{read, write, insert, delete, predicateRead, commit}
-use Rattle.schedule.specs.Schedule.{Transaction, Performed, Schedule, performed}
+use Rattle.schedule.specs.Schedule.{Transaction, Schedule}
 use Rattle.dependency.specs.Dependency.{before}
 use Rattle.dependency.specs.DependencyLaws.{before-found}
-use Rattle.committing.specs.Rules.{CommitsAt, statement-whole}
+use Rattle.committing.specs.Rules.{statement-whole}
 use Rattle.committing.specs.Letters.{Dependency, dependency-cases}
 use Rattle.committing.specs.Letters.Dependency.{write-write, write-read, write-predicate, read-write, predicate-write}
-use Rattle.transactions.specs.Operations.{statementOf}
 use Rattle.transactions.specs.Events.{event-made, schedule-lawful, schedule-commits}
-use Rattle.transactions.specs.Statements.{Stated, event-stated, place-order}
-use Rattle.folding.specs.Folding.{Folded, fold}
+use Rattle.transactions.specs.Statements.{event-stated, place-order}
+use Rattle.folding.specs.Folding.{fold}
 use Rattle.walks.specs.Commits.{Hop, Fits, around-linked, around-map, closedDependencies}
 use Rattle.soundness.specs.Letters.{Sets}
-use Rattle.soundness.specs.Nodes.{NodeOf, node-of}
+use Rattle.soundness.specs.Nodes.{node-of}
 use Rattle.soundness.specs.Visits.{Visit, At, Spot, spot-at, performed-occurrence}
 use Rattle.soundness.specs.Edges.{forward-edge, back-edge, firm, early}
 

@@ -1,9 +1,8 @@
 -- The sets of the statements of an accepted text are those of T9.
 use mathlib.Core.Bool.{Bool, true, false, cond, _||_}
 use mathlib.Core.List.{List, List·Memᴰ}
-use mathlib.Core.Logic.{_≢_}
 use mathlib.Core.Option.{some}
-use mathlib.Core.Path.{_≡_, refl, sym, ap, subst, _∙_}
+use mathlib.Core.Path.{_≡_, refl, ap, _∙_}
 use Prim.Native.Nat.{ℕ}
 use lib.Bits.{bitAnd, and-zero-l}
 use lib.ListN.{getElem?}
@@ -12,13 +11,12 @@ use Rattle.base.specs.Basic.{within}
 use Rattle.base.specs.BoolLaws.{true-false}
 use Rattle.base.specs.ListLaws.{getElem?-member}
 use Rattle.text.specs.declared.Line.{Line}
-use Rattle.text.specs.declared.LineKind.the-variants.{St}
 use Rattle.text.specs.declared.StatementKind.{StatementKind}
 use Rattle.text.specs.declared.StatementKind.the-variants.{Is, Ks, Ps, Ku, Pu, Kd, Pd}
 use Rattle.text.specs.Reading.{read, relationSet}
 use Rattle.text.specs.Reading.Outcome.{accepted}
 use Rattle.reading.specs.ReadingLaws.{SetsLawful, statement-sets, insert-whole, key-delete-whole, predicate-delete-whole}
-use Rattle.graph.specs.Program.{Statement, Program, programsOf, statementOf}
+use Rattle.graph.specs.Program.{statementOf}
 use Rattle.graph.specs.Unfolding.{Occurrence, occurrences}
 use Rattle.graph.specs.Edge.{R, W, hasReads, hasWrites, inserts, deletes}
 use Rattle.schedule.specs.Schedule.{Transaction, Schedule}

@@ -1,6 +1,5 @@
 -- Demand 3. For every workload value that some accepted text gives: if its summary graph has no dangerous closed walk of any length, then every
 -- schedule of it has a serial order.
-use mathlib.Core.List.{List}
 use mathlib.Core.Logic.{_⊎_, inl, inr}
 use Rattle.text.specs.declared.Workload.{Workload}
 use Rattle.text.specs.Value.{Given, linesOf}

@@ -1,27 +1,27 @@
 -- A transaction as a node of the summary graph: which place stands for which event, and what a link says there.
-use mathlib.Core.Bool.{Bool, true, false, not, _&&_, _||_}
-use mathlib.Core.List.{List, [], _∷_, List·Memᴰ}
-use mathlib.Core.Logic.{_⊎_, inl, inr, _≢_}
-use mathlib.Core.Option.{Option, none, some}
+use mathlib.Core.Bool.{Bool, true, false, not, _&&_}
+use mathlib.Core.List.{List, List·Memᴰ}
+use mathlib.Core.Logic.{_⊎_, inl, inr}
+use mathlib.Core.Option.{some}
 use mathlib.Core.Path.{_≡_, refl, sym, ap, subst, _∙_}
-use Prim.Native.Nat.{ℕ, zero, suc, _≤_, _<_}
+use Prim.Native.Nat.{ℕ, _<_}
 use native.Mathlib.Nat.{zero-add}
 use native.Mathlib.Omega.{arith}
 use lib.Dec.{eqb}
 use lib.ListN.{length, getElem?, take}
 use borrow.Author.Tests.{eqb-true, eq-eqb}
 use Rattle.base.specs.Basic.{any, all}
-use Rattle.base.specs.BoolLaws.{and-true, and-of, or-true, true-false, not-of-false, not-true}
-use Rattle.base.specs.ListLaws.{any-true, all-true, getElem?-lt, getElem?-member, getElem?-found, getElem?-same, getElem?-of-take, member-getElem?}
+use Rattle.base.specs.BoolLaws.{and-true, and-of, or-true, true-false, not-true}
+use Rattle.base.specs.ListLaws.{any-true, all-true, getElem?-member, getElem?-found, getElem?-of-take, member-getElem?}
 use Rattle.text.specs.declared.Line.{Line}
-use Rattle.graph.specs.Program.{Statement, Link, Program, programsOf}
-use Rattle.graph.specs.Unfolding.{Execution, Occurrence, Node, occurrences, nodesOf}
+use Rattle.graph.specs.Program.{Statement, Link}
+use Rattle.graph.specs.Unfolding.{Occurrence, Node, occurrences, nodesOf}
 use Rattle.graph.specs.Edge.{Place, at, placeAt, binds, leads, guarded, shields}
-use Rattle.schedule.specs.Event.{Action, Event, isWrite, isCommit, isPredicateRead}
-use Rattle.schedule.specs.Schedule.{Transaction, Performed, Operation, Schedule, Tuple, performed, linkKept, keysKept}
+use Rattle.schedule.specs.Event.{Event, isWrite, isPredicateRead}
+use Rattle.schedule.specs.Schedule.{Transaction, Performed, Operation, Schedule, performed, linkKept, keysKept}
 use Rattle.committing.specs.Rules.{CommitsAt}
-use Rattle.transactions.specs.Operations.{Belongs, Does, does-test, does-read, does-write, does-insert, does-delete, statementOf, performed-at, at-performed}
-use Rattle.transactions.specs.Statements.{Stated, operationOf, shield-event}
+use Rattle.transactions.specs.Operations.{Does, does-test, does-read, does-write, does-insert, does-delete, statementOf, performed-at, at-performed}
+use Rattle.transactions.specs.Statements.{Stated, shield-event}
 use Rattle.folding.specs.Folding.{Folded}
 
 -- the occurrence of a performed statement

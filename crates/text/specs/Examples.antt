@@ -1,5 +1,5 @@
 -- Closed cases of the rules on the text: each is computed from the definitions.
-use mathlib.Core.Bool.{true, false}
+use mathlib.Core.Bool.{Bool, true, false}
 use mathlib.Core.List.{List, [], _∷_, _++_, map, headD}
 use mathlib.Core.Option.{none, some}
 use mathlib.Core.Path.{_≡_, refl, ap}
@@ -7,12 +7,13 @@ use Prim.Native.Nat.{ℕ, zero, suc, _-_, _^_, zero-le}
 use Prim.Native.String.{String}
 use native.Mathlib.Omega.{arith}
 use lib.ListN.{replicate}
-use Rattle.base.specs.Basic.{numbers, has}
+use Rattle.base.specs.Basic.{all, any, keep, numbers, has}
 use Rattle.text.specs.declared.Line.{Line}
 use Rattle.text.specs.declared.LineKind.{LineKind}
 use Rattle.text.specs.declared.LineKind.the-variants.{Rl, Fk, Pr, St, Lo, Br, El, En, Li}
 use Rattle.text.specs.declared.StatementKind.the-variants.{Is, Ks, Ps, Ku, Pu, Kd, Pd}
-use Rattle.text.specs.Text.{newline, namesLine, lineWith, numberOf, setOf, emptyLine}
+use Rattle.text.specs.Text.{newline, namesLine, lineWith, numberOf, setOf, emptyLine, lineOf}
+use Rattle.text.specs.Reading.{isAllowed}
 use Rattle.text.specs.Reading.Outcome.{refused, accepted}
 use Rattle.text.specs.Value.{linesOf, Given, written}
 use Rattle.text.specs.Quoted.{bytes, text, readBytes, given, accepts, rereads}
@@ -636,3 +637,68 @@ other-kind kinds = let wrong : _≡_ {A = ℕ} 0 1 = cc in omega arith
 stray-line : Given (record { count = 0; lines = flow Lo ∷ replicate 1615 emptyLine }) → ⊥
 unfolding flow lineWith emptyLine headD
 stray-line g = other-kind (ap (λ l. headD l emptyLine .kind) (g .others))
+
+-- R2: the bytes of a text, all of them
+allowedBytes : List ℕ
+unfolding readBytes bytes
+allowedBytes = keep isAllowed (numbers 256)
+
+allowed-bytes : allowedBytes ≡ 0x0a ∷ bytes " -0123456789abcdefghijklmnopqrstuvwxyz"
+unfolding allowedBytes bytes
+allowed-bytes = refl
+
+-- the line has the form of its kind
+formed : String → Bool
+unfolding readBytes bytes
+formed s = elim (lineOf (bytes s)) [ none ↦ false | some l ↦ true ]
+
+-- T5: the sets of each kind, with digits that no number has
+set-fields
+    : all formed
+    ("rl 0 - - ff - -"
+    ∷ "is 0 0 - - ff -"
+    ∷ "ks 0 0 - ff - -"
+    ∷ "ps 0 0 - ff - fe"
+    ∷ "ku 0 0 - ff fe -"
+    ∷ "pu 0 0 - ff fe fd"
+    ∷ "kd 0 0 - - ff -"
+    ∷ "pd 0 0 - - ff fe"
+    ∷ [])
+    ≡ true
+unfolding formed
+set-fields = refl
+
+-- T5: the numbers of each kind, with a digit that only a set has
+number-fields
+    : any formed
+    ("rl a - - 1 - -"
+    ∷ "fk a 0 0 - - -"
+    ∷ "fk 0 a 0 - - -"
+    ∷ "fk 0 0 a - - -"
+    ∷ "pr a - - - - -"
+    ∷ "is a 0 - - 1 -"
+    ∷ "is 0 a - - 1 -"
+    ∷ "ks a 0 - 1 - -"
+    ∷ "ks 0 a - 1 - -"
+    ∷ "ps a 0 - 1 - 1"
+    ∷ "ps 0 a - 1 - 1"
+    ∷ "ku a 0 - 1 1 -"
+    ∷ "ku 0 a - 1 1 -"
+    ∷ "pu a 0 - 1 1 1"
+    ∷ "pu 0 a - 1 1 1"
+    ∷ "kd a 0 - - 1 -"
+    ∷ "kd 0 a - - 1 -"
+    ∷ "pd a 0 - - 1 1"
+    ∷ "pd 0 a - - 1 1"
+    ∷ "li a 0 0 - - -"
+    ∷ "li 0 a 0 - - -"
+    ∷ "li 0 0 a - - -"
+    ∷ [])
+    ≡ false
+unfolding formed
+number-fields = refl
+
+-- R7: a fault of the last line comes before the block that it leaves open at the end
+fault-before-end : given ("pr 0 - - - - -" ∷ lo ∷ "is 0 0 - - 1 -" ∷ []) ≡ refused 6 4
+unfolding given
+fault-before-end = refl

@@ -21,7 +21,7 @@ space = 0x20
 abbrev pub dash : ℕ
 dash = 0x2d
 
--- the bytes 0 to 9, a to f, a to z
+-- the bytes 0 to 9; with a to f; a to z
 abbrev pub isDecimal : ℕ → Bool
 isDecimal b = leb 0x30 b && leb b 0x39
 

@@ -1,28 +1,27 @@
 -- The events of a schedule: each belongs to an operation of its transaction, and they obey the rules on plain lists of events.
-use mathlib.Core.Bool.{Bool, true, false, cond, not, _&&_, _||_}
-use mathlib.Core.List.{List, [], _∷_, _++_, List·Memᴰ}
+use mathlib.Core.Bool.{true, _||_}
+use mathlib.Core.List.{List, [], _∷_}
 use mathlib.Core.Logic.{_⊎_, inl, inr}
-use mathlib.Core.Option.{Option, none, some}
+use mathlib.Core.Option.{some}
 use mathlib.Core.Path.{_≡_, refl, sym, ap, subst, _∙_}
 use Prim.Native.Nat.{ℕ, zero, suc, _+_, _≤_, _<_}
-use native.Mathlib.Nat.{zero-add, add-zero, add-suc, suc-add}
+use native.Mathlib.Nat.{zero-add, add-zero}
 use native.Mathlib.Decide.{decLt}
 use native.Mathlib.Omega.{arith}
-use lib.Dec.{eqb, ltb}
-use lib.ListN.{length, getElem?, take, length-append}
-use borrow.Author.Tests.{ltb-true, eqb-true, eq-eqb}
+use lib.Dec.{ltb}
+use lib.ListN.{length, getElem?, take}
+use borrow.Author.Tests.{ltb-true, eq-eqb}
 use Rattle.base.specs.Basic.{keep}
-use Rattle.base.specs.BoolLaws.{decide, true-false}
 use Rattle.base.specs.FlatLaws.{keep-position, position-keep}
-use Rattle.base.specs.ListLaws.{all-true, getElem?-lt, getElem?-member, getElem?-found, getElem?-same, some-injective, keep-yes, keep-no}
+use Rattle.base.specs.ListLaws.{all-true, getElem?-lt, getElem?-member, getElem?-found, getElem?-same, some-injective}
 use Rattle.text.specs.declared.Line.{Line}
-use Rattle.schedule.specs.Event.{Action, Event, by, isInsert, isDelete, isCommit, allObey}
+use Rattle.schedule.specs.Event.{Action, Event, by, isInsert, isDelete, isCommit}
 use Rattle.schedule.specs.Event.Action.{read, write, insert, delete, predicateRead, commit}
 use Rattle.schedule.specs.Schedule.{Transaction, Performed, Operation, Schedule, everyAttribute, operations, numbered, eventsOf, performed}
 use Rattle.dependency.specs.Dependency.{Numbered, Filled, Known}
 use Rattle.dependency.specs.Positions.{number-grows, one-position}
 use Rattle.committing.specs.Rules.{CommitsAt, Lawful}
-use Rattle.transactions.specs.Operations.{Does, does-test, does-read, does-write, does-insert, does-delete, Belongs, InStatement, operation-cases, commit-at}
+use Rattle.transactions.specs.Operations.{Does, does-test, does-read, does-write, does-insert, does-delete, InStatement, operation-cases, commit-at}
 
 -- the event that an operation of a transaction makes
 abbrev pub eventAt : ℕ → ℕ → Operation → Event

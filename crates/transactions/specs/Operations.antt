@@ -1,25 +1,23 @@
 -- The operations of one transaction: which statement each belongs to and what it does, in which order they stand.
-use mathlib.Core.Bool.{Bool, true, false, cond, not, _&&_, _||_}
-use mathlib.Core.List.{List, [], _∷_, _++_, map, flatMap, append-nil, List·Memᴰ, List·Memᴰ·head, List·Memᴰ·tail, List·Memᴰ·cases-cons, List·Memᴰ·append-cases}
+use mathlib.Core.Bool.{Bool, true, false, cond}
+use mathlib.Core.List.{List, [], _∷_, _++_, flatMap, append-nil, List·Memᴰ, List·Memᴰ·head, List·Memᴰ·tail}
 use mathlib.Core.Logic.{_⊎_, inl, inr}
-use mathlib.Core.Option.{Option, none, some}
+use mathlib.Core.Option.{Option, some}
 use mathlib.Core.Path.{_≡_, refl, sym, ap, subst, _∙_}
 use Prim.Native.Nat.{ℕ, zero, suc, _+_, _≤_, _<_}
-use native.Mathlib.Nat.{zero-add, add-zero, add-suc, suc-add}
-use native.Mathlib.Decide.{decLt}
+use native.Mathlib.Nat.{zero-add}
 use native.Mathlib.Omega.{arith}
 use lib.ListN.{length, getElem?, length-append}
-use Rattle.base.specs.BoolLaws.{true-false}
 use Rattle.base.specs.FlatLaws.{Chunk, position-cases, chunk-at, chunk-order, chunk-position}
-use Rattle.base.specs.ListLaws.{getElem?-lt, getElem?-append-left, getElem?-append-right, some-injective, getElem?-found, getElem?-member, getElem?-middle}
+use Rattle.base.specs.ListLaws.{getElem?-lt, getElem?-append-left, some-injective, getElem?-middle}
 use Rattle.text.specs.declared.StatementKind.{StatementKind}
 use Rattle.text.specs.declared.StatementKind.the-variants.{Is, Ks, Ps, Ku, Pu, Kd, Pd}
 use Rattle.graph.specs.Program.{Statement}
 use Rattle.graph.specs.Unfolding.{Occurrence, occurrences}
 use Rattle.graph.specs.Edge.{W, R, T, hasTests, hasReads, inserts, deletes, shields}
-use Rattle.schedule.specs.Event.{Action, Event, isWrite, isCommit}
+use Rattle.schedule.specs.Event.{Action, isWrite}
 use Rattle.schedule.specs.Event.Action.{read, write, insert, delete, predicateRead, commit}
-use Rattle.schedule.specs.Schedule.{Transaction, Performed, Operation, chosen, performedFrom, performed, everyAttribute, onTuple, operationsOf, operations, numbered, eventsOf}
+use Rattle.schedule.specs.Schedule.{Transaction, Performed, Operation, chosen, performedFrom, performed, everyAttribute, onTuple, operationsOf, operations}
 
 -- the statements that read and write each of their tuples
 abbrev pub updates : StatementKind → Bool

@@ -1,25 +1,24 @@
 -- The statement that an event of a schedule belongs to, and the order of the events of one transaction.
-use mathlib.Core.Bool.{Bool, true, false}
-use mathlib.Core.List.{List, [], _∷_, List·Memᴰ}
+use mathlib.Core.Bool.{true, false}
+use mathlib.Core.List.{List, List·Memᴰ}
 use mathlib.Core.Logic.{_⊎_, inl, inr}
-use mathlib.Core.Option.{Option, none, some}
+use mathlib.Core.Option.{some}
 use mathlib.Core.Path.{_≡_, refl, sym, ap, subst, _∙_}
-use Prim.Native.Nat.{ℕ, zero, suc, _+_, _≤_, _<_}
+use Prim.Native.Nat.{ℕ, suc, _≤_, _<_}
 use native.Mathlib.Decide.{decLt}
 use native.Mathlib.Omega.{arith}
 use lib.ListN.{length, getElem?}
 use Rattle.base.specs.BoolLaws.{true-false}
-use Rattle.base.specs.ListLaws.{getElem?-lt, getElem?-found, getElem?-same, some-injective}
+use Rattle.base.specs.ListLaws.{getElem?-lt, getElem?-found, getElem?-same}
 use Rattle.text.specs.declared.Line.{Line}
-use Rattle.graph.specs.Unfolding.{Occurrence, occurrences}
 use Rattle.graph.specs.Edge.{shields}
-use Rattle.schedule.specs.Event.{Action, Event, isWrite, isCommit}
-use Rattle.schedule.specs.Event.Action.{read, write, insert, delete, predicateRead, commit}
+use Rattle.schedule.specs.Event.{Event, isWrite, isCommit}
+use Rattle.schedule.specs.Event.Action.{read, commit}
 use Rattle.schedule.specs.Schedule.{Transaction, Performed, Operation, Schedule, operations, performed}
-use Rattle.dependency.specs.Positions.{number-grows, one-position}
-use Rattle.committing.specs.Rules.{CommitsAt, Lawful, statement-together}
-use Rattle.transactions.specs.Operations.{Belongs, Followed, InStatement, updates, statementOf, operation-cases, places-rise, performed-at, shield-writes}
-use Rattle.transactions.specs.Events.{Operates, eventAt, event-made, own-operates, operation-event, schedule-numbered, schedule-lawful}
+use Rattle.dependency.specs.Positions.{number-grows}
+use Rattle.committing.specs.Rules.{statement-together}
+use Rattle.transactions.specs.Operations.{Belongs, Followed, InStatement, updates, statementOf, operation-cases, places-rise, shield-writes}
+use Rattle.transactions.specs.Events.{Operates, eventAt, own-operates, operation-event, schedule-numbered, schedule-lawful}
 
 -- the operation of an event
 abbrev pub operationOf : Event → Operation
