@@ -1,0 +1,9 @@
+pub mod Answer
+pub mod DigitLaws
+pub mod Field
+pub mod FieldLaws
+pub mod KindLaws
+pub mod Progress
+pub mod Step
+pub mod StepLaws
+pub mod Unique

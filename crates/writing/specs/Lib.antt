@@ -1,0 +1,4 @@
+pub mod Printable
+pub mod Joined
+pub mod Texts
+pub mod Givens
