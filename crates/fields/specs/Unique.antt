@@ -256,6 +256,10 @@ text-of-line bytes {l} e =
 pub line-unique : (bytes : List ℕ) {l : Line} → lineOf bytes ≡ some l → bytes ++ (newline ∷ []) ≡ lineWritten l
 line-unique bytes {l} e = rw (line-ended l, text-of-line bytes e)
 
+-- so one line has one text
+pub same-text : (bytes others : List ℕ) {l : Line} → lineOf bytes ≡ some l → lineOf others ≡ some l → bytes ≡ others
+same-text bytes others e f = text-of-line bytes e ∙ sym (text-of-line others f)
+
 -- a value fits the form of its field
 unfoldable pub fits : Form → ℕ → Bool
 fits number n = ltb n 256
@@ -396,7 +400,7 @@ field-read set n e =
 field-read nothing n e = ap some (sym (eqb-true n 0 e))
 
 -- no field that is written has a space
-abbrev notSpace : ℕ → Bool
+abbrev pub notSpace : ℕ → Bool
 notSpace b = not (eqb b space)
 
 digit-no-space : (l : List ℕ) → all isHexadecimal l ≡ true → all notSpace l ≡ true
@@ -420,13 +424,18 @@ field-no-space set n e =
 field-no-space nothing n e = refl
 
 -- bytes with no space are in front of the first field behind them
-front-field : (field line : List ℕ) (fields : List (List ℕ)) → all notSpace field ≡ true → fieldsIn line ≡ [] ∷ fields
+pub front-field : (field line : List ℕ) (fields : List (List ℕ)) → all notSpace field ≡ true → fieldsIn line ≡ [] ∷ fields
     → fieldsIn (field ++ line) ≡ field ∷ fields
 unfolding fieldsIn onFirst
 front-field [] line fields e q = q
 front-field (b ∷ field) line fields e q =
     let tested : (notSpace b ≡ true) × (all notSpace field ≡ true) = and-true (notSpace b) (all notSpace field) e in
     rw (not-true (eqb b space) (tested .0), fieldsIn, front-field field line fields (tested .1) q)
+
+-- bytes with no space in front of a space are a field
+pub field-before-space : (field line : List ℕ) → all notSpace field ≡ true → fieldsIn (field ++ (space ∷ line)) ≡ field ∷ fieldsIn line
+unfolding fieldsIn
+field-before-space field line e = front-field field (space ∷ line) (fieldsIn line) e refl
 
 -- fields with no space, and a space in front of each, are the fields of the line behind an empty one
 spaced-fields : (fields : List (List ℕ)) → all (all notSpace) fields ≡ true → fieldsIn (spaced fields) ≡ [] ∷ fields
