@@ -1,0 +1,130 @@
+-- Slots: a table of n rows has n * n pairs of rows and two slots for each pair, the forward edge's first.
+use mathlib.Core.Bool.{Bool, cond}
+use mathlib.Core.List.{List, _++_, map}
+use mathlib.Core.Path.{_≡_}
+use Prim.Native.Nat.{ℕ, zero, suc, _+_, _-_, _*_, _/_, _%_, _<_}
+use lib.Dec.{eqb, ltb, leb}
+use lib.ListN.{length, drop}
+use Rattle.base.specs.Basic.{count}
+use Rattle.graph.specs.Graph as G
+use Rattle.graph.specs.Edge as E
+use Rattle.tables.specs.declared.Row.{Row}
+use Rattle.tables.specs.Table.{rowAt, rowCount, rowStands, rowEdge, tableRows, edgesOfRows}
+use Rattle.edges.specs.declared.Letter.{Letter}
+use Rattle.edges.specs.declared.Letter.the-variants.{A, B, C, D, E}
+use Rattle.edges.specs.declared.Edge.{Edge}
+use Rattle.edges.specs.declared.Counts.{Counts}
+
+-- ---- what the answers stand for
+
+-- the byte of a flow: f or b
+abbrev pub flowByte : G.Flow → ℕ
+flowByte G.Flow.forward = 0x66
+flowByte G.Flow.back = 0x62
+
+-- the byte of a letter
+abbrev pub letterByte : E.Letter → ℕ
+letterByte E.Letter.A = 0x41
+letterByte E.Letter.B = 0x42
+letterByte E.Letter.C = 0x43
+letterByte E.Letter.D = 0x44
+letterByte E.Letter.E = 0x45
+
+-- the code's own letters
+abbrev pub letterCode : E.Letter → Letter
+letterCode E.Letter.A = A
+letterCode E.Letter.B = B
+letterCode E.Letter.C = C
+letterCode E.Letter.D = D
+letterCode E.Letter.E = E
+
+abbrev pub letterMeant : Letter → E.Letter
+letterMeant A = E.Letter.A
+letterMeant B = E.Letter.B
+letterMeant C = E.Letter.C
+letterMeant D = E.Letter.D
+letterMeant E = E.Letter.E
+
+-- E6: an edge as the code holds it
+unfoldable pub coded : E.Edge → Edge
+coded e = record {
+  node = e .node;
+  leaves = e .leaves;
+  into = e .into;
+  enters = e .enters;
+  sharing = e .sharing;
+  lowest = e .lowest;
+  flow = flowByte (e .flow);
+  letter = letterByte (e .letter);
+}
+
+-- the edges of a table, and how many they are
+unfoldable pub tableEdges : List ℕ → List E.Edge
+tableEdges table = edgesOfRows (tableRows table)
+
+unfoldable pub tableCounts : List ℕ → Counts
+tableCounts table = record { edges = length (tableEdges table); back = count (λ e. G.isBack (e .flow)) (tableEdges table) }
+
+-- edges put at the front of an area that has room for them; one that is too short stays as it is
+unfoldable pub putInto : List E.Edge → List Edge → List Edge
+putInto edges area = cond (leb (length edges) (length area)) (map coded edges ++ drop (length edges) area) area
+
+-- how many edges are put: all, or none where they do not fit
+unfoldable pub fittingIn : List ℕ → ℕ → ℕ
+fittingIn table room = cond (leb (length (tableEdges table)) room) (length (tableEdges table)) 0
+
+-- ---- slots
+
+unfoldable pub slots : List ℕ → ℕ
+slots table = rowCount table * rowCount table * 2
+
+-- a slot of a table of n rows
+pub record InTable (table : List ℕ) (n x : ℕ) : Type 0 where
+  pub rows : n ≡ rowCount table
+  pub inside : x < n * n * 2
+
+abbrev pub flowAt : ℕ → G.Flow
+flowAt x = cond (eqb (x % 2) 0) G.Flow.forward G.Flow.back
+
+abbrev pub leftRow : List ℕ → ℕ → Row
+leftRow table x = rowAt table (x / 2 / rowCount table)
+
+abbrev pub rightRow : List ℕ → ℕ → Row
+rightRow table x = rowAt table (x / 2 % rowCount table)
+
+-- an edge stands in the slot
+unfoldable pub standsAt : List ℕ → ℕ → Bool
+standsAt table x = rowStands (flowAt x) (leftRow table x) (rightRow table x)
+
+-- the edge in the slot
+unfoldable pub slotEdge : List ℕ → ℕ → E.Edge
+slotEdge table x = rowEdge (flowAt x) (leftRow table x) (rightRow table x)
+
+abbrev pub noEdge : Edge
+noEdge = record { node = 0; leaves = 0; into = 0; enters = 0; sharing = 0; lowest = 0; flow = 0x66; letter = 0x41 }
+
+unfoldable pub edgeAt : List ℕ → ℕ → Edge
+edgeAt table x = cond (ltb x (slots table)) (coded (slotEdge table x)) noEdge
+
+-- the first slot from x on in which an edge stands, or the end
+unfoldable pub nextFrom : List ℕ → ℕ → ℕ → ℕ
+nextFrom table zero x = slots table
+nextFrom table (suc left) x = cond (standsAt table x) x (nextFrom table left (suc x))
+
+unfoldable pub nextSlot : List ℕ → ℕ → ℕ
+nextSlot table x = nextFrom table (slots table - x) x
+
+-- how many edges stand in the slots below x, and how many of them are back edges
+abbrev pub one : Bool → ℕ
+one b = cond b 1 0
+
+abbrev pub backOne : Bool → ℕ → ℕ
+backOne b x = cond b (cond (eqb (x % 2) 0) 0 1) 0
+
+unfoldable pub edgesBelow : List ℕ → ℕ → ℕ
+edgesBelow table zero = 0
+edgesBelow table (suc x) = edgesBelow table x + one (standsAt table x)
+
+unfoldable pub backBelow : List ℕ → ℕ → ℕ
+backBelow table zero = 0
+backBelow table (suc x) = backBelow table x + backOne (standsAt table x) x

@@ -1,0 +1,1 @@
+// Laws alone: the table of a workload's places.
