@@ -1,0 +1,12 @@
+pub mod Choosing
+pub mod Pairs
+pub mod ChoosingLaws
+pub mod Cap
+pub mod Codes
+pub mod CodesLaws
+pub mod Writing
+pub mod WritingLaws
+pub mod Pieces
+pub mod PiecesLaws
+pub mod Table
+pub mod TableLaws

@@ -1,0 +1,40 @@
+-- The table of what is written: each piece's program, start and length.
+use mathlib.Core.List.{List, [], _∷_, _++_, map}
+use Prim.Native.Nat.{ℕ, zero, suc, _+_, _-_}
+use lib.ListN.{length, set, replicate}
+use Rattle.choosing.specs.declared.Filled.{Filled}
+use Rattle.choosing.specs.Pieces.{Piece, flat}
+
+-- one row more
+unfoldable pub added : Filled → ℕ → ℕ → Filled
+added t program n =
+    record {
+      count = t .count + 1;
+      used = t .used + n;
+      program = set (t .program) (t .count) program;
+      start = set (t .start) (t .count) (t .used);
+      length = set (t .length) (t .count) n;
+    }
+
+unfoldable pub addAll : Filled → List Piece → Filled
+addAll t [] = t
+addAll t (p ∷ ps) = addAll (added t (p .program) (length (p .ids))) ps
+
+-- the place where each piece starts
+unfoldable pub starts : ℕ → List Piece → List ℕ
+starts s [] = []
+starts s (p ∷ ps) = s ∷ starts (s + length (p .ids)) ps
+
+-- 64 cells: a list, and 0 in those past it
+unfoldable pub cells : List ℕ → List ℕ
+cells l = l ++ replicate (64 - length l) 0
+
+unfoldable pub table : List Piece → Filled
+table ps =
+    record {
+      count = length ps;
+      used = length (flat ps);
+      program = cells (map (λ p. p .program) ps);
+      start = cells (starts 0 ps);
+      length = cells (map (λ p. length (p .ids)) ps);
+    }

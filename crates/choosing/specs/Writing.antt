@@ -1,0 +1,39 @@
+-- The statement ids of unfolding number k of a run of lines, over the numbers of the lines.
+use mathlib.Core.Bool.{cond}
+use mathlib.Core.List.{List, [], _∷_, _++_, map}
+use Prim.Native.Nat.{ℕ, zero, suc, _+_, _-_, _/_, _%_}
+use lib.Dec.{eqb, leb, ltb}
+use lib.ListN.{length, getD}
+use Rattle.graph.specs.Unfolding.{Occurrence}
+use Rattle.choosing.specs.declared.Counted.{Counted}
+use Rattle.choosing.specs.Codes.{after, itemAt, countAt}
+
+-- the statement ids of occurrences
+unfoldable pub placeIds : List Occurrence → List ℕ
+placeIds places = map (λ o. o .statement .id) places
+
+-- a loop's: no turn, one turn of each, two turns of each
+unfoldable pub writeLoop : (ℕ → List ℕ) → ℕ → ℕ → List ℕ
+writeLoop body n k =
+    cond (eqb k 0) [] (cond (leb k n) (body (k - 1)) (body ((k - 1 - n) / n) ++ body ((k - 1 - n) % n)))
+
+-- a branch's: the first arm's, then the second's
+unfoldable pub writeBranch : (ℕ → List ℕ) → (ℕ → List ℕ) → ℕ → ℕ → List ℕ
+writeBranch one two n k = cond (ltb k n) (one k) (two (k - n))
+
+-- the item at a place; `write` gives the run at a place, `count` counts it
+unfoldable pub writeItem : (ℕ → ℕ → List ℕ) → (ℕ → Counted) → List ℕ → List ℕ → ℕ → ℕ → List ℕ
+writeItem write count codes ids at k =
+    cond (eqb (getD codes at 0) 0) (getD ids at 0 ∷ [])
+    (cond (eqb (getD codes at 0) 1) (writeLoop (write (at + 1)) (count (at + 1) .count) k)
+    (writeBranch (write (at + 1)) (write (after (length codes) (count (at + 1) .end))) (count (at + 1) .count) k))
+
+-- the run at a place; the number bounds the lines, as in `runOf`
+unfoldable pub writeAt : ℕ → List ℕ → List ℕ → ℕ → ℕ → List ℕ
+writeAt zero codes ids at k = []
+writeAt (suc n) codes ids at k =
+    let more = itemAt (countAt n codes) codes at .end in
+    let c = countAt n codes more .count in
+    cond (leb (length codes) at) []
+    (cond (ltb 2 (getD codes at 0)) []
+    (writeItem (writeAt n codes ids) (countAt n codes) codes ids at (k / c) ++ writeAt n codes ids more (k % c)))

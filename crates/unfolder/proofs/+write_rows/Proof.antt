@@ -1,0 +1,181 @@
+use Rattle.unfolder.proofs.RowLaws.{rows-end, rows-step, rowed-nothing, row-room, row-cell, row-places, more-rows, rowed-next}
+use Rattle.choosing.specs.Pieces.{row}
+use Prim.Native.Nat.{_-_}
+use borrow.Author.Needs.{needs}
+use native.Mathlib.Omega.{arith}
+use mathlib.Core.Path.{_≡_, refl, ap, sym, _∙_}
+use lib.ListN.{length, set, getD, length-set, take, drop}
+use Prim.Native.Nat.{ℕ, _<_}
+use borrow.Fn.Kinds.{In}
+use borrow.Fn.PlainCycle.{Measures, is, falls, and}
+use Rattle.unfolder.proofs.write_rows.Reads as write-rows
+use Rattle.unfolder.proofs.write_rows.Kinds as write-rows-kinds
+use Rattle.unfolder.proofs.+write_rows.Lts-write_rows as write-rows-lts
+use Rattle.unfolder.proofs.add.Reads as add-reads
+use Rattle.unfolder.proofs.write_run.Reads as write-run-reads
+use Rattle.unfolder.proofs.+write_rows.{statement}
+use Rattle.unfolder.proofs.+write_rows.Tie.{close}
+
+abbrev μ-write-rows : Measures 3 write-rows-kinds.ps ℕ
+μ-write-rows κs a = a .1 .1 .1 .1 .1 .0 - a .1 .1 .1 .1 .0
+
+abbrev write-rows-at : ℕ → In 3 write-rows-kinds.ps
+write-rows-at t =
+    and 3 write-rows-kinds.ps (is 3 write-rows-kinds.ps μ-write-rows t) write-rows.Pre
+
+abbrev write-rows-below : ℕ → In 3 write-rows-kinds.ps
+write-rows-below t =
+    and 3 write-rows-kinds.ps (falls 3 write-rows-kinds.ps _<_ μ-write-rows t) write-rows.Pre
+
+-- src/lib.rt:287:9
+write-rows-returns : (t : ℕ) → write-rows-lts.Need-returns (
+  write-run-reads.Asked,
+  write-run-reads.Learnt,
+  add-reads.Asked,
+  add-reads.Learnt,
+  write-rows-below t,
+  write-rows.Post,
+) (write-rows-at t) write-rows.Post
+write-rows-returns t c =
+    rowed-nothing _ _ _ (rows-end (row (c .before .before .before .before .args .program) (c .before .before .before .before .args .codes .now) (c .before .before .before .before .args .ids .now) (c .before .before .before .before .args .at) (c .before .before .before .before .args .left)) (c .before .before .before .before .args .k) (c .before .before .before .before .args .n) (c .if1 .taken))
+
+-- src/lib.rt:289:9
+write-rows-write-run-requires : (t : ℕ) → write-rows-lts.Need-write-run-requires (
+  write-run-reads.Asked,
+  write-run-reads.Learnt,
+  add-reads.Asked,
+  add-reads.Learnt,
+  write-rows-below t,
+  write-rows.Post,
+) (write-rows-at t) write-rows.Post
+unfolding row
+write-rows-write-run-requires t c κs =
+    (search needs, row-room _ _ _ _ _ (rows-step (row (c .before .before .before .before .before .args .program) (c .before .before .before .before .before .args .codes .now) (c .before .before .before .before .before .args .ids .now) (c .before .before .before .before .before .args .at) (c .before .before .before .before .before .args .left)) (c .before .before .before .before .before .args .k) (c .before .before .before .before .before .args .n) (c .before .if1 .left)) (c .before .before .before .before .before .args .t) _ (c .before .before .before .before .before .pre .1 .1))
+
+-- src/lib.rt:290:9
+write-rows-add-requires : (t : ℕ) → write-rows-lts.Need-add-requires (
+  write-run-reads.Asked,
+  write-run-reads.Learnt,
+  add-reads.Asked,
+  add-reads.Learnt,
+  write-rows-below t,
+  write-rows.Post,
+) (write-rows-at t) write-rows.Post
+unfolding row
+write-rows-add-requires t c κs =
+    (row-cell _ _ _ _ _ (rows-step (row (c .before .before .before .before .before .before .before .before .args .program) (c .before .before .before .before .before .before .before .before .args .codes .now) (c .before .before .before .before .before .before .before .before .args .ids .now) (c .before .before .before .before .before .before .before .before .args .at) (c .before .before .before .before .before .before .before .before .args .left)) (c .before .before .before .before .before .before .before .before .args .k) (c .before .before .before .before .before .before .before .before .args .n) (c .before .before .before .before .if1 .left)) (c .before .before .before .before .before .before .before .before .args .t) _ (c .before .before .before .before .before .before .before .before .pre .1 .1), row-places _ _ _ _ _ (rows-step (row (c .before .before .before .before .before .before .before .before .args .program) (c .before .before .before .before .before .before .before .before .args .codes .now) (c .before .before .before .before .before .before .before .before .args .ids .now) (c .before .before .before .before .before .before .before .before .args .at) (c .before .before .before .before .before .before .before .before .args .left)) (c .before .before .before .before .before .before .before .before .args .k) (c .before .before .before .before .before .before .before .before .args .n) (c .before .before .before .before .if1 .left)) (c .before .before .before .before .before .before .before .before .args .t) _ (c .before .before .before .before .before .before .before .before .pre .1 .1) _ _ (c .before .before .write-run .ensures))
+
+-- src/lib.rt:291:38
+write-rows-add-write-rows : (t : ℕ) → write-rows-lts.Need-add-write-rows (
+  write-run-reads.Asked,
+  write-run-reads.Learnt,
+  add-reads.Asked,
+  add-reads.Learnt,
+  write-rows-below t,
+  write-rows.Post,
+) (write-rows-at t) write-rows.Post
+write-rows-add-write-rows t c = search needs
+
+-- src/lib.rt:291:60
+write-rows-mul-write-rows : (t : ℕ) → write-rows-lts.Need-mul-write-rows (
+  write-run-reads.Asked,
+  write-run-reads.Learnt,
+  add-reads.Asked,
+  add-reads.Learnt,
+  write-rows-below t,
+  write-rows.Post,
+) (write-rows-at t) write-rows.Post
+write-rows-mul-write-rows t c = search needs
+
+-- src/lib.rt:291:60
+write-rows-sub-write-rows : (t : ℕ) → write-rows-lts.Need-sub-write-rows (
+  write-run-reads.Asked,
+  write-run-reads.Learnt,
+  add-reads.Asked,
+  add-reads.Learnt,
+  write-rows-below t,
+  write-rows.Post,
+) (write-rows-at t) write-rows.Post
+write-rows-sub-write-rows t c = search needs
+
+-- src/lib.rt:291:60
+write-rows-part-write-rows-start : (t : ℕ) → write-rows-lts.Need-part-write-rows-start (
+  write-run-reads.Asked,
+  write-run-reads.Learnt,
+  add-reads.Asked,
+  add-reads.Learnt,
+  write-rows-below t,
+  write-rows.Post,
+) (write-rows-at t) write-rows.Post
+write-rows-part-write-rows-start t c = search needs
+
+-- src/lib.rt:291:60
+write-rows-part-write-rows-end : (t : ℕ) → write-rows-lts.Need-part-write-rows-end (
+  write-run-reads.Asked,
+  write-run-reads.Learnt,
+  add-reads.Asked,
+  add-reads.Learnt,
+  write-rows-below t,
+  write-rows.Post,
+) (write-rows-at t) write-rows.Post
+write-rows-part-write-rows-end t c = search needs
+
+-- src/lib.rt:291:5
+write-rows-write-rows-requires : (t : ℕ) → write-rows-lts.Need-write-rows-requires (
+  write-run-reads.Asked,
+  write-run-reads.Learnt,
+  add-reads.Asked,
+  add-reads.Learnt,
+  write-rows-below t,
+  write-rows.Post,
+) (write-rows-at t) write-rows.Post
+unfolding row
+write-rows-write-rows-requires t c κs =
+    (search needs, (search needs, more-rows _ _ _ _ _ (rows-step (row (c .before .before .before .before .before .before .before .before .before .before .args .program) (c .before .before .before .before .before .before .before .before .before .before .args .codes .now) (c .before .before .before .before .before .before .before .before .before .before .args .ids .now) (c .before .before .before .before .before .before .before .before .before .before .args .at) (c .before .before .before .before .before .before .before .before .before .before .args .left)) (c .before .before .before .before .before .before .before .before .before .before .args .k) (c .before .before .before .before .before .before .before .before .before .before .args .n) (c .before .before .before .before .before .before .if1 .left)) (c .before .before .before .before .before .before .before .before .before .before .args .t) _ (c .before .before .before .before .before .before .before .before .before .before .pre .1 .1) _ _ (c .before .before .before .before .write-run .ensures) _ (c .before .add .ensures)))
+
+-- src/lib.rt:281:1
+write-rows-same-length : (t : ℕ) → write-rows-lts.Need-same-length (
+  write-run-reads.Asked,
+  write-run-reads.Learnt,
+  add-reads.Asked,
+  add-reads.Learnt,
+  write-rows-below t,
+  write-rows.Post,
+) (write-rows-at t) write-rows.Post
+write-rows-same-length t c = search needs
+
+-- src/lib.rt:281:1
+write-rows-returns-2 : (t : ℕ) → write-rows-lts.Need-returns-2 (
+  write-run-reads.Asked,
+  write-run-reads.Learnt,
+  add-reads.Asked,
+  add-reads.Learnt,
+  write-rows-below t,
+  write-rows.Post,
+) (write-rows-at t) write-rows.Post
+unfolding row
+write-rows-returns-2 t c =
+    rowed-next _ _ _ _ _ (rows-step (row (c .before .before .before .before .before .before .before .before .before .before .before .before .before .args .program) (c .before .before .before .before .before .before .before .before .before .before .before .before .before .args .codes .now) (c .before .before .before .before .before .before .before .before .before .before .before .before .before .args .ids .now) (c .before .before .before .before .before .before .before .before .before .before .before .before .before .args .at) (c .before .before .before .before .before .before .before .before .before .before .before .before .before .args .left)) (c .before .before .before .before .before .before .before .before .before .before .before .before .before .args .k) (c .before .before .before .before .before .before .before .before .before .before .before .before .before .args .n) (c .before .before .before .before .before .before .before .before .before .if1 .left)) (c .before .before .before .before .before .before .before .before .before .before .before .before .before .args .t) _ (c .before .before .before .before .before .before .before .before .before .before .before .before .before .pre .1 .1) _ _ (c .before .before .before .before .before .before .before .write-run .ensures) _ _ _ (c .before .before .before .before .add .ensures) (c .before .before .write-rows .ensures)
+
+pub +write-rows-spec : {M : Type 1} → statement M
++write-rows-spec = close μ-write-rows λ t. write-rows-lts.spec (
+  write-run-reads.Asked,
+  write-run-reads.Learnt,
+  add-reads.Asked,
+  add-reads.Learnt,
+  write-rows-below t,
+  write-rows.Post,
+)
+    (write-rows-at t)
+    write-rows.Post
+    (write-rows-returns t)
+    (write-rows-write-run-requires t)
+    (write-rows-add-requires t)
+    (write-rows-add-write-rows t)
+    (write-rows-mul-write-rows t)
+    (write-rows-sub-write-rows t)
+    (write-rows-part-write-rows-start t)
+    (write-rows-part-write-rows-end t)
+    (write-rows-write-rows-requires t)
+    (write-rows-same-length t)
+    (write-rows-returns-2 t)

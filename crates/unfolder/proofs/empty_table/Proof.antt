@@ -1,0 +1,19 @@
+use Rattle.choosing.specs.Table.{table, cells, starts}
+use Rattle.choosing.specs.Pieces.{flat}
+use borrow.Author.Needs.{needs}
+use native.Mathlib.Omega.{arith}
+use mathlib.Core.Path.{_≡_, refl, ap, sym, _∙_}
+use Prim.Native.Nat.{ℕ, _+_, _-_, _*_, _≤_, _<_}
+use lib.ListN.{length, set, getD, length-set, take, drop}
+use Rattle.unfolder.proofs.empty_table.Statement.{statement}
+use Rattle.unfolder.proofs.empty_table.Tie as tie
+use Rattle.unfolder.proofs.empty_table.Reads as reads
+use Rattle.unfolder.proofs.empty_table.Lts as lts
+
+-- src/lib.rt:321:1
+returns : tie.Need-returns
+unfolding table cells starts flat
+returns c = refl
+
+pub empty-table-spec : {M : Type 1} → statement M
+empty-table-spec = tie.close (tie.spec returns)

@@ -1,0 +1,29 @@
+use Rattle.unfolder.proofs.LineLaws.{program-stays, program-next}
+use native.Mathlib.Omega.{arith}
+use mathlib.Core.Path.{_≡_, refl, ap, sym, _∙_}
+use Prim.Native.Nat.{ℕ, _+_, _-_, _*_, _≤_, _<_}
+use lib.ListN.{length, set, getD, length-set, take, drop}
+use borrow.Author.Needs.{needs}
+use Rattle.unfolder.proofs.next_program.Statement.{statement}
+use Rattle.unfolder.proofs.next_program.Tie as tie
+use Rattle.unfolder.proofs.next_program.Reads as reads
+use Rattle.unfolder.proofs.next_program.Lts as lts
+
+-- src/lib.rt:315:8
+shared-slice-read-if1 : tie.Need-shared-slice-read-if1
+shared-slice-read-if1 c = search needs
+
+-- src/lib.rt:316:9
+returns : tie.Need-returns
+returns c = program-stays _ _ _ (c .if1 .taken)
+
+-- src/lib.rt:318:5
+add-result : tie.Need-add-result
+add-result c = search needs
+
+-- src/lib.rt:311:1
+returns-2 : tie.Need-returns-2
+returns-2 c = program-next _ _ _ (c .if1 .left)
+
+pub next-program-spec : {M : Type 1} → statement M
+next-program-spec = tie.close (tie.spec shared-slice-read-if1 returns add-result returns-2)

@@ -1,0 +1,18 @@
+use Rattle.unfolder.specs.Result.{refusedWith}
+use borrow.Author.Needs.{needs}
+use native.Mathlib.Omega.{arith}
+use mathlib.Core.Path.{_≡_, refl, ap, sym, _∙_}
+use Prim.Native.Nat.{ℕ, _+_, _-_, _*_, _≤_, _<_}
+use lib.ListN.{length, set, getD, length-set, take, drop}
+use Rattle.unfolder.proofs.refused.Statement.{statement}
+use Rattle.unfolder.proofs.refused.Tie as tie
+use Rattle.unfolder.proofs.refused.Reads as reads
+use Rattle.unfolder.proofs.refused.Lts as lts
+
+-- src/lib.rt:354:1
+returns : tie.Need-returns
+unfolding refusedWith
+returns c = refl
+
+pub refused-spec : {M : Type 1} → statement M
+refused-spec = tie.close (tie.spec returns)

@@ -1,0 +1,18 @@
+use Rattle.unfolder.specs.Result.{tableTold}
+use borrow.Author.Needs.{needs}
+use native.Mathlib.Omega.{arith}
+use mathlib.Core.Path.{_≡_, refl, ap, sym, _∙_}
+use Prim.Native.Nat.{ℕ, _+_, _-_, _*_, _≤_, _<_}
+use lib.ListN.{length, set, getD, length-set, take, drop}
+use Rattle.unfolder.proofs.told.Statement.{statement}
+use Rattle.unfolder.proofs.told.Tie as tie
+use Rattle.unfolder.proofs.told.Reads as reads
+use Rattle.unfolder.proofs.told.Lts as lts
+
+-- src/lib.rt:360:1
+returns : tie.Need-returns
+unfolding tableTold
+returns c = refl
+
+pub told-spec : {M : Type 1} → statement M
+told-spec = tie.close (tie.spec returns)
