@@ -2,3 +2,5 @@ pub mod TextLaws
 pub mod ReadingLaws
 pub mod SizeLaws
 pub mod ValueLaws
+pub mod State
+pub mod StateLaws

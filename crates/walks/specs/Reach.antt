@@ -508,6 +508,12 @@ module _ (g : Graph) where
   reached-all regular w s (along {m} i x j flow h r) k =
       reached-all regular w s r (reached-closed w s k (joins-of regular flow m i x j h) (regular .inNodes m i x j flow h .1))
 
+  -- a node that a way of any length reaches is reached in fewer steps than there are nodes
+  pub reach-short : Regular g → (w : ℕ) → w < g .size → {n : ℕ} → Reachable g w n
+      → (r : Reachable g w n) × (length (stepsOf r) ≤ roundsFor (g .size))
+  unfolding Within
+  reach-short regular w s r = reached-within w (reached-all regular w s r (reached-first w))
+
   -- both parts of what closes
   closesAt-both : (w v k : ℕ) → closesAt g w v k ≡ leavesFor g Flow.back v k w && any (opens g k v) (reachedFrom g w)
   unfolding closesAt

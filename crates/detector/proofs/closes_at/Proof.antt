@@ -1,0 +1,69 @@
+use Rattle.detector.specs.Paths.{closes-reached, closes-not}
+use Rattle.detector.specs.Table.{closesAt, aheadIn, behindIn}
+use native.Mathlib.Omega.{arith}
+use mathlib.Core.Path.{_≡_, refl, ap, sym, _∙_}
+use Prim.Native.Nat.{ℕ, _+_, _-_, _*_, _≤_, _<_}
+use lib.ListN.{length, set, getD, length-set, take, drop}
+use borrow.Author.Needs.{needs}
+use Rattle.detector.proofs.closes_at.Statement.{statement}
+use Rattle.detector.proofs.closes_at.Tie as tie
+use Rattle.detector.proofs.closes_at.Reads as reads
+use Rattle.detector.proofs.closes_at.Lts as lts
+use Rattle.detector.proofs.dangerous.Reads as dangerous-reads
+use Rattle.detector.proofs.has_bit.Reads as has-bit-reads
+use Rattle.detector.proofs.word_at.Reads as word-at-reads
+
+-- src/lib.rt:130:28
+mul-word-at : tie.Need-mul-word-at
+mul-word-at c = search needs
+
+-- src/lib.rt:130:28
+add-word-at : tie.Need-add-word-at
+add-word-at c = search needs
+
+-- src/lib.rt:130:9
+word-at-requires : tie.Need-word-at-requires
+word-at-requires c κs = search needs
+
+-- src/lib.rt:131:29
+mul-word-at-2 : tie.Need-mul-word-at-2
+mul-word-at-2 c = search needs
+
+-- src/lib.rt:131:29
+add-word-at-2 : tie.Need-add-word-at-2
+add-word-at-2 c = search needs
+
+-- src/lib.rt:131:9
+word-at-requires-2 : tie.Need-word-at-requires-2
+word-at-requires-2 c κs = search needs
+
+-- src/lib.rt:132:8
+dangerous-requires : tie.Need-dangerous-requires
+dangerous-requires c κs = search needs
+
+-- src/lib.rt:133:9
+has-bit-requires : tie.Need-has-bit-requires
+has-bit-requires c κs = search needs
+
+-- src/lib.rt:133:9
+returns : tie.Need-returns
+returns c = closes-reached _ _ _ _ _ (c .before .before .before .before .word-at .ensures) (c .before .before .before .word-at2 .ensures) (c .before .before .dangerous .ensures) (c .before .if1 .taken) (c .has-bit .ensures)
+
+-- src/lib.rt:126:1
+returns-2 : tie.Need-returns-2
+returns-2 c = closes-not _ _ _ _ _ (c .before .before .before .word-at .ensures) (c .before .before .word-at2 .ensures) (c .before .dangerous .ensures) (c .if1 .left)
+
+pub closes-at-spec : {M : Type 1} → statement M
+closes-at-spec =
+    tie.close
+    (tie.spec
+    mul-word-at
+    add-word-at
+    word-at-requires
+    mul-word-at-2
+    add-word-at-2
+    word-at-requires-2
+    dangerous-requires
+    has-bit-requires
+    returns
+    returns-2)

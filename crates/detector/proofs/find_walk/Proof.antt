@@ -1,0 +1,60 @@
+use Rattle.detector.specs.ShowLaws.{shown-short, shown-none, shown-found, found-pair}
+use native.Mathlib.Omega.{arith}
+use mathlib.Core.Path.{_≡_, refl, ap, sym, _∙_}
+use Prim.Native.Nat.{ℕ, _+_, _-_, _*_, _≤_, _<_}
+use lib.ListN.{length, set, getD, length-set, take, drop}
+use borrow.Author.Needs.{needs}
+use Rattle.detector.proofs.find_walk.Statement.{statement}
+use Rattle.detector.proofs.find_walk.Tie as tie
+use Rattle.detector.proofs.find_walk.Reads as reads
+use Rattle.detector.proofs.find_walk.Lts as lts
+use Rattle.detector.proofs.joined_rows.Reads as joined-rows-reads
+use Rattle.detector.proofs.node_in.Reads as node-in-reads
+use Rattle.detector.proofs.pair_for.Reads as pair-for-reads
+use Rattle.detector.proofs.put_walk.Reads as put-walk-reads
+
+-- src/lib.rt:272:9
+returns : tie.Need-returns
+returns c = shown-short _ _ _ (c .if1 .taken)
+
+-- src/lib.rt:274:9
+joined-rows-requires : tie.Need-joined-rows-requires
+joined-rows-requires c κs = search needs
+
+-- src/lib.rt:275:9
+node-in-requires : tie.Need-node-in-requires
+node-in-requires c κs = search needs
+
+-- src/lib.rt:277:9
+returns-2 : tie.Need-returns-2
+returns-2 c = shown-none _ _ _ (c .before .before .before .if1 .left) (c .before .before .joined-rows .ensures) (c .before .node-in .ensures) (c .if2 .taken)
+
+-- src/lib.rt:279:9
+pair-for-requires : tie.Need-pair-for-requires
+pair-for-requires c κs = search needs
+
+-- src/lib.rt:280:5
+put-walk-requires : tie.Need-put-walk-requires
+put-walk-requires c κs = (c .before .before .if2 .left, found-pair _ _ _ (c .before .before .before .node-in .ensures) (c .before .before .if2 .left) (c .before .pair-for .ensures), c .before .before .before .before .before .if1 .left)
+
+-- src/lib.rt:268:1
+same-length : tie.Need-same-length
+same-length c = search needs
+
+-- src/lib.rt:268:1
+returns-3 : tie.Need-returns-3
+returns-3 c = shown-found _ _ _ (c .before .before .before .before .before .before .before .before .if1 .left) (c .before .before .before .before .before .before .before .joined-rows .ensures) (c .before .before .before .before .before .before .node-in .ensures) (c .before .before .before .before .before .if2 .left) (c .before .before .before .before .pair-for .ensures)
+    (c .before .before .put-walk .ensures)
+
+pub find-walk-spec : {M : Type 1} → statement M
+find-walk-spec =
+    tie.close
+    (tie.spec
+    returns
+    joined-rows-requires
+    node-in-requires
+    returns-2
+    pair-for-requires
+    put-walk-requires
+    same-length
+    returns-3)

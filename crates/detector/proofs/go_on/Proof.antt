@@ -1,0 +1,82 @@
+use Rattle.detector.specs.Paths.{lowest-below}
+use lib.Bits.{bitAnd}
+use Rattle.detector.specs.Paths.{lowest-small, go-stays, go-along}
+use Rattle.detector.specs.Table.{goOn, writing, putStep, aheadStep, lowest}
+use native.Mathlib.Omega.{arith}
+use mathlib.Core.Path.{_≡_, refl, ap, sym, _∙_}
+use Prim.Native.Nat.{ℕ, _+_, _-_, _*_, _≤_, _<_}
+use lib.ListN.{length, set, getD, length-set, take, drop}
+use borrow.Author.Needs.{needs}
+use Rattle.detector.proofs.go_on.Statement.{statement}
+use Rattle.detector.proofs.go_on.Tie as tie
+use Rattle.detector.proofs.go_on.Reads as reads
+use Rattle.detector.proofs.go_on.Lts as lts
+use Rattle.detector.proofs.has_bit.Reads as has-bit-reads
+use Rattle.detector.proofs.lowest_in.Reads as lowest-in-reads
+use Rattle.detector.proofs.put_ahead.Reads as put-ahead-reads
+use Rattle.detector.proofs.word_at.Reads as word-at-reads
+
+-- src/lib.rt:222:8
+has-bit-requires : tie.Need-has-bit-requires
+has-bit-requires c κs = search needs
+
+-- src/lib.rt:223:9
+returns : tie.Need-returns
+returns c = go-stays _ _ _ _ _ _ (c .before .has-bit .ensures) (c .if1 .taken)
+
+-- src/lib.rt:225:23
+mul-lowest-in : tie.Need-mul-lowest-in
+mul-lowest-in c = search needs
+
+-- src/lib.rt:225:23
+array-read-lowest-in : tie.Need-array-read-lowest-in
+array-read-lowest-in c = search needs
+
+-- src/lib.rt:225:9
+lowest-in-requires : tie.Need-lowest-in-requires
+lowest-in-requires c κs = search needs
+
+-- src/lib.rt:226:28
+mul-word-at : tie.Need-mul-word-at
+mul-word-at c = search needs
+
+-- src/lib.rt:226:28
+add-word-at : tie.Need-add-word-at
+add-word-at c = let h = lowest-below _ _ (c .lowest-in .ensures) in record { fits = omega arith }
+
+-- src/lib.rt:226:9
+word-at-requires : tie.Need-word-at-requires
+word-at-requires c κs = search needs
+
+-- src/lib.rt:227:5
+put-ahead-requires : tie.Need-put-ahead-requires
+put-ahead-requires c κs = search needs
+
+-- src/lib.rt:230:16
+add-t11 : tie.Need-add-t11
+add-t11 c = search needs
+
+-- src/lib.rt:218:1
+same-length : tie.Need-same-length
+same-length c = search needs
+
+-- src/lib.rt:218:1
+returns-2 : tie.Need-returns-2
+returns-2 c = go-along _ _ _ _ _ _ (c .before .before .before .before .before .before .before .has-bit .ensures) (c .before .before .before .before .before .before .if1 .left) (c .before .before .before .before .before .lowest-in .ensures) (c .before .before .before .before .word-at .ensures) (c .before .before .put-ahead .ensures)
+
+pub go-on-spec : {M : Type 1} → statement M
+go-on-spec =
+    tie.close
+    (tie.spec
+    has-bit-requires
+    returns
+    mul-lowest-in
+    array-read-lowest-in
+    lowest-in-requires
+    mul-word-at
+    add-word-at
+    word-at-requires
+    put-ahead-requires
+    add-t11
+    same-length
+    returns-2)

@@ -1,0 +1,64 @@
+use native.Mathlib.Numerals.{add-one}
+use Rattle.detector.specs.Table.{withBit, wordBelow, growsTo, grown}
+use borrow.Author.Needs.{needs}
+use native.Mathlib.Omega.{arith}
+use mathlib.Core.Path.{_≡_, refl, ap, sym, _∙_}
+use Prim.Native.Nat.{ℕ, _+_, _-_, _*_, _≤_, _<_}
+use lib.ListN.{length, set, getD, length-set, take, drop}
+use Rattle.detector.proofs.grow.Statement.{statement}
+use Rattle.detector.proofs.grow.Tie as tie
+use Rattle.detector.proofs.grow.Reads as reads
+use Rattle.detector.proofs.grow.Lts as lts
+use Rattle.detector.proofs.grows_to.Reads as grows-to-reads
+use Rattle.detector.proofs.with_bit.Reads as with-bit-reads
+
+abbrev Inv-loop : tie.InvT-loop
+Inv-loop rows nodes word₀ k₀ word k = (k ≤ 64) × (word ≡ wordBelow (growsTo rows nodes) k)
+
+abbrev μ-loop : tie.MeasureT-loop
+μ-loop rows nodes word₀ k₀ word k = 64 - k
+
+-- src/lib.rt:85:5
+loop-holds : tie.Need-loop-holds Inv-loop μ-loop
+unfolding wordBelow
+loop-holds c = (omega arith, refl)
+
+-- src/lib.rt:86:13
+grows-to-requires : tie.Need-grows-to-requires Inv-loop μ-loop
+grows-to-requires c κs = search needs
+
+-- src/lib.rt:87:9
+with-bit-requires : tie.Need-with-bit-requires Inv-loop μ-loop
+with-bit-requires c κs = search needs
+
+-- src/lib.rt:88:9
+add-k : tie.Need-add-k Inv-loop μ-loop
+add-k c = search needs
+
+-- src/lib.rt:85:5
+loop-less : tie.Need-loop-less Inv-loop μ-loop
+loop-less c = search needs
+
+-- src/lib.rt:85:5
+loop-again : tie.Need-loop-again Inv-loop μ-loop
+unfolding wordBelow
+loop-again c = (omega arith, rw add-one (cc))
+
+-- src/lib.rt:80:1
+returns : tie.Need-returns Inv-loop μ-loop
+unfolding grown
+returns c = let e : c .before .loop .k ≡ 64 = omega arith in cc
+
+pub grow-spec : {M : Type 1} → statement M
+grow-spec =
+    tie.close
+    (tie.spec
+    Inv-loop
+    μ-loop
+    loop-holds
+    grows-to-requires
+    with-bit-requires
+    add-k
+    loop-less
+    loop-again
+    returns)

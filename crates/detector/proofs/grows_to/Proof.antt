@@ -1,0 +1,37 @@
+use Rattle.detector.specs.Table.{growsTo}
+use native.Mathlib.Omega.{arith}
+use mathlib.Core.Path.{_≡_, refl, ap, sym, _∙_}
+use Prim.Native.Nat.{ℕ, _+_, _-_, _*_, _≤_, _<_}
+use lib.ListN.{length, set, getD, length-set, take, drop}
+use borrow.Author.Needs.{needs}
+use Rattle.detector.proofs.grows_to.Statement.{statement}
+use Rattle.detector.proofs.grows_to.Tie as tie
+use Rattle.detector.proofs.grows_to.Reads as reads
+use Rattle.detector.proofs.grows_to.Lts as lts
+use Rattle.detector.proofs.has_bit.Reads as has-bit-reads
+
+-- src/lib.rt:73:8
+has-bit-requires : tie.Need-has-bit-requires
+has-bit-requires c κs = search needs
+
+-- src/lib.rt:74:9
+returns : tie.Need-returns
+unfolding growsTo
+returns c = simp (← c .before .has-bit .ensures, c .if1 .taken)
+
+-- src/lib.rt:76:5
+mul-result : tie.Need-mul-result
+mul-result c = search needs
+
+-- src/lib.rt:76:5
+array-read-result : tie.Need-array-read-result
+array-read-result c = search needs
+
+-- src/lib.rt:69:1
+returns-2 : tie.Need-returns-2
+unfolding growsTo
+returns-2 c = simp (← c .before .has-bit .ensures, c .if1 .left)
+
+pub grows-to-spec : {M : Type 1} → statement M
+grows-to-spec =
+    tie.close (tie.spec has-bit-requires returns mul-result array-read-result returns-2)

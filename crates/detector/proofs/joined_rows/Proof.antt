@@ -1,0 +1,68 @@
+use native.Mathlib.Numerals.{add-one}
+use Rattle.detector.specs.Table.{joinedRow, listBelow, joinedRows}
+use borrow.Author.Needs.{needs}
+use native.Mathlib.Omega.{arith}
+use mathlib.Core.Path.{_≡_, refl, ap, sym, _∙_}
+use Prim.Native.Nat.{ℕ, _+_, _-_, _*_, _≤_, _<_}
+use lib.ListN.{length, set, getD, length-set, take, drop}
+use Rattle.detector.proofs.joined_rows.Statement.{statement}
+use Rattle.detector.proofs.joined_rows.Tie as tie
+use Rattle.detector.proofs.joined_rows.Reads as reads
+use Rattle.detector.proofs.joined_rows.Lts as lts
+use Rattle.detector.proofs.joined_row.Reads as joined-row-reads
+
+abbrev Inv-loop : tie.InvT-loop
+Inv-loop ahead rows₀ u₀ rows u = (u ≤ 64) × (rows ≡ listBelow (joinedRow ahead) u)
+
+abbrev μ-loop : tie.MeasureT-loop
+μ-loop ahead rows₀ u₀ rows u = 64 - u
+
+-- src/lib.rt:62:5
+loop-holds : tie.Need-loop-holds Inv-loop μ-loop
+unfolding listBelow
+loop-holds c = (omega arith, refl)
+
+-- src/lib.rt:63:19
+joined-row-requires : tie.Need-joined-row-requires Inv-loop μ-loop
+joined-row-requires c κs = search needs
+
+-- src/lib.rt:63:9
+mul-rows : tie.Need-mul-rows Inv-loop μ-loop
+mul-rows c = search needs
+
+-- src/lib.rt:63:9
+array-write-rows : tie.Need-array-write-rows Inv-loop μ-loop
+array-write-rows c = search needs
+
+-- src/lib.rt:64:9
+add-u : tie.Need-add-u Inv-loop μ-loop
+add-u c = search needs
+
+-- src/lib.rt:62:5
+loop-less : tie.Need-loop-less Inv-loop μ-loop
+loop-less c = search needs
+
+-- src/lib.rt:62:5
+loop-again : tie.Need-loop-again Inv-loop μ-loop
+unfolding listBelow
+loop-again c = (omega arith, rw add-one (cc))
+
+-- src/lib.rt:57:1
+returns : tie.Need-returns Inv-loop μ-loop
+unfolding joinedRows
+returns c = let e : c .before .loop .u ≡ 64 = omega arith in cc
+
+pub joined-rows-spec : {M : Type 1} → statement M
+joined-rows-spec =
+    tie.close
+    (tie.spec
+    Inv-loop
+    μ-loop
+    loop-holds
+    joined-row-requires
+    mul-rows
+    array-write-rows
+    add-u
+    loop-less
+    loop-again
+    returns)

@@ -1,0 +1,22 @@
+use Rattle.detector.specs.Table.{lowest}
+use native.Mathlib.Omega.{arith}
+use mathlib.Core.Path.{_≡_, refl, ap, sym, _∙_}
+use Prim.Native.Nat.{ℕ, _+_, _-_, _*_, _≤_, _<_}
+use lib.ListN.{length, set, getD, length-set, take, drop}
+use borrow.Author.Needs.{needs}
+use Rattle.detector.proofs.lowest_in.Statement.{statement}
+use Rattle.detector.proofs.lowest_in.Tie as tie
+use Rattle.detector.proofs.lowest_in.Reads as reads
+use Rattle.detector.proofs.lowest_in.Lts as lts
+
+-- src/lib.rt:180:5
+cast-result : tie.Need-cast-result
+cast-result c = search needs
+
+-- src/lib.rt:177:1
+returns : tie.Need-returns
+unfolding lowest
+returns c = refl
+
+pub lowest-in-spec : {M : Type 1} → statement M
+lowest-in-spec = tie.close (tie.spec cast-result returns)

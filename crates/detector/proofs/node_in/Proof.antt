@@ -1,0 +1,63 @@
+use Rattle.detector.specs.Table.{hasPair, nodeIn, firstFrom}
+use Rattle.detector.specs.Paths.{pair-passes, pair-fails}
+use Rattle.detector.specs.Turns.{search-stop, search-turn, search-end}
+use borrow.Author.Needs.{needs}
+use native.Mathlib.Omega.{arith}
+use mathlib.Core.Path.{_≡_, refl, ap, sym, _∙_}
+use Prim.Native.Nat.{ℕ, _+_, _-_, _*_, _≤_, _<_}
+use lib.ListN.{length, set, getD, length-set, take, drop}
+use Rattle.detector.proofs.node_in.Statement.{statement}
+use Rattle.detector.proofs.node_in.Tie as tie
+use Rattle.detector.proofs.node_in.Reads as reads
+use Rattle.detector.proofs.node_in.Lts as lts
+use Rattle.detector.proofs.pair_for.Reads as pair-for-reads
+
+abbrev Inv-loop : tie.InvT-loop
+Inv-loop ahead behind rows u₀ u = (u ≤ 64) × (firstFrom (hasPair ahead behind rows) (64 - u) u ≡ firstFrom (hasPair ahead behind rows) 64 0)
+
+abbrev μ-loop : tie.MeasureT-loop
+μ-loop ahead behind rows u₀ u = 64 - u
+
+-- src/lib.rt:168:5
+loop-holds : tie.Need-loop-holds Inv-loop μ-loop
+loop-holds c = (omega arith, refl)
+
+-- src/lib.rt:169:12
+pair-for-requires : tie.Need-pair-for-requires Inv-loop μ-loop
+pair-for-requires c κs = search needs
+
+-- src/lib.rt:170:13
+returns : tie.Need-returns Inv-loop μ-loop
+unfolding nodeIn
+returns c = search-stop _ _ _ (c .before .before .before .loop .inv .1) (c .before .before .loop-test .taken) (pair-passes _ _ _ _ (c .before .pair-for .ensures) (c .if1 .taken))
+
+-- src/lib.rt:172:9
+add-u : tie.Need-add-u Inv-loop μ-loop
+add-u c = search needs
+
+-- src/lib.rt:168:5
+loop-less : tie.Need-loop-less Inv-loop μ-loop
+loop-less c = search needs
+
+-- src/lib.rt:168:5
+loop-again : tie.Need-loop-again Inv-loop μ-loop
+loop-again c = (omega arith, search-turn _ _ _ (c .before .before .before .loop .inv .1) (c .before .before .loop-test .taken) (pair-fails _ _ _ _ (c .before .pair-for .ensures) (c .if1 .left)))
+
+-- src/lib.rt:164:1
+returns-2 : tie.Need-returns-2 Inv-loop μ-loop
+unfolding nodeIn
+returns-2 c = search-end _ _ _ (c .before .loop .inv .1) (c .before .loop .inv .0) (c .loop-test .left)
+
+pub node-in-spec : {M : Type 1} → statement M
+node-in-spec =
+    tie.close
+    (tie.spec
+    Inv-loop
+    μ-loop
+    loop-holds
+    pair-for-requires
+    returns
+    add-u
+    loop-less
+    loop-again
+    returns-2)

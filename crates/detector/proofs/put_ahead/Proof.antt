@@ -1,0 +1,27 @@
+use Rattle.detector.specs.Table.{putWords, putStep, aheadStep}
+use native.Mathlib.Omega.{arith}
+use mathlib.Core.Path.{_≡_, refl, ap, sym, _∙_}
+use Prim.Native.Nat.{ℕ, _+_, _-_, _*_, _≤_, _<_}
+use lib.ListN.{length, set, getD, length-set, take, drop}
+use borrow.Author.Needs.{needs}
+use Rattle.detector.proofs.put_ahead.Statement.{statement}
+use Rattle.detector.proofs.put_ahead.Tie as tie
+use Rattle.detector.proofs.put_ahead.Reads as reads
+use Rattle.detector.proofs.put_ahead.Lts as lts
+use Rattle.detector.proofs.put_words.Reads as put-words-reads
+
+-- src/lib.rt:200:5
+put-words-requires : tie.Need-put-words-requires
+put-words-requires c κs = search needs
+
+-- src/lib.rt:196:1
+same-length : tie.Need-same-length
+same-length c = search needs
+
+-- src/lib.rt:196:1
+returns : tie.Need-returns
+unfolding putStep
+returns c = c .before .before .put-words .ensures
+
+pub put-ahead-spec : {M : Type 1} → statement M
+put-ahead-spec = tie.close (tie.spec put-words-requires same-length returns)

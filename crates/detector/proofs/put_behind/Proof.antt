@@ -1,0 +1,31 @@
+use Rattle.detector.specs.Table.{putWords, putStep, behindStep}
+use native.Mathlib.Omega.{arith}
+use mathlib.Core.Path.{_≡_, refl, ap, sym, _∙_}
+use Prim.Native.Nat.{ℕ, _+_, _-_, _*_, _≤_, _<_}
+use lib.ListN.{length, set, getD, length-set, take, drop}
+use borrow.Author.Needs.{needs}
+use Rattle.detector.proofs.put_behind.Statement.{statement}
+use Rattle.detector.proofs.put_behind.Tie as tie
+use Rattle.detector.proofs.put_behind.Reads as reads
+use Rattle.detector.proofs.put_behind.Lts as lts
+use Rattle.detector.proofs.put_words.Reads as put-words-reads
+
+-- src/lib.rt:208:36
+sub-put-words : tie.Need-sub-put-words
+sub-put-words c = search needs
+
+-- src/lib.rt:208:5
+put-words-requires : tie.Need-put-words-requires
+put-words-requires c κs = search needs
+
+-- src/lib.rt:204:1
+same-length : tie.Need-same-length
+same-length c = search needs
+
+-- src/lib.rt:204:1
+returns : tie.Need-returns
+unfolding putStep
+returns c = c .before .before .put-words .ensures
+
+pub put-behind-spec : {M : Type 1} → statement M
+put-behind-spec = tie.close (tie.spec sub-put-words put-words-requires same-length returns)

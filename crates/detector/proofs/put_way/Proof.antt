@@ -1,0 +1,70 @@
+use Rattle.detector.specs.Table.{wayOn, WayTurn}
+use Rattle.detector.specs.Paths.{way-first, way-turn, way-end}
+use borrow.Author.Needs.{needs}
+use native.Mathlib.Omega.{arith}
+use mathlib.Core.Path.{_≡_, refl, ap, sym, _∙_}
+use Prim.Native.Nat.{ℕ, _+_, _-_, _*_, _≤_, _<_}
+use lib.ListN.{length, set, getD, length-set, take, drop}
+use Rattle.detector.proofs.put_way.Statement.{statement}
+use Rattle.detector.proofs.put_way.Tie as tie
+use Rattle.detector.proofs.put_way.Reads as reads
+use Rattle.detector.proofs.put_way.Lts as lts
+use Rattle.detector.proofs.go_on.Reads as go-on-reads
+
+abbrev Inv-loop : tie.InvT-loop
+Inv-loop ahead rows w out₀ layers node₀ steps₀ d₀ out node steps d = WayTurn ahead rows layers (wayOn ahead rows layers 63 w) out₀ out node steps d
+
+abbrev μ-loop : tie.MeasureT-loop
+μ-loop ahead rows w out₀ layers node₀ steps₀ d₀ out node steps d = d
+
+-- src/lib.rt:242:5
+loop-holds : tie.Need-loop-holds Inv-loop μ-loop
+loop-holds c = way-first (c .before .before .pre .0)
+
+-- src/lib.rt:243:9
+sub-d : tie.Need-sub-d Inv-loop μ-loop
+sub-d c = search needs
+
+-- src/lib.rt:244:36
+mul-go-on : tie.Need-mul-go-on Inv-loop μ-loop
+mul-go-on c = search needs
+
+-- src/lib.rt:244:36
+array-read-go-on : tie.Need-array-read-go-on Inv-loop μ-loop
+array-read-go-on c = search needs
+
+-- src/lib.rt:244:13
+go-on-requires : tie.Need-go-on-requires Inv-loop μ-loop
+go-on-requires c κs = search needs
+
+-- src/lib.rt:242:5
+loop-less : tie.Need-loop-less Inv-loop μ-loop
+loop-less c = search needs
+
+-- src/lib.rt:242:5
+loop-again : tie.Need-loop-again Inv-loop μ-loop
+loop-again c = way-turn _ _ _ _ (c .before .before .before .before .loop-test .taken) (c .before .before .before .before .before .loop .inv) (c .before .before .go-on .ensures)
+
+-- src/lib.rt:235:1
+same-length : tie.Need-same-length Inv-loop μ-loop
+same-length c = c .before .loop .inv .long
+
+-- src/lib.rt:235:1
+returns : tie.Need-returns Inv-loop μ-loop
+returns c = way-end _ _ _ _ (c .loop-test .left) (c .before .loop .inv)
+
+pub put-way-spec : {M : Type 1} → statement M
+put-way-spec =
+    tie.close
+    (tie.spec
+    Inv-loop
+    μ-loop
+    loop-holds
+    sub-d
+    mul-go-on
+    array-read-go-on
+    go-on-requires
+    loop-less
+    loop-again
+    same-length
+    returns)

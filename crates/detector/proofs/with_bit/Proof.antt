@@ -1,0 +1,29 @@
+use Rattle.detector.specs.Paths.{bit-shifted}
+use lib.Pow.{shl-exact}
+use Rattle.detector.specs.Table.{withBit}
+use native.Mathlib.Omega.{arith}
+use mathlib.Core.Path.{_≡_, refl, ap, sym, _∙_}
+use Prim.Native.Nat.{ℕ, _+_, _-_, _*_, _≤_, _<_}
+use lib.ListN.{length, set, getD, length-set, take, drop}
+use borrow.Author.Needs.{needs}
+use Rattle.detector.proofs.with_bit.Statement.{statement}
+use Rattle.detector.proofs.with_bit.Tie as tie
+use Rattle.detector.proofs.with_bit.Reads as reads
+use Rattle.detector.proofs.with_bit.Lts as lts
+
+-- src/lib.rt:35:24
+shl-result : tie.Need-shl-result
+shl-result c = search needs
+
+-- src/lib.rt:35:9
+returns : tie.Need-returns
+unfolding withBit
+returns c = simp (c .if1 .taken, bit-shifted _ (c .before .pre))
+
+-- src/lib.rt:30:1
+returns-2 : tie.Need-returns-2
+unfolding withBit
+returns-2 c = simp (c .if1 .left)
+
+pub with-bit-spec : {M : Type 1} → statement M
+with-bit-spec = tie.close (tie.spec shl-result returns returns-2)

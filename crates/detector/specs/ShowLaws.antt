@@ -1,0 +1,178 @@
+-- Steps that are written one by one stand at the front of the area.
+use mathlib.Core.Path.{_≡_, refl, sym, ap, ap₂, subst, _∙_}
+use mathlib.Core.Bool.{Bool, true, false, cond}
+use mathlib.Core.List.{List, [], _∷_, _++_, flatMap, append-assoc}
+use Prim.Native.Nat.{ℕ, zero, suc, _+_, _-_, _*_, _/_, _%_, _≤_, _<_, zero-le, suc-le-suc}
+use native.Mathlib.Nat.{zero-add}
+use native.Mathlib.Numerals.{add-one}
+use native.Mathlib.Omega.{arith}
+use lib.Bits.{bitAnd}
+use lib.Dec.{ltb}
+use lib.ListN.{length, getD, set, drop, length-append}
+use lib.Seq.{set-at, drop-append-add}
+use borrow.Author.Tests.{lt-ltb, le-ltb}
+use Rattle.base.specs.Basic.{has}
+use Rattle.graph.specs.Walk.{Step}
+use Rattle.detector.specs.Table.{entry, joinedRows, layersTo, nodeIn, pairFor, lowest, aheadStep, behindStep, wayOn, walkOn, tableWalk, shownWalk}
+use Rattle.detector.specs.Table.{flowWord, stepWords, shownIn, putWords, putStep, putSteps, Written, Shown}
+use Rattle.detector.specs.Paths.{put-cons}
+use Rattle.detector.specs.WalkLaws.{node-pair, table-none, table-written}
+
+-- a word behind a front of the right length
+set-behind : (front rest : List ℕ) (n i v : ℕ) → length front ≡ n → set (front ++ rest) (n + i) v ≡ front ++ set rest i v
+set-behind [] rest n i v h = let e : n + i ≡ i = omega arith in rw e refl
+set-behind (x ∷ front) rest n i v h =
+    let e : n + i ≡ suc (length front + i) = omega arith in rw e (ap (λ (l : List ℕ). x ∷ l) (set-behind front rest (length front) i v refl))
+
+-- four words
+put-words-at : (front : List ℕ) (k a b c d w x y z : ℕ) (rest : List ℕ) → length front ≡ k * 4
+    → putWords (front ++ (a ∷ b ∷ c ∷ d ∷ rest)) k w x y z ≡ front ++ (w ∷ x ∷ y ∷ z ∷ rest)
+unfolding putWords
+put-words-at front k a b c d w x y z rest h =
+    ap (λ (l : List ℕ). set (set (set l (k * 4 + 1) x) (k * 4 + 2) y) (k * 4 + 3) z) (set-at front a (b ∷ c ∷ d ∷ rest) w (k * 4) h)
+    ∙ ap (λ (l : List ℕ). set (set l (k * 4 + 2) y) (k * 4 + 3) z) (set-behind front (w ∷ b ∷ c ∷ d ∷ rest) (k * 4) 1 x h)
+    ∙ ap (λ (l : List ℕ). set l (k * 4 + 3) z) (set-behind front (w ∷ x ∷ c ∷ d ∷ rest) (k * 4) 2 y h)
+    ∙ set-behind front (w ∷ x ∷ y ∷ d ∷ rest) (k * 4) 3 z h
+
+put-step-at : (front : List ℕ) (k a b c d : ℕ) (s : Step) (rest : List ℕ) → length front ≡ k * 4
+    → putStep (front ++ (a ∷ b ∷ c ∷ d ∷ rest)) k s ≡ (front ++ stepWords s) ++ rest
+unfolding putStep stepWords
+put-step-at front k a b c d s rest h =
+    put-words-at front k a b c d (s .node) (s .leaves) (s .enters) (flowWord (s .flow)) rest h ∙ sym (append-assoc front _ rest)
+
+length-words : (s : Step) → length (stepWords s) ≡ 4
+unfolding stepWords
+length-words s = refl
+
+-- the steps written behind a front
+put-behind-front : (steps : List Step) (front rest : List ℕ) (k : ℕ) → length front ≡ k * 4 → length steps * 4 ≤ length rest
+    → putSteps (front ++ rest) k steps ≡ front ++ (flatMap stepWords steps ++ drop (length steps * 4) rest)
+unfolding putSteps flatMap
+put-behind-front [] front rest k h l = refl
+put-behind-front (s ∷ steps) front rest k h l = go rest l (λ r. put-behind-front steps (front ++ stepWords s) r (suc k) longer)
+  where
+    longer : length (front ++ stepWords s) ≡ suc k * 4
+    longer = let a = length-append front (stepWords s) in let b = length-words s in omega arith
+
+    go : (r : List ℕ) → suc (length steps) * 4 ≤ length r
+        → ((q : List ℕ) → length steps * 4 ≤ length q
+        → putSteps ((front ++ stepWords s) ++ q) (suc k) steps ≡ (front ++ stepWords s) ++ (flatMap stepWords steps ++ drop (length steps * 4) q))
+        → putSteps (putStep (front ++ r) k s) (suc k) steps
+        ≡ front ++ ((stepWords s ++ flatMap stepWords steps) ++ drop (suc (length steps) * 4) r)
+    go [] i f = let z : ⊥ = omega arith in absurd z
+    go (a ∷ []) i f = let z : ⊥ = omega arith in absurd z
+    go (a ∷ b ∷ []) i f = let z : ⊥ = omega arith in absurd z
+    go (a ∷ b ∷ c ∷ []) i f = let z : ⊥ = omega arith in absurd z
+    go (a ∷ b ∷ c ∷ d ∷ r) i f =
+        let four : suc (length steps) * 4 ≡ suc (suc (suc (suc (length steps * 4)))) = omega arith in
+        ap (λ (l : List ℕ). putSteps l (suc k) steps) (put-step-at front k a b c d s r h)
+        ∙ f r (omega arith)
+        ∙ append-assoc front (stepWords s) (flatMap stepWords steps ++ drop (length steps * 4) r)
+        ∙ ap (λ (l : List ℕ). front ++ l)
+        (sym (append-assoc (stepWords s) (flatMap stepWords steps) (drop (length steps * 4) r))
+        ∙ ap (λ (m : ℕ). (stepWords s ++ flatMap stepWords steps) ++ drop m (a ∷ b ∷ c ∷ d ∷ r)) (sym four))
+
+-- steps that fit are shown
+pub put-shown : (steps : List Step) (area : List ℕ) → length steps * 4 ≤ length area → putSteps area 0 steps ≡ shownIn steps area
+unfolding shownIn
+put-shown steps area h = put-behind-front steps [] area 0 refl h
+
+-- a way has at most d steps
+way-short : (ahead rows layers : List ℕ) (d w : ℕ) → length (wayOn ahead rows layers d w) ≤ d
+unfolding wayOn
+way-short ahead rows layers zero w = zero-le
+way-short ahead rows layers (suc d) w = go (λ y. way-short ahead rows layers d y) (has (getD layers d 0) w)
+  where
+    x : ℕ
+    x = lowest (bitAnd (getD rows w 0) (getD layers d 0))
+
+    go : ((y : ℕ) → length (wayOn ahead rows layers d y) ≤ d) → (b : Bool)
+        → length (cond b (wayOn ahead rows layers d w) (aheadStep w (entry ahead w x) ∷ wayOn ahead rows layers d x)) ≤ suc d
+    go rest true = let h = rest w in omega arith
+    go rest false = suc-le-suc (rest x)
+
+walk-short : (ahead behind rows : List ℕ) (u x : ℕ) → length (walkOn ahead behind rows u x) ≤ 65
+unfolding walkOn
+walk-short ahead behind rows u x = let h = way-short ahead rows (layersTo rows u) 63 (x % 64) in suc-le-suc (suc-le-suc h)
+
+-- an empty walk leaves the area as it is
+shown-empty : (area : List ℕ) → shownIn [] area ≡ area
+unfolding shownIn flatMap
+shown-empty area = refl
+
+nothing : {steps : List Step} (area : List ℕ) → steps ≡ [] → Shown steps area area 0
+nothing area e =
+    record {
+      area = sym (ap (λ (l : List Step). shownIn l area) e ∙ shown-empty area);
+      count = sym (ap (λ (l : List Step). length l) e);
+    }
+
+module _ (ahead behind before : List ℕ) where
+  -- an area that is too short shows nothing
+  pub shown-short : length before < 260 → Shown (shownWalk ahead behind (length before)) before before 0
+  unfolding shownWalk
+  shown-short h = nothing before (ap (λ (b : Bool). cond b [] (tableWalk ahead behind)) (lt-ltb (length before) 260 h))
+
+  long-enough : 260 ≤ length before → shownWalk ahead behind (length before) ≡ tableWalk ahead behind
+  unfolding shownWalk
+  long-enough h = ap (λ (b : Bool). cond b [] (tableWalk ahead behind)) (le-ltb (length before) 260 h)
+
+  -- where no node is found there is nothing to show
+  pub shown-none : 260 ≤ length before → {rows : List ℕ} {u : ℕ} → rows ≡ joinedRows ahead → u ≡ nodeIn ahead behind rows → 64 ≤ u
+      → Shown (shownWalk ahead behind (length before)) before before 0
+  shown-none h p q l =
+      let none : 64 ≤ nodeIn ahead behind (joinedRows ahead) = rw p at (rw q at l) in nothing before (long-enough h ∙ table-none ahead behind none)
+
+  -- the walk that is found is shown
+  pub shown-found : 260 ≤ length before → {rows : List ℕ} {u x : ℕ} → rows ≡ joinedRows ahead → u ≡ nodeIn ahead behind rows → u < 64
+      → x ≡ pairFor ahead behind rows u → {after : List ℕ} {r : ℕ} → Written (walkOn ahead behind rows u x) 0 before after r
+      → Shown (shownWalk ahead behind (length before)) before after r
+  shown-found h {rows} {u} {x} p q l e {after} {r} t =
+      let node : u ≡ nodeIn ahead behind (joinedRows ahead) = q ∙ ap (nodeIn ahead behind) p in
+      let pair : x ≡ pairFor ahead behind (joinedRows ahead) (nodeIn ahead behind (joinedRows ahead)) = e ∙ ap₂ (pairFor ahead behind) p node in
+      let same : walkOn ahead behind (joinedRows ahead) (nodeIn ahead behind (joinedRows ahead))
+      (pairFor ahead behind (joinedRows ahead) (nodeIn ahead behind (joinedRows ahead))) ≡ walkOn ahead behind rows u x = cc in
+      let shown = long-enough h ∙ table-written ahead behind (rw node at l) ∙ same in
+      let few = walk-short ahead behind rows u x in
+      record {
+        area = t .area ∙ put-shown (walkOn ahead behind rows u x) before (omega arith) ∙ ap (λ (w : List Step). shownIn w before) (sym shown);
+        count = t .count ∙ zero-add _ ∙ ap (λ (w : List Step). length w) (sym shown);
+      }
+
+-- a node found has a pair
+pub found-pair : (ahead behind rows : List ℕ) {u x : ℕ} → u ≡ nodeIn ahead behind rows → u < 64 → x ≡ pairFor ahead behind rows u → x < 4096
+found-pair ahead behind rows q l e =
+    subst (λ (y : ℕ). y < 4096) (sym (e ∙ ap (pairFor ahead behind rows) q)) (node-pair ahead behind rows (rw q at l))
+
+-- two steps and the way behind them
+pub walk-written : (ahead behind rows : List ℕ) (u x : ℕ) {e c r : ℕ} {layers before one two after : List ℕ}
+    → e ≡ getD ahead (u * 64 + x / 64) 0 → one ≡ putStep before 0 (aheadStep u e)
+    → c ≡ getD behind (x / 64 * 64 + x % 64) 0 → two ≡ putStep one 1 (behindStep (x / 64) c)
+    → layers ≡ layersTo rows u → Written (wayOn ahead rows layers 63 (x % 64)) 2 two after r
+    → Written (walkOn ahead behind rows u x) 0 before after r
+unfolding walkOn
+walk-written ahead behind rows u x {e} {c} {r} {layers} {before} {one} {two} {after} p a q b same t =
+    record {
+      area =
+          t .area ∙ ap₂ (λ (z : List ℕ) (w : List Step). putSteps z 2 w) (b ∙ both) way
+          ∙ sym (put-cons before 0 s (d ∷ rest) ∙ put-cons (putStep before 0 s) 1 d rest);
+      count = t .count ∙ ap (λ (w : List Step). 2 + length w) way ∙ last;
+    }
+  where
+    s : Step
+    s = aheadStep u (entry ahead u (x / 64))
+
+    d : Step
+    d = behindStep (x / 64) (entry behind (x / 64) (x % 64))
+
+    rest : List Step
+    rest = wayOn ahead rows (layersTo rows u) 63 (x % 64)
+
+    both : putStep one 1 (behindStep (x / 64) c) ≡ putStep (putStep before 0 s) 1 d
+    both = rw (q, a, p) refl
+
+    way : wayOn ahead rows layers 63 (x % 64) ≡ rest
+    way = ap (λ (l : List ℕ). wayOn ahead rows l 63 (x % 64)) same
+
+    last : 2 + length rest ≡ 0 + length (s ∷ d ∷ rest)
+    last = omega arith

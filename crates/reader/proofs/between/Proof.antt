@@ -1,0 +1,16 @@
+use borrow.Author.Tests.{lt-leb, le-leb}
+use Rattle.reader.proofs.between.Statement.{statement}
+use Rattle.reader.proofs.between.Tie as tie
+use Rattle.reader.proofs.between.Reads as reads
+use Rattle.reader.proofs.between.Lts as lts
+
+-- src/lib.rt:37:9
+returns : tie.Need-returns
+returns c = simp (lt-leb _ _ (c .if1 .taken))
+
+-- src/lib.rt:33:1
+returns-2 : tie.Need-returns-2
+returns-2 c = simp (le-leb _ _ (c .if1 .left))
+
+pub between-spec : {M : Type 1} → statement M
+between-spec = tie.close (tie.spec returns returns-2)

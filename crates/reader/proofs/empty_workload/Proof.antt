@@ -1,0 +1,15 @@
+use mathlib.Core.Path.{refl}
+use Rattle.text.specs.Value.{valueOf}
+use Rattle.text.specs.Text.{emptyLine}
+use Rattle.reader.proofs.empty_workload.Statement.{statement}
+use Rattle.reader.proofs.empty_workload.Tie as tie
+use Rattle.reader.proofs.empty_workload.Reads as reads
+use Rattle.reader.proofs.empty_workload.Lts as lts
+
+-- src/lib.rt:126:1
+returns : tie.Need-returns
+unfolding valueOf emptyLine
+returns c = refl
+
+pub empty-workload-spec : {M : Type 1} → statement M
+empty-workload-spec = tie.close (tie.spec returns)

@@ -1,0 +1,27 @@
+use Rattle.reader.specs.ParseLaws.{endsLine-none, endsLine-last}
+use mathlib.Core.Path.{_≡_, refl, sym, ap, _∙_}
+use native.Mathlib.Omega.{arith}
+use borrow.Author.Needs.{needs}
+use Rattle.reader.proofs.ends_line.Statement.{statement}
+use Rattle.reader.proofs.ends_line.Tie as tie
+use Rattle.reader.proofs.ends_line.Reads as reads
+use Rattle.reader.proofs.ends_line.Lts as lts
+
+-- src/lib.rt:90:9
+returns : tie.Need-returns
+returns c = sym (endsLine-none _ (c .if1 .taken))
+
+-- src/lib.rt:92:10
+sub-result : tie.Need-sub-result
+sub-result c = search needs
+
+-- src/lib.rt:92:5
+shared-slice-read-result : tie.Need-shared-slice-read-result
+shared-slice-read-result c = search needs
+
+-- src/lib.rt:85:1
+returns-2 : tie.Need-returns-2
+returns-2 c = sym (endsLine-last (c .before .before .args .text .now) (omega arith))
+
+pub ends-line-spec : {M : Type 1} → statement M
+ends-line-spec = tie.close (tie.spec returns sub-result shared-slice-read-result returns-2)

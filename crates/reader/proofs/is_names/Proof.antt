@@ -1,0 +1,23 @@
+use Rattle.text.specs.Text.{namesLine}
+use borrow.Author.Needs.{needs}
+use Rattle.reader.proofs.is_names.Statement.{statement}
+use Rattle.reader.proofs.is_names.Tie as tie
+use Rattle.reader.proofs.is_names.Reads as reads
+use Rattle.reader.proofs.is_names.Lts as lts
+use Rattle.reader.proofs.same_bytes.Reads as same-bytes-reads
+
+-- src/lib.rt:275:22
+slice-aggregate-same-bytes : tie.Need-slice-aggregate-same-bytes
+slice-aggregate-same-bytes c = search needs
+
+-- src/lib.rt:275:5
+same-bytes-requires : tie.Need-same-bytes-requires
+same-bytes-requires c κs = search needs
+
+-- src/lib.rt:272:1
+returns : tie.Need-returns
+unfolding namesLine
+returns c = c .same-bytes .ensures
+
+pub is-names-spec : {M : Type 1} → statement M
+is-names-spec = tie.close (tie.spec slice-aggregate-same-bytes same-bytes-requires returns)

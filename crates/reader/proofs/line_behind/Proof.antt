@@ -1,0 +1,25 @@
+use borrow.Author.Tests.{eq-eqb, ne-eqb}
+use Rattle.reader.specs.Parse.{lineBehindByte}
+use native.Mathlib.Numerals.{add-one}
+use borrow.Author.Needs.{needs}
+use Rattle.reader.proofs.line_behind.Statement.{statement}
+use Rattle.reader.proofs.line_behind.Tie as tie
+use Rattle.reader.proofs.line_behind.Reads as reads
+use Rattle.reader.proofs.line_behind.Lts as lts
+
+-- src/lib.rt:61:16
+add-result : tie.Need-add-result
+add-result c = search needs
+
+-- src/lib.rt:61:9
+returns : tie.Need-returns
+unfolding lineBehindByte
+returns c = simp (eq-eqb _ _ (c .if1 .taken)) (add-one _)
+
+-- src/lib.rt:56:1
+returns-2 : tie.Need-returns-2
+unfolding lineBehindByte
+returns-2 c = simp (ne-eqb _ _ (c .if1 .left))
+
+pub line-behind-spec : {M : Type 1} → statement M
+line-behind-spec = tie.close (tie.spec add-result returns returns-2)

@@ -1,0 +1,37 @@
+use borrow.Author.Needs.{needs}
+use Rattle.readstate.proofs.blocks_within.Statement.{statement}
+use Rattle.readstate.proofs.blocks_within.Tie as tie
+use Rattle.readstate.proofs.blocks_within.Reads as reads
+use Rattle.readstate.proofs.blocks_within.Lts as lts
+use Rattle.readstate.proofs.all_of.Reads as all-of-reads
+use Rattle.readstate.proofs.cell_within.Reads as cell-within-reads
+
+-- src/lib.rt:541:12
+cell-within-requires : tie.Need-cell-within-requires
+cell-within-requires c κs = search needs
+
+-- src/lib.rt:541:43
+cell-within-requires-2 : tie.Need-cell-within-requires-2
+cell-within-requires-2 c κs = search needs
+
+-- src/lib.rt:541:74
+cell-within-requires-3 : tie.Need-cell-within-requires-3
+cell-within-requires-3 c κs = search needs
+
+-- src/lib.rt:541:5
+all-of-requires : tie.Need-all-of-requires
+all-of-requires c κs = search needs
+
+-- src/lib.rt:535:1
+returns : tie.Need-returns
+returns c = rw (c .all-of .ensures, c .before .cell-within3 .ensures, c .before .before .cell-within2 .ensures, c .before .before .before .cell-within .ensures)
+
+pub blocks-within-spec : {M : Type 1} → statement M
+blocks-within-spec =
+    tie.close
+    (tie.spec
+    cell-within-requires
+    cell-within-requires-2
+    cell-within-requires-3
+    all-of-requires
+    returns)

@@ -1,0 +1,31 @@
+use native.Mathlib.Nat.{one-mul, mod-eq-of-lt}
+use lib.Pow.{pow-lt}
+use borrow.Author.Tests.{lt-ltb, le-ltb, eq-eqb, ne-eqb}
+use Rattle.readstate.specs.Kept.{markOf}
+use borrow.Author.Needs.{needs}
+use Rattle.readstate.proofs.mark.Statement.{statement}
+use Rattle.readstate.proofs.mark.Tie as tie
+use Rattle.readstate.proofs.mark.Reads as reads
+use Rattle.readstate.proofs.mark.Lts as lts
+
+-- src/lib.rt:93:9
+returns : tie.Need-returns
+unfolding markOf
+returns c = simp (ne-eqb _ _ (c .if1 .taken))
+
+-- src/lib.rt:96:16
+shl-result : tie.Need-shl-result
+shl-result c = search needs
+
+-- src/lib.rt:96:9
+returns-2 : tie.Need-returns-2
+unfolding markOf
+returns-2 c = simp (eq-eqb _ _ (c .before .if1 .left), lt-ltb _ _ (c .if2 .taken)) (rw one-mul (mod-eq-of-lt (pow-lt (c .if2 .taken))))
+
+-- src/lib.rt:89:1
+returns-3 : tie.Need-returns-3
+unfolding markOf
+returns-3 c = simp (eq-eqb _ _ (c .before .if1 .left), le-ltb _ _ (c .if2 .left))
+
+pub mark-spec : {M : Type 1} → statement M
+mark-spec = tie.close (tie.spec returns shl-result returns-2 returns-3)

@@ -1,0 +1,20 @@
+use borrow.Author.Tests.{lt-ltb, le-ltb, eq-eqb, ne-eqb}
+use Rattle.readstate.proofs.room_own.Statement.{statement}
+use Rattle.readstate.proofs.room_own.Tie as tie
+use Rattle.readstate.proofs.room_own.Reads as reads
+use Rattle.readstate.proofs.room_own.Lts as lts
+
+-- src/lib.rt:370:9
+returns : tie.Need-returns
+returns c = simp (eq-eqb _ _ (c .if1 .taken))
+
+-- src/lib.rt:373:9
+returns-2 : tie.Need-returns-2
+returns-2 c = simp (ne-eqb _ _ (c .before .if1 .left), lt-ltb _ _ (c .if2 .taken))
+
+-- src/lib.rt:366:1
+returns-3 : tie.Need-returns-3
+returns-3 c = simp (ne-eqb _ _ (c .before .if1 .left), le-ltb _ _ (c .if2 .left))
+
+pub room-own-spec : {M : Type 1} → statement M
+room-own-spec = tie.close (tie.spec returns returns-2 returns-3)

@@ -1,0 +1,21 @@
+use borrow.Author.Needs.{needs}
+use Rattle.readstate.proofs.take_flow.Statement.{statement}
+use Rattle.readstate.proofs.take_flow.Tie as tie
+use Rattle.readstate.proofs.take_flow.Reads as reads
+use Rattle.readstate.proofs.take_flow.Lts as lts
+use Rattle.readstate.proofs.next.Reads as next-reads
+
+-- src/lib.rt:332:5
+next-requires : tie.Need-next-requires
+next-requires c κs = search needs
+
+-- src/lib.rt:333:5
+next-requires-2 : tie.Need-next-requires-2
+next-requires-2 c κs = search needs
+
+-- src/lib.rt:328:1
+returns : tie.Need-returns
+returns c = rw (c .next2 .ensures, c .before .next .ensures)
+
+pub take-flow-spec : {M : Type 1} → statement M
+take-flow-spec = tie.close (tie.spec next-requires next-requires-2 returns)
