@@ -4,3 +4,4 @@ pub mod Paths
 pub mod WordLaws
 pub mod WalkLaws
 pub mod ShowLaws
+pub mod Coding
