@@ -1,12 +1,14 @@
 -- Counting over the lines of a program, as numbers: 0 for a statement, 1 for `lo`, 2 for `br`, 3 for `pr`, 4 for every other kind.
-use mathlib.Core.Bool.{cond}
+use mathlib.Core.Bool.{cond, _&&_}
 use mathlib.Core.List.{List, [], _∷_, _++_, map}
-use Prim.Native.Nat.{ℕ, zero, suc, _+_}
+use Prim.Native.Nat.{ℕ, zero, suc, _+_, _^_}
 use lib.Dec.{eqb, leb, ltb}
 use lib.ListN.{length, getD}
 use Rattle.text.specs.declared.Line.{Line}
 use Rattle.text.specs.declared.LineKind.{LineKind}
 use Rattle.text.specs.declared.LineKind.the-variants.{Rl, Fk, Pr, St, Lo, Br, El, En, Li}
+use Rattle.text.specs.declared.StatementKind.{StatementKind}
+use Rattle.graph.specs.Edge.{shields}
 use Rattle.choosing.specs.declared.Counted.{Counted}
 use Rattle.choosing.specs.Cap.{plus, times}
 
@@ -26,6 +28,24 @@ codesOf lines = map (λ l. codeOf (l .kind)) lines
 
 unfoldable pub idsOf : List Line → List ℕ
 idsOf lines = map (λ l. l .id) lines
+
+-- the bit of a statement's id where its kind shields (E3), and a line's: `markOf` over lines
+unfoldable pub bitIn : StatementKind → ℕ → ℕ
+bitIn k id = cond (shields k && ltb id 32) (2 ^ id) 0
+
+unfoldable pub markIn : LineKind → ℕ → ℕ
+markIn (St k) id = bitIn k id
+markIn Rl id = 0
+markIn Fk id = 0
+markIn Pr id = 0
+markIn Lo id = 0
+markIn Br id = 0
+markIn El id = 0
+markIn En id = 0
+markIn Li id = 0
+
+unfoldable pub marksOf : List Line → List ℕ
+marksOf lines = map (λ l. markIn (l .kind) (l .id)) lines
 
 -- the place behind a closing line, where there is one
 unfoldable pub after : ℕ → ℕ → ℕ

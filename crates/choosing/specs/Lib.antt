@@ -10,3 +10,7 @@ pub mod Pieces
 pub mod PiecesLaws
 pub mod Table
 pub mod TableLaws
+pub mod Seen
+pub mod Shown
+pub mod ShownLaws
+pub mod PlacesLaws

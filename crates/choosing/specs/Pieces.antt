@@ -4,25 +4,21 @@ use mathlib.Core.List.{List, [], _∷_, _++_, map}
 use Prim.Native.Nat.{ℕ, zero, suc, _+_, _-_}
 use lib.Dec.{eqb}
 use lib.ListN.{length, getD}
-use Rattle.graph.specs.Unfolding.{Node}
 use Rattle.choosing.specs.declared.Counted.{Counted}
 use Rattle.choosing.specs.declared.Totals.{Totals}
 use Rattle.choosing.specs.Cap.{plus}
 use Rattle.choosing.specs.Codes.{countAt}
-use Rattle.choosing.specs.Writing.{placeIds, writeAt}
+use Rattle.choosing.specs.Writing.{writeAt}
 
--- an unfolding as it is written: its program and its statement ids
+-- an unfolding as it is written: its program and its places' words
 pub record Piece : Type 0 where
   pub program : ℕ
-  pub ids : List ℕ
+  pub words : List ℕ
 
-unfoldable pub pieceOf : Node → Piece
-pieceOf n = record { program = n .program; ids = placeIds (n .places) }
-
--- the ids of pieces one behind the other
+-- the words of pieces one behind the other
 unfoldable pub flat : List Piece → List ℕ
 flat [] = []
-flat (p ∷ ps) = p .ids ++ flat ps
+flat (p ∷ ps) = p .words ++ flat ps
 
 -- what a function gives for m numbers from k on
 unfoldable pub tabulate : {A : Type 0} → (ℕ → A) → ℕ → ℕ → List A
@@ -30,8 +26,8 @@ tabulate f k zero = []
 tabulate f k (suc m) = f k ∷ tabulate f (k + 1) m
 
 -- unfolding number k of the program whose run begins at a place
-unfoldable pub row : ℕ → List ℕ → List ℕ → ℕ → ℕ → ℕ → Piece
-row program codes ids at left k = record { program = program; ids = writeAt left codes ids at k }
+unfoldable pub row : ℕ → List ℕ → List ℕ → List ℕ → ℕ → ℕ → ℕ → Piece
+row program codes words marks at left k = record { program = program; words = writeAt left codes words marks 0 at k }
 
 -- what is counted behind a `pr` line
 unfoldable pub countedBehind : List ℕ → ℕ → Counted
@@ -47,10 +43,10 @@ lineTotals codes i t =
 unfoldable pub linePrograms : List ℕ → ℕ → ℕ → ℕ
 linePrograms codes i n = cond (eqb (getD codes i 0) 3) (n + 1) n
 
-unfoldable pub linePieces : List ℕ → List ℕ → ℕ → ℕ → List Piece
-linePieces codes ids i program =
+unfoldable pub linePieces : List ℕ → List ℕ → List ℕ → ℕ → ℕ → List Piece
+linePieces codes words marks i program =
     cond (eqb (getD codes i 0) 3)
-    (tabulate (row program codes ids (i + 1) (length codes - (i + 1))) 0 (countedBehind codes i .count))
+    (tabulate (row program codes words marks (i + 1) (length codes - (i + 1))) 0 (countedBehind codes i .count))
     []
 
 -- the same of all lines before a place
@@ -62,6 +58,6 @@ unfoldable pub programsBefore : List ℕ → ℕ → ℕ
 programsBefore codes zero = 0
 programsBefore codes (suc i) = linePrograms codes i (programsBefore codes i)
 
-unfoldable pub piecesBefore : List ℕ → List ℕ → ℕ → List Piece
-piecesBefore codes ids zero = []
-piecesBefore codes ids (suc i) = piecesBefore codes ids i ++ linePieces codes ids i (programsBefore codes i)
+unfoldable pub piecesBefore : List ℕ → List ℕ → List ℕ → ℕ → List Piece
+piecesBefore codes words marks zero = []
+piecesBefore codes words marks (suc i) = piecesBefore codes words marks i ++ linePieces codes words marks i (programsBefore codes i)

@@ -16,61 +16,61 @@ use Rattle.base.specs.ListLaws.{getElem?-map-some, some-injective}
 use Rattle.text.specs.declared.Line.{Line}
 use Rattle.text.specs.declared.LineKind.{LineKind}
 use Rattle.text.specs.declared.LineKind.the-variants.{Rl, Fk, Pr, St, Lo, Br, El, En, Li}
-use Rattle.graph.specs.Program.{Run, Program, Link, runOf, linksOf, programsOf}
+use Rattle.graph.specs.Program.{Statement, Run, Program, Link, runOf, linksOf, programsOf}
 use Rattle.graph.specs.Unfolding.{Execution, Node, occurrences, unfoldings, nodesOfProgram, nodesFrom, nodesOf}
 use Rattle.report.specs.State.{statementsIn}
 use Rattle.choosing.specs.declared.Counted.{Counted}
 use Rattle.choosing.specs.declared.Totals.{Totals}
 use Rattle.choosing.specs.Pairs.{sumOf}
-use Rattle.choosing.specs.Cap.{cap, plus, Alike, alike-refl, stopped, plus-alike, plus-same, cap-small}
+use Rattle.choosing.specs.Cap.{cap, plus, Alike, alike-refl, stopped, plus-alike, cap-small, cap-add}
 use Rattle.choosing.specs.Choosing.{countRun, statementsRun, choose}
 use Rattle.choosing.specs.ChoosingLaws.{run-counts, length-unfoldings, chosen, statements-run}
-use Rattle.choosing.specs.Codes.{codeOf, codesOf, idsOf, countAt}
+use Rattle.choosing.specs.Codes.{codeOf, codesOf, countAt}
 use Rattle.choosing.specs.CodesLaws.{counts-run, length-codes, first-line}
-use Rattle.choosing.specs.Writing.{placeIds, writeAt}
-use Rattle.choosing.specs.WritingLaws.{written-run}
-use Rattle.choosing.specs.Pieces.{Piece, pieceOf, flat, tabulate, row, countedBehind, lineTotals, linePrograms, linePieces, totalsBefore, programsBefore, piecesBefore}
+use Rattle.choosing.specs.Shown.{PlaceWords}
+use Rattle.choosing.specs.ShownLaws.{words-length}
+use Rattle.choosing.specs.Writing.{writeAt}
+use Rattle.choosing.specs.WritingLaws.{Tables, written-whole}
+use Rattle.choosing.specs.Pieces.{Piece, flat, tabulate, row, countedBehind, lineTotals, linePrograms, linePieces, totalsBefore, programsBefore, piecesBefore}
 
--- a list whose elements a function gives
-tabulated : {A : Type 0} (xs : List A) (f : ℕ → A) (k : ℕ) → ((j : ℕ) → j < length xs → getElem? xs j ≡ some (f (k + j)))
-    → xs ≡ tabulate f k (length xs)
-unfolding tabulate
-tabulated [] f k h = refl
-tabulated {A = A} (x ∷ xs) f k h =
-    let first : x ≡ f k = some-injective (h 0 (omega arith)) ∙ rw add-zero in
-    rw (← first) (ap (λ (r : List A). x ∷ r) (tabulated xs f (k + 1) (λ j p. h (suc j) (omega arith) ∙ ap (λ (n : ℕ). some (f n)) (omega arith))))
+-- the piece of a node: its program, and words for its places
+module _ (Word : Statement → ℕ → Type 0) (mark : Statement → ℕ) where
+  pub record PieceFor (n : Node) (p : Piece) : Type 0 where
+    pub program : p .program ≡ n .program
+    pub words : PlaceWords Word mark 0 [] (n .places) (p .words)
 
--- the nodes of a program as pieces, by number
+  -- a piece for each node
+  unfoldable pub PiecesFor : List Node → List Piece → Type 0
+  PiecesFor [] [] = Unit {0}
+  PiecesFor [] (p ∷ pieces) = ⊥
+  PiecesFor (n ∷ nodes) [] = ⊥
+  PiecesFor (n ∷ nodes) (p ∷ pieces) = PieceFor n p × PiecesFor nodes pieces
+
+  pieces-append : (l r : List Node) (p q : List Piece) → PiecesFor l p → PiecesFor r q → PiecesFor (l ++ r) (p ++ q)
+  unfolding PiecesFor
+  pieces-append [] r [] q h g = g
+  pieces-append [] r (x ∷ p) q h g = absurd h
+  pieces-append (n ∷ l) r [] q h g = absurd h
+  pieces-append (n ∷ l) r (x ∷ p) q h g = (h .0, pieces-append l r p q (h .1) g)
+
+  -- nodes whose pieces a function gives
+  tabulated : (nodes : List Node) (f : ℕ → Piece) (k : ℕ)
+      → ((j : ℕ) → j < length nodes → (n : Node) × (getElem? nodes j ≡ some n) × PieceFor n (f (k + j)))
+      → PiecesFor nodes (tabulate f k (length nodes))
+  unfolding tabulate PiecesFor
+  tabulated [] f k h = _
+  tabulated (x ∷ nodes) f k h =
+      let first = h 0 (omega arith) in (
+        rw (some-injective (first .1)) (rw add-zero at (first .2)),
+        tabulated nodes f (k + 1) (λ j p. let c = h (suc j) (omega arith) in
+            let same : k + suc j ≡ k + 1 + j = omega arith in
+            (c .0, c .1, rw (← same) (c .2))),
+      )
+
+-- the nodes of a program: how many, and how many statements in them
 module _ (lines : List Line) (number at left : ℕ) (links : List Link) where
   abbrev run-there : Run
   run-there = runOf left (drop at lines) .run
-
-  pub program-pieces : countRun run-there ≤ 512
-      → map pieceOf (nodesOfProgram number (record { body = run-there; links = links }))
-      ≡ tabulate (row number (codesOf lines) (idsOf lines) at left) 0 (countRun run-there)
-  unfolding nodesOfProgram pieceOf row
-  program-pieces small =
-      tabulated pieces rowAt 0 at-number ∙ ap (tabulate rowAt 0) many
-    where
-      rowAt : ℕ → Piece
-      rowAt = row number (codesOf lines) (idsOf lines) at left
-
-      nodeFor : Execution run-there → Node
-      nodeFor e = record { program = number; links = links; places = occurrences e 0 }
-
-      pieces : List Piece
-      pieces = map pieceOf (map nodeFor (unfoldings run-there))
-
-      many : length pieces ≡ countRun run-there
-      many = length-map (map nodeFor (unfoldings run-there)) pieceOf ∙ length-map (unfoldings run-there) nodeFor ∙ length-unfoldings run-there
-
-      at-number : (j : ℕ) → j < length pieces → getElem? pieces j ≡ some (rowAt (0 + j))
-      at-number j h =
-          let c = chosen run-there j (omega (arith, many)) in
-          let same : placeIds (occurrences (c .execution) 0) ≡ writeAt left (codesOf lines) (idsOf lines) at (0 + j) =
-          ap placeIds (c .places 0) ∙ sym (written-run lines left at 0 j small) ∙ rw zero-add in
-          getElem?-map-some pieceOf (map nodeFor (unfoldings run-there)) j (getElem?-map-some nodeFor (unfoldings run-there) j (c .member))
-          ∙ ap (λ (l : List ℕ). some (record { program = number; ids = l })) same
 
   pub program-counts : length (nodesOfProgram number (record { body = run-there; links = links })) ≡ countRun run-there
   unfolding nodesOfProgram
@@ -85,6 +85,37 @@ module _ (lines : List Line) (number at left : ℕ) (links : List Link) where
       summed [] = refl
       summed (e ∷ es) = omega (arith, summed es)
 
+-- their pieces, by number
+module _ (Word : Statement → ℕ → Type 0) (mark : Statement → ℕ) (lines : List Line) (words marks : List ℕ) (fit : Tables Word mark lines words marks)
+    (number at left : ℕ) (links : List Link) where
+  abbrev run-here : Run
+  run-here = runOf left (drop at lines) .run
+
+  program-pieces : countRun run-here ≤ 512
+      → PiecesFor Word mark (nodesOfProgram number (record { body = run-here; links = links }))
+      (tabulate (row number (codesOf lines) words marks at left) 0 (countRun run-here))
+  unfolding nodesOfProgram row
+  program-pieces small =
+      rw (← many) (tabulated Word mark nodes (row number (codesOf lines) words marks at left) 0 at-number)
+    where
+      nodeHere : Execution run-here → Node
+      nodeHere e = record { program = number; links = links; places = occurrences e 0 }
+
+      nodes : List Node
+      nodes = map nodeHere (unfoldings run-here)
+
+      many : length nodes ≡ countRun run-here
+      many = length-map (unfoldings run-here) nodeHere ∙ length-unfoldings run-here
+
+      at-number : (j : ℕ) → j < length nodes
+          → (n : Node) × (getElem? nodes j ≡ some n) × PieceFor Word mark n (row number (codesOf lines) words marks at left (0 + j))
+      at-number j h =
+          let c = chosen run-here j (omega (arith, many)) in (
+            nodeHere (c .execution),
+            getElem?-map-some nodeHere (unfoldings run-here) j (c .member),
+            record { program = refl; words = rw (c .places 0, zero-add) (written-whole Word mark lines words marks fit left at j small) },
+          )
+
 -- nodes one behind the other
 statements-append : (l r : List Node) → statementsIn (l ++ r) ≡ statementsIn l + statementsIn r
 unfolding statementsIn
@@ -92,15 +123,22 @@ statements-append [] r = sym (zero-add (statementsIn r))
 statements-append (n ∷ l) r = omega (arith, statements-append l r)
 
 -- the nodes of the programs from a place on
-unfoldable pub nodesBehind : List Line → ℕ → List Node
+unfoldable nodesBehind : List Line → ℕ → List Node
 nodesBehind lines i = nodesFrom (programsBefore (codesOf lines) i) (programsOf (drop i lines))
 
--- at a `pr` line stands a program, at any other none
-record Step (lines : List Line) (i : ℕ) (new : List Node) : Type 0 where
-  behind : nodesBehind lines i ≡ new ++ nodesBehind lines (suc i)
-  totals : (t : Totals) → Alike (lineTotals (codesOf lines) i t .count) (t .count + length new)
-  states : (t : Totals) → Alike (lineTotals (codesOf lines) i t .statements) (t .statements + statementsIn new)
-  pieces : length new ≤ 512 → linePieces (codesOf lines) (idsOf lines) i (programsBefore (codesOf lines) i) ≡ map pieceOf new
+-- the program behind a `pr` line
+unfoldable programBehind : List Line → ℕ → Program
+programBehind lines i =
+    record { body = runOf (length (codesOf lines) - (i + 1)) (drop (i + 1) lines) .run; links = linksOf (drop (suc i) lines) }
+
+-- the nodes that a line begins: those of its program at a `pr` line, else none
+unfoldable newNodes : List Line → ℕ → List Node
+newNodes lines i = cond (eqb (getD (codesOf lines) i 0) 3) (nodesOfProgram (programsBefore (codesOf lines) i) (programBehind lines i)) []
+
+-- the nodes that the lines before a place begin
+unfoldable nodesBefore : List Line → ℕ → List Node
+nodesBefore lines zero = []
+nodesBefore lines (suc i) = nodesBefore lines i ++ newNodes lines i
 
 programs-there : (l : Line) (lines : List Line) → l .kind ≡ Pr
     → programsOf (l ∷ lines) ≡ record { body = runOf (length lines) lines .run; links = linksOf lines } ∷ programsOf lines
@@ -119,67 +157,9 @@ programs-none l lines El e n = rw (e, programsOf)
 programs-none l lines En e n = rw (e, programsOf)
 programs-none l lines Li e n = rw (e, programsOf)
 
--- the program behind a `pr` line
-unfoldable programBehind : List Line → ℕ → Program
-programBehind lines i =
-    record { body = runOf (length (codesOf lines) - (i + 1)) (drop (i + 1) lines) .run; links = linksOf (drop (suc i) lines) }
-
-step-program : (lines : List Line) (i : ℕ) (l : Line) → l .kind ≡ Pr → drop i lines ≡ l ∷ drop (suc i) lines
-    → getD (codesOf lines) i 0 ≡ 3 → Step lines i (nodesOfProgram (programsBefore (codesOf lines) i) (programBehind lines i))
-unfolding nodesBehind nodesFrom programsBefore linePrograms lineTotals linePieces programBehind countedBehind
-step-program lines i l e d c =
-    record {
-      behind = rw d (rw (programs-there l (drop (suc i) lines) e, eq-eqb (getD (codesOf lines) i 0) 3 c, programsBefore, body-same, add-one (programsBefore (codesOf lines) i)));
-      totals = λ t. rw (eq-eqb (getD (codesOf lines) i 0) 3 c) (plus-alike (alike-refl (t .count)) (stopped counts));
-      states = λ t. rw (eq-eqb (getD (codesOf lines) i 0) 3 c) (plus-alike (alike-refl (t .statements)) (stopped states));
-      pieces = λ small. rw (eq-eqb (getD (codesOf lines) i 0) 3 c) (rows small);
-    }
-  where
-    number : ℕ
-    number = programsBefore (codesOf lines) i
-
-    left : ℕ
-    left = length (codesOf lines) - (i + 1)
-
-    links : List Link
-    links = linksOf (drop (suc i) lines)
-
-    body-same : runOf (length (drop (suc i) lines)) (drop (suc i) lines) ≡ runOf (length (codesOf lines) - (i + 1)) (drop (i + 1) lines)
-    body-same = rw (add-one, length-drop, length-codes)
-
-    rows : length (nodesOfProgram number (programBehind lines i)) ≤ 512
-        → tabulate (row number (codesOf lines) (idsOf lines) (i + 1) left) 0 (countAt left (codesOf lines) (i + 1) .count)
-        ≡ map pieceOf (nodesOfProgram number (programBehind lines i))
-    rows small =
-        let few : countRun (runOf left (drop (i + 1) lines) .run) ≤ 512 = omega (arith, program-counts lines number (i + 1) left links) in
-        let exact : countAt left (codesOf lines) (i + 1) .count ≡ countRun (runOf left (drop (i + 1) lines) .run) =
-        counts-run lines left (i + 1) .counts ∙ cap-small (omega arith) in
-        rw exact (sym (program-pieces lines number (i + 1) left links few))
-
-    counts : countAt left (codesOf lines) (i + 1) .count ≡ cap (length (nodesOfProgram number (programBehind lines i)))
-    counts = counts-run lines left (i + 1) .counts ∙ ap cap (sym (program-counts lines number (i + 1) left links))
-
-    states : countAt left (codesOf lines) (i + 1) .statements ≡ cap (statementsIn (nodesOfProgram number (programBehind lines i)))
-    states = counts-run lines left (i + 1) .states ∙ ap cap (sym (program-statements lines number (i + 1) left links))
-
-step-other : (lines : List Line) (i : ℕ) (l : Line) (k : LineKind) → l .kind ≡ k → drop i lines ≡ l ∷ drop (suc i) lines
-    → getD (codesOf lines) i 0 ≡ codeOf k → (codeOf k ≡ 3 → ⊥) → Step lines i []
-unfolding nodesBehind nodesFrom programsBefore linePrograms lineTotals linePieces statementsIn
-step-other lines i l k e d c n =
-    record {
-      behind = rw d (rw (programs-none l (drop (suc i) lines) k e n, other, programsBefore));
-      totals = λ t. rw (other, add-zero) (alike-refl (t .count));
-      states = λ t. rw (other, add-zero) (alike-refl (t .statements));
-      pieces = λ small. rw other;
-    }
-  where
-    other : eqb (getD (codesOf lines) i 0) 3 ≡ false
-    other = ne-eqb (getD (codesOf lines) i 0) 3 (λ z. n (sym c ∙ z))
-
--- a line of the workload
-step-line : (lines : List Line) (i : ℕ) → i < length lines → (new : List Node) × Step lines i new
-unfolding codeOf
-step-line lines i h = go (l .kind) refl
+new-behind : (lines : List Line) (i : ℕ) → i < length lines → nodesBehind lines i ≡ newNodes lines i ++ nodesBehind lines (suc i)
+unfolding nodesBehind nodesFrom programsBefore linePrograms newNodes programBehind codeOf
+new-behind lines i h = go (l .kind) refl
   where
     l : Line
     l = first-line lines i h .0
@@ -190,11 +170,17 @@ step-line lines i h = go (l .kind) refl
     c : getD (codesOf lines) i 0 ≡ codeOf (l .kind)
     c = first-line lines i h .2
 
-    other : (k : LineKind) → l .kind ≡ k → (codeOf k ≡ 3 → ⊥) → (new : List Node) × Step lines i new
-    other k e n = ([], step-other lines i l k e d (c ∙ ap codeOf e) n)
+    body-same : runOf (length (drop (suc i) lines)) (drop (suc i) lines) ≡ runOf (length (codesOf lines) - (i + 1)) (drop (i + 1) lines)
+    body-same = rw (add-one, length-drop, length-codes)
 
-    go : (k : LineKind) → l .kind ≡ k → (new : List Node) × Step lines i new
-    go Pr e = (nodesOfProgram (programsBefore (codesOf lines) i) (programBehind lines i), step-program lines i l e d (c ∙ ap codeOf e))
+    other : (k : LineKind) → l .kind ≡ k → (codeOf k ≡ 3 → ⊥) → nodesBehind lines i ≡ newNodes lines i ++ nodesBehind lines (suc i)
+    other k e n =
+        let none : eqb (getD (codesOf lines) i 0) 3 ≡ false = ne-eqb (getD (codesOf lines) i 0) 3 (λ z. n (ap codeOf (sym e) ∙ sym c ∙ z)) in
+        rw d (rw (programs-none l (drop (suc i) lines) k e n, none, programsBefore))
+
+    go : (k : LineKind) → l .kind ≡ k → nodesBehind lines i ≡ newNodes lines i ++ nodesBehind lines (suc i)
+    go Pr e =
+        rw d (rw (programs-there l (drop (suc i) lines) e, eq-eqb (getD (codesOf lines) i 0) 3 (c ∙ ap codeOf e), programsBefore, body-same, add-one (programsBefore (codesOf lines) i)))
     go (St s) e = other (St s) e (λ z. omega arith)
     go Lo e = other Lo e (λ z. omega arith)
     go Br e = other Br e (λ z. omega arith)
@@ -204,80 +190,133 @@ step-line lines i h = go (l .kind) refl
     go En e = other En e (λ z. omega arith)
     go Li e = other Li e (λ z. omega arith)
 
--- what is gathered before a place, and the nodes behind it
-record Before (lines : List Line) (i : ℕ) : Type 0 where
-  counts : Alike (totalsBefore (codesOf lines) i .count + length (nodesBehind lines i)) (length (nodesOf lines))
-  states : Alike (totalsBefore (codesOf lines) i .statements + statementsIn (nodesBehind lines i)) (statementsIn (nodesOf lines))
-  pieces : length (nodesOf lines) ≤ 512
-      → piecesBefore (codesOf lines) (idsOf lines) i ++ map pieceOf (nodesBehind lines i) ≡ map pieceOf (nodesOf lines)
-
-before-start : (lines : List Line) → Before lines 0
-unfolding totalsBefore nodesBehind programsBefore piecesBefore nodesOf
-before-start lines =
-    record {
-      counts = record { same = ap cap (zero-add (length (nodesOf lines))) };
-      states = record { same = ap cap (zero-add (statementsIn (nodesOf lines))) };
-      pieces = λ small. refl;
-    }
-
-before-next : (lines : List Line) (i : ℕ) (new : List Node) → Step lines i new → Before lines i → Before lines (suc i)
-unfolding totalsBefore piecesBefore
-before-next lines i new s b =
-    record {
-      counts = record { same = plus-same (s .totals t) (alike-refl (length more)) ∙ ap cap together ∙ b .counts .same };
-      states = record { same = plus-same (s .states t) (alike-refl (statementsIn more)) ∙ ap cap all ∙ b .states .same };
-      pieces = λ small. rw (append-assoc, s .pieces (few small), ← map-append, ← s .behind) (b .pieces small);
-    }
-  where
-    t : Totals
-    t = totalsBefore (codesOf lines) i
-
-    more : List Node
-    more = nodesBehind lines (suc i)
-
-    there : length (nodesBehind lines i) ≡ length new + length more
-    there = ap length (s .behind) ∙ length-append new more
-
-    together : t .count + length new + length more ≡ t .count + length (nodesBehind lines i)
-    together = omega (arith, there)
-
-    all : t .statements + statementsIn new + statementsIn more ≡ t .statements + statementsIn (nodesBehind lines i)
-    all = omega (arith, ap statementsIn (s .behind), statements-append new more)
-
-    few : length (nodesOf lines) ≤ 512 → length new ≤ 512
-    few small =
-        let whole = ap length (b .pieces small) in
-        omega (
-          arith,
-          there,
-          whole,
-          length-append (piecesBefore (codesOf lines) (idsOf lines) i) (map pieceOf (nodesBehind lines i)),
-          length-map (nodesBehind lines i) pieceOf,
-          length-map (nodesOf lines) pieceOf,
-        )
-
-before : (lines : List Line) (i : ℕ) → i ≤ length lines → Before lines i
-before lines zero h = before-start lines
-before lines (suc i) h = let step = step-line lines i (omega arith) in before-next lines i (step .0) (step .1) (before lines i (omega arith))
-
 module _ (lines : List Line) where
-  none-behind : nodesBehind lines (length lines) ≡ []
+  nodes-parts : (i : ℕ) → i ≤ length lines → nodesOf lines ≡ nodesBefore lines i ++ nodesBehind lines i
+  unfolding nodesBefore nodesBehind programsBefore nodesOf
+  nodes-parts zero h = refl
+  nodes-parts (suc i) h =
+      nodes-parts i (omega arith) ∙ rw (new-behind lines i (omega arith))
+      (sym (append-assoc (nodesBefore lines i) (newNodes lines i) (nodesBehind lines (suc i))))
+
+  -- the nodes are those that all lines begin
+  nodes-whole : nodesOf lines ≡ nodesBefore lines (length lines)
   unfolding nodesBehind programsOf nodesFrom
-  none-behind = rw drop-length
+  nodes-whole = nodes-parts (length lines) (omega arith) ∙ rw drop-length (append-nil (nodesBefore lines (length lines)))
+
+  -- a line's part in the totals
+  new-count : (i : ℕ) (t : Totals) → Alike (lineTotals (codesOf lines) i t .count) (t .count + length (newNodes lines i))
+  unfolding lineTotals newNodes countedBehind programBehind
+  new-count i t = go (eqb (getD (codesOf lines) i 0) 3)
+    where
+      left : ℕ
+      left = length (codesOf lines) - (i + 1)
+
+      program : List Node
+      program = nodesOfProgram (programsBefore (codesOf lines) i) (programBehind lines i)
+
+      counts : countAt left (codesOf lines) (i + 1) .count ≡ cap (length program)
+      counts = counts-run lines left (i + 1) .counts
+          ∙ ap cap (sym (program-counts lines (programsBefore (codesOf lines) i) (i + 1) left (linksOf (drop (suc i) lines))))
+
+      go : (b : Bool)
+          → Alike (cond b (record { count = plus (t .count) (countAt left (codesOf lines) (i + 1) .count); statements = plus (t .statements) (countAt left (codesOf lines) (i + 1) .statements) }) t .count)
+          (t .count + length (cond b program []))
+      go true = plus-alike (alike-refl (t .count)) (stopped counts)
+      go false = rw add-zero (alike-refl (t .count))
+
+  new-statements : (i : ℕ) (t : Totals) → Alike (lineTotals (codesOf lines) i t .statements) (t .statements + statementsIn (newNodes lines i))
+  unfolding lineTotals newNodes countedBehind programBehind statementsIn
+  new-statements i t = go (eqb (getD (codesOf lines) i 0) 3)
+    where
+      left : ℕ
+      left = length (codesOf lines) - (i + 1)
+
+      program : List Node
+      program = nodesOfProgram (programsBefore (codesOf lines) i) (programBehind lines i)
+
+      states : countAt left (codesOf lines) (i + 1) .statements ≡ cap (statementsIn program)
+      states = counts-run lines left (i + 1) .states
+          ∙ ap cap (sym (program-statements lines (programsBefore (codesOf lines) i) (i + 1) left (linksOf (drop (suc i) lines))))
+
+      go : (b : Bool)
+          → Alike (cond b (record { count = plus (t .count) (countAt left (codesOf lines) (i + 1) .count); statements = plus (t .statements) (countAt left (codesOf lines) (i + 1) .statements) }) t .statements)
+          (t .statements + statementsIn (cond b program []))
+      go true = plus-alike (alike-refl (t .statements)) (stopped states)
+      go false = rw add-zero (alike-refl (t .statements))
+
+  counts-before : (i : ℕ) → Alike (totalsBefore (codesOf lines) i .count) (length (nodesBefore lines i))
+  unfolding totalsBefore nodesBefore
+  counts-before zero = alike-refl 0
+  counts-before (suc i) =
+      record {
+        same = new-count i (totalsBefore (codesOf lines) i) .same
+            ∙ sym (cap-add (totalsBefore (codesOf lines) i .count) (length (newNodes lines i)))
+            ∙ ap (λ (x : ℕ). cap (x + cap (length (newNodes lines i)))) (counts-before i .same)
+            ∙ cap-add (length (nodesBefore lines i)) (length (newNodes lines i))
+            ∙ ap cap (sym (length-append (nodesBefore lines i) (newNodes lines i)));
+      }
+
+  states-before : (i : ℕ) → Alike (totalsBefore (codesOf lines) i .statements) (statementsIn (nodesBefore lines i))
+  unfolding totalsBefore nodesBefore statementsIn
+  states-before zero = alike-refl 0
+  states-before (suc i) =
+      record {
+        same = new-statements i (totalsBefore (codesOf lines) i) .same
+            ∙ sym (cap-add (totalsBefore (codesOf lines) i .statements) (statementsIn (newNodes lines i)))
+            ∙ ap (λ (x : ℕ). cap (x + cap (statementsIn (newNodes lines i)))) (states-before i .same)
+            ∙ cap-add (statementsIn (nodesBefore lines i)) (statementsIn (newNodes lines i))
+            ∙ ap cap (sym (statements-append (nodesBefore lines i) (newNodes lines i)));
+      }
 
   -- the totals of all lines stop where the number of nodes and that of their statements stop
   pub total-count : Alike (totalsBefore (codesOf lines) (length lines) .count) (length (nodesOf lines))
-  total-count = record { same = ap cap (sym (omega (arith, ap length none-behind))) ∙ before lines (length lines) (omega arith) .counts .same }
+  total-count = rw nodes-whole (counts-before (length lines))
 
   pub total-statements : Alike (totalsBefore (codesOf lines) (length lines) .statements) (statementsIn (nodesOf lines))
-  unfolding statementsIn
-  total-statements =
-      record { same = ap cap (sym (omega (arith, ap statementsIn none-behind))) ∙ before lines (length lines) (omega arith) .states .same }
+  total-statements = rw nodes-whole (states-before (length lines))
 
-  -- the pieces of all lines are the nodes
-  pub all-pieces : length (nodesOf lines) ≤ 512 → piecesBefore (codesOf lines) (idsOf lines) (length lines) ≡ map pieceOf (nodesOf lines)
-  all-pieces small = sym (append-nil (piecesBefore (codesOf lines) (idsOf lines) (length lines)))
-      ∙ (rw none-behind at (before lines (length lines) (omega arith) .pieces small))
+module _ (Word : Statement → ℕ → Type 0) (mark : Statement → ℕ) (lines : List Line) (words marks : List ℕ) (fit : Tables Word mark lines words marks) where
+  new-pieces : (i : ℕ) → length (newNodes lines i) ≤ 512
+      → PiecesFor Word mark (newNodes lines i) (linePieces (codesOf lines) words marks i (programsBefore (codesOf lines) i))
+  unfolding newNodes linePieces countedBehind programBehind PiecesFor
+  new-pieces i = go (eqb (getD (codesOf lines) i 0) 3)
+    where
+      number : ℕ
+      number = programsBefore (codesOf lines) i
+
+      left : ℕ
+      left = length (codesOf lines) - (i + 1)
+
+      links : List Link
+      links = linksOf (drop (suc i) lines)
+
+      program : List Node
+      program = nodesOfProgram number (programBehind lines i)
+
+      rows : List Piece
+      rows = tabulate (row number (codesOf lines) words marks (i + 1) left) 0 (countAt left (codesOf lines) (i + 1) .count)
+
+      for-rows : length program ≤ 512 → PiecesFor Word mark program rows
+      for-rows small =
+          let few : countRun (runOf left (drop (i + 1) lines) .run) ≤ 512 = omega (arith, program-counts lines number (i + 1) left links) in
+          let exact : countAt left (codesOf lines) (i + 1) .count ≡ countRun (runOf left (drop (i + 1) lines) .run) =
+          counts-run lines left (i + 1) .counts ∙ cap-small (omega arith) in
+          rw exact (program-pieces Word mark lines words marks fit number (i + 1) left links few)
+
+      go : (b : Bool) → length (cond b program []) ≤ 512 → PiecesFor Word mark (cond b program []) (cond b rows [])
+      go true small = for-rows small
+      go false small = _
+
+  pieces-before : (i : ℕ) → length (nodesBefore lines i) ≤ 512 → PiecesFor Word mark (nodesBefore lines i) (piecesBefore (codesOf lines) words marks i)
+  unfolding nodesBefore piecesBefore PiecesFor
+  pieces-before zero small = _
+  pieces-before (suc i) small =
+      let both = length-append (nodesBefore lines i) (newNodes lines i) in
+      pieces-append Word mark (nodesBefore lines i) (newNodes lines i) _ _ (pieces-before i (omega (arith, both))) (new-pieces i (omega (arith, both)))
+
+  -- the pieces of all lines are those of the nodes
+  pub all-pieces : length (nodesOf lines) ≤ 512 → PiecesFor Word mark (nodesOf lines) (piecesBefore (codesOf lines) words marks (length lines))
+  all-pieces small = rw (nodes-whole lines) (pieces-before (length lines) (rw (nodes-whole lines) at small))
 
 -- numbers that stop alike are over a limit together
 over-too : (a b limit : ℕ) → limit < 513 → cap a ≡ cap b → limit < a → limit < b
@@ -290,10 +329,38 @@ over-alike a b limit h p =
     (λ e. lt-ltb limit b (over-too a b limit h (p .same) (ltb-true limit a e)))
     (λ e. lt-ltb limit a (over-too b a limit h (sym (p .same)) (ltb-true limit b e)))
 
--- as many ids as statements
-pub flat-length : (nodes : List Node) → length (flat (map pieceOf nodes)) ≡ statementsIn nodes
-unfolding flat pieceOf statementsIn placeIds
-flat-length [] = refl
-flat-length (n ∷ nodes) =
-    length-append (placeIds (n .places)) (flat (map pieceOf nodes))
-    ∙ omega (arith, flat-length nodes, length-map (n .places) (λ o. o .statement .id))
+-- as many pieces as nodes, as many words as statements; the programs, starts and lengths
+module _ (Word : Statement → ℕ → Type 0) (mark : Statement → ℕ) where
+  pub length-words : (n : Node) (p : Piece) → PieceFor Word mark n p → length (p .words) ≡ length (n .places)
+  length-words n p h = words-length Word mark 0 [] (n .places) (p .words) (h .words)
+
+  pub length-pieces : (nodes : List Node) (pieces : List Piece) → PiecesFor Word mark nodes pieces → length pieces ≡ length nodes
+  unfolding PiecesFor
+  length-pieces [] [] h = refl
+  length-pieces [] (p ∷ pieces) h = absurd h
+  length-pieces (n ∷ nodes) [] h = absurd h
+  length-pieces (n ∷ nodes) (p ∷ pieces) h = ap suc (length-pieces nodes pieces (h .1))
+
+  pub flat-length : (nodes : List Node) (pieces : List Piece) → PiecesFor Word mark nodes pieces → length (flat pieces) ≡ statementsIn nodes
+  unfolding PiecesFor flat statementsIn
+  flat-length [] [] h = refl
+  flat-length [] (p ∷ pieces) h = absurd h
+  flat-length (n ∷ nodes) [] h = absurd h
+  flat-length (n ∷ nodes) (p ∷ pieces) h =
+      length-append (p .words) (flat pieces) ∙ omega (arith, flat-length nodes pieces (h .1), length-words n p (h .0))
+
+  pub piece-programs : (nodes : List Node) (pieces : List Piece) → PiecesFor Word mark nodes pieces
+      → map (λ p. p .program) pieces ≡ map (λ n. n .program) nodes
+  unfolding PiecesFor
+  piece-programs [] [] h = refl
+  piece-programs [] (p ∷ pieces) h = absurd h
+  piece-programs (n ∷ nodes) [] h = absurd h
+  piece-programs (n ∷ nodes) (p ∷ pieces) h = rw (h .0 .program, piece-programs nodes pieces (h .1))
+
+  pub piece-lengths : (nodes : List Node) (pieces : List Piece) → PiecesFor Word mark nodes pieces
+      → map (λ p. length (p .words)) pieces ≡ map (λ n. length (n .places)) nodes
+  unfolding PiecesFor
+  piece-lengths [] [] h = refl
+  piece-lengths [] (p ∷ pieces) h = absurd h
+  piece-lengths (n ∷ nodes) [] h = absurd h
+  piece-lengths (n ∷ nodes) (p ∷ pieces) h = rw (length-words n p (h .0), piece-lengths nodes pieces (h .1))

@@ -18,12 +18,12 @@ added t program n =
 
 unfoldable pub addAll : Filled → List Piece → Filled
 addAll t [] = t
-addAll t (p ∷ ps) = addAll (added t (p .program) (length (p .ids))) ps
+addAll t (p ∷ ps) = addAll (added t (p .program) (length (p .words))) ps
 
 -- the place where each piece starts
 unfoldable pub starts : ℕ → List Piece → List ℕ
 starts s [] = []
-starts s (p ∷ ps) = s ∷ starts (s + length (p .ids)) ps
+starts s (p ∷ ps) = s ∷ starts (s + length (p .words)) ps
 
 -- 64 cells: a list, and 0 in those past it
 unfoldable pub cells : List ℕ → List ℕ
@@ -36,5 +36,5 @@ table ps =
       used = length (flat ps);
       program = cells (map (λ p. p .program) ps);
       start = cells (starts 0 ps);
-      length = cells (map (λ p. length (p .ids)) ps);
+      length = cells (map (λ p. length (p .words)) ps);
     }

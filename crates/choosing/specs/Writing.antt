@@ -1,7 +1,9 @@
--- The statement ids of unfolding number k of a run of lines, over the numbers of the lines.
+-- The words of unfolding number k of a run of lines, over the numbers of the lines and two tables: each line's word and each line's mark.
+-- A statement's place gets its line's word and, from 2048 on, what is seen there: the marks of the statements before it in its run and in the runs around.
 use mathlib.Core.Bool.{cond}
 use mathlib.Core.List.{List, [], _∷_, _++_, map}
-use Prim.Native.Nat.{ℕ, zero, suc, _+_, _-_, _/_, _%_}
+use Prim.Native.Nat.{ℕ, zero, suc, _+_, _*_, _-_, _/_, _%_}
+use lib.Bits.{bitOr}
 use lib.Dec.{eqb, leb, ltb}
 use lib.ListN.{length, getD}
 use Rattle.graph.specs.Unfolding.{Occurrence}
@@ -22,18 +24,19 @@ unfoldable pub writeBranch : (ℕ → List ℕ) → (ℕ → List ℕ) → ℕ �
 writeBranch one two n k = cond (ltb k n) (one k) (two (k - n))
 
 -- the item at a place; `write` gives the run at a place, `count` counts it
-unfoldable pub writeItem : (ℕ → ℕ → List ℕ) → (ℕ → Counted) → List ℕ → List ℕ → ℕ → ℕ → List ℕ
-writeItem write count codes ids at k =
-    cond (eqb (getD codes at 0) 0) (getD ids at 0 ∷ [])
+unfoldable pub writeItem : (ℕ → ℕ → List ℕ) → (ℕ → Counted) → List ℕ → List ℕ → ℕ → ℕ → ℕ → List ℕ
+writeItem write count codes words seen at k =
+    cond (eqb (getD codes at 0) 0) ((getD words at 0 + seen * 2048) ∷ [])
     (cond (eqb (getD codes at 0) 1) (writeLoop (write (at + 1)) (count (at + 1) .count) k)
     (writeBranch (write (at + 1)) (write (after (length codes) (count (at + 1) .end))) (count (at + 1) .count) k))
 
--- the run at a place; the number bounds the lines, as in `runOf`
-unfoldable pub writeAt : ℕ → List ℕ → List ℕ → ℕ → ℕ → List ℕ
-writeAt zero codes ids at k = []
-writeAt (suc n) codes ids at k =
+-- the run at a place; the number bounds the lines, as in `runOf`. Behind an item its mark is seen too: a block has none.
+unfoldable pub writeAt : ℕ → List ℕ → List ℕ → List ℕ → ℕ → ℕ → ℕ → List ℕ
+writeAt zero codes words marks seen at k = []
+writeAt (suc n) codes words marks seen at k =
     let more = itemAt (countAt n codes) codes at .end in
     let c = countAt n codes more .count in
     cond (leb (length codes) at) []
     (cond (ltb 2 (getD codes at 0)) []
-    (writeItem (writeAt n codes ids) (countAt n codes) codes ids at (k / c) ++ writeAt n codes ids more (k % c)))
+    (writeItem (writeAt n codes words marks seen) (countAt n codes) codes words seen at (k / c)
+    ++ writeAt n codes words marks (bitOr seen (getD marks at 0)) more (k % c)))

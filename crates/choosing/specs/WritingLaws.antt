@@ -1,12 +1,14 @@
--- What is written for unfolding number k over the numbers of lines are the ids of that unfolding of the run read off the lines.
+-- What is written for unfolding number k over the numbers of lines are words for the places of that unfolding of the run read off the lines.
 use mathlib.Core.Bool.{Bool, true, false, cond}
 use mathlib.Core.List.{List, [], _∷_, _++_, map, tail, map-append}
+use mathlib.Core.Option.{some}
 use mathlib.Core.Path.{_≡_, refl, sym, ap, subst, _∙_}
 use Prim.Native.Nat.{ℕ, zero, suc, _+_, _*_, _-_, _/_, _%_, _<_, _≤_}
 use native.Mathlib.Nat.{mul-comm, le-mul-of-pos-right}
 use native.Mathlib.Numerals.{add-one}
 use native.Mathlib.Omega.{arith}
-use lib.ListN.{length, getD, drop, length-map, drop-of-length-le}
+use lib.Bits.{bitOr, or-zero-r}
+use lib.ListN.{length, getD, getElem?, drop, length-map, drop-of-length-le}
 use lib.Dec.{eqb, leb, ltb}
 use borrow.Author.Tests.{ltb-true, ltb-false, lt-ltb, le-ltb, le-leb, lt-leb, leb-true, leb-false, eq-eqb, ne-eqb}
 use Rattle.text.specs.declared.Line.{Line}
@@ -16,83 +18,158 @@ use Rattle.text.specs.declared.StatementKind.{StatementKind}
 use Rattle.graph.specs.Program.{Statement, Item, Run, Parsed, runOf, behind, statementOf}
 use Rattle.graph.specs.Program.Item.{statement, loop, branch}
 use Rattle.graph.specs.Program.Run.{done, next}
-use Rattle.graph.specs.Unfolding.{Occurrence, inside}
+use Rattle.graph.specs.Unfolding.{Around, Occurrence, inside}
+use Rattle.graph.specs.Edge.{leads}
 use Rattle.choosing.specs.declared.Counted.{Counted}
 use Rattle.choosing.specs.Cap.{cap, cap-small}
 use Rattle.choosing.specs.Choosing.{countRun, countItem, choose, chooseItem}
 use Rattle.choosing.specs.ChoosingLaws.{run-counts, item-counts}
 use Rattle.choosing.specs.Codes.{codeOf, codesOf, idsOf, after, itemAt, countAt, statementAt, loopCounted, branchCounted}
 use Rattle.choosing.specs.CodesLaws.{Counts, CountsItem, counts-run, length-codes, item-statement, item-loop, item-branch, run-ends, run-statement, run-loop, run-branch, tail-drop, first-line, counts-loop, counts-branch, counts-statement}
-use Rattle.choosing.specs.Writing.{placeIds, writeLoop, writeBranch, writeItem, writeAt}
+use Rattle.choosing.specs.Shown.{shown, PlaceWord, PlaceWords, Later}
+use Rattle.choosing.specs.ShownLaws.{or-assoc, around, apart-later, apart-turn, later-less, shown-append, shown-apart, behind-apart, words-append, words-inside}
+use Rattle.choosing.specs.Writing.{writeLoop, writeBranch, writeItem, writeAt}
 
--- one block more around occurrences changes no id
-ids-inside : (i t : ℕ) (l : List Occurrence) → placeIds (map (inside i t) l) ≡ placeIds l
-unfolding placeIds inside
-ids-inside i t [] = refl
-ids-inside i t (o ∷ l) = ap (λ (r : List ℕ). o .statement .id ∷ r) (ids-inside i t l)
+-- the lines' tables: at a statement's line its own word and its mark, at every other line no mark
+pub record Tables (Word : Statement → ℕ → Type 0) (mark : Statement → ℕ) (lines : List Line) (words marks : List ℕ) : Type 0 where
+  pub word : (at : ℕ) (l : Line) (k : StatementKind) → getElem? lines at ≡ some l → l .kind ≡ St k → Word (statementOf k l) (getD words at 0)
+  pub marked : (at : ℕ) (l : Line) (k : StatementKind) → getElem? lines at ≡ some l → l .kind ≡ St k → getD marks at 0 ≡ mark (statementOf k l)
+  pub unmarked : (at : ℕ) (l : Line) → getElem? lines at ≡ some l → (codeOf (l .kind) ≡ 0 → ⊥) → getD marks at 0 ≡ 0
 
-ids-append : (l r : List Occurrence) → placeIds (l ++ r) ≡ placeIds l ++ placeIds r
-unfolding placeIds
-ids-append [] r = refl
-ids-append (o ∷ l) r = ap (λ (m : List ℕ). o .statement .id ∷ m) (ids-append l r)
+-- a list at a place
+line-there : (lines : List Line) (at : ℕ) {l : Line} {rest : List Line} → drop at lines ≡ l ∷ rest → getElem? lines at ≡ some l
+line-there [] zero {l} {rest} e = let z : _≡_ {A = List Line} [] (l ∷ rest) = e in absurd (omega (arith, ap length z))
+line-there [] (suc at) {l} {rest} e = let z : _≡_ {A = List Line} [] (l ∷ rest) = e in absurd (omega (arith, ap length z))
+line-there (x ∷ lines) zero e = ap some (cc)
+line-there (x ∷ lines) (suc at) e = line-there lines at e
 
--- a loop over a body whose ids are written, a branch of two arms whose ids are written
-loop-written : (r : Run) (i k : ℕ) (body : ℕ → List ℕ) → ((t j : ℕ) → body j ≡ placeIds (map (inside i t) (choose r 0 j)))
-    → writeLoop body (countRun r) k ≡ placeIds (chooseItem (loop r) i k)
-unfolding writeLoop choose placeIds
-loop-written r i k body h = go (eqb k 0) (leb k (countRun r))
-  where
-    go : (s t : Bool)
-        → cond s [] (cond t (body (k - 1)) (body ((k - 1 - countRun r) / countRun r) ++ body ((k - 1 - countRun r) % countRun r)))
-        ≡ placeIds (cond s [] (cond t (map (inside i 0) (choose r 0 (k - 1)))
-        (map (inside i 0) (choose r 0 ((k - 1 - countRun r) / countRun r)) ++ map (inside i 1) (choose r 0 ((k - 1 - countRun r) % countRun r)))))
-    go true t = refl
-    go false true = h 0 (k - 1)
-    go false false =
-        rw (h 0 ((k - 1 - countRun r) / countRun r), h 1 ((k - 1 - countRun r) % countRun r))
-        (sym (ids-append (map (inside i 0) (choose r 0 ((k - 1 - countRun r) / countRun r))) (map (inside i 1) (choose r 0 ((k - 1 - countRun r) % countRun r)))))
+module _ (Word : Statement → ℕ → Type 0) (mark : Statement → ℕ) where
+  -- before item i of a run the run and those around it have seen `all`
+  abbrev Sees : ℕ → List Occurrence → ℕ → ℕ → Type 0
+  Sees seen before i all = (path : List Around) → Later i path → bitOr seen (shown mark before path) ≡ all
 
-branch-written : (a b : Run) (i k : ℕ) (one two : ℕ → List ℕ) → ((j : ℕ) → one j ≡ placeIds (map (inside i 0) (choose a 0 j)))
-    → ((j : ℕ) → two j ≡ placeIds (map (inside i 1) (choose b 0 j)))
-    → writeBranch one two (countRun a) k ≡ placeIds (chooseItem (branch a b) i k)
-unfolding writeBranch choose
-branch-written a b i k one two h g = go (ltb k (countRun a))
-  where
-    go : (t : Bool) → cond t (one k) (two (k - countRun a))
-        ≡ placeIds (cond t (map (inside i 0) (choose a 0 k)) (map (inside i 1) (choose b 0 (k - countRun a))))
-    go true = h k
-    go false = g (k - countRun a)
+  -- in the item and behind it
+  sees-turn : (seen all i t : ℕ) (before : List Occurrence) → Sees seen before i all
+      → (path : List Around) → bitOr seen (shown mark before (around i t ∷ path)) ≡ all
+  unfolding Later
+  sees-turn seen all i t before h path = h (around i t ∷ path) (omega arith)
+
+  sees-behind : (seen all i m : ℕ) (before new : List Occurrence) → Sees seen before i all
+      → ((path : List Around) → Later (suc i) path → shown mark new path ≡ m) → Sees seen (before ++ new) (suc i) (bitOr all m)
+  sees-behind seen all i m before new h g path later =
+      ap (bitOr seen) (shown-append mark before new path)
+      ∙ rw (g path later, ← h path (later-less i path later)) (sym (or-assoc seen (shown mark before path) m))
+
+  -- a statement is seen behind it, nothing of a block is
+  statement-seen : (s : Statement) (i k : ℕ) (path : List Around) → shown mark (chooseItem (statement s) i k) path ≡ mark s
+  unfolding shown choose leads
+  statement-seen s i k path = or-zero-r (mark s)
+
+  loop-unseen : (r : Run) (i k : ℕ) (path : List Around) → Later (suc i) path → shown mark (chooseItem (loop r) i k) path ≡ 0
+  unfolding choose shown
+  loop-unseen r i k path h = go (eqb k 0) (leb k (countRun r))
+    where
+      go : (s t : Bool)
+          → shown mark (cond s [] (cond t (map (inside i 0) (choose r 0 (k - 1)))
+          (map (inside i 0) (choose r 0 ((k - 1 - countRun r) / countRun r)) ++ map (inside i 1) (choose r 0 ((k - 1 - countRun r) % countRun r))))) path
+          ≡ 0
+      go true t = refl
+      go false true = shown-apart mark i 0 (choose r 0 (k - 1)) path (apart-later i 0 path h)
+      go false false =
+          behind-apart mark i 1 (map (inside i 0) (choose r 0 ((k - 1 - countRun r) / countRun r)))
+          (choose r 0 ((k - 1 - countRun r) % countRun r)) path (apart-later i 1 path h)
+          ∙ shown-apart mark i 0 (choose r 0 ((k - 1 - countRun r) / countRun r)) path (apart-later i 0 path h)
+
+  branch-unseen : (a b : Run) (i k : ℕ) (path : List Around) → Later (suc i) path → shown mark (chooseItem (branch a b) i k) path ≡ 0
+  unfolding choose
+  branch-unseen a b i k path h = go (ltb k (countRun a))
+    where
+      go : (t : Bool) → shown mark (cond t (map (inside i 0) (choose a 0 k)) (map (inside i 1) (choose b 0 (k - countRun a)))) path ≡ 0
+      go true = shown-apart mark i 0 (choose a 0 k) path (apart-later i 0 path h)
+      go false = shown-apart mark i 1 (choose b 0 (k - countRun a)) path (apart-later i 1 path h)
+
+  -- a statement's place
+  statement-written : (s : Statement) (i k seen all : ℕ) (before : List Occurrence) (own : ℕ) → Word s own → Sees seen before i all
+      → PlaceWords Word mark seen before (chooseItem (statement s) i k) ((own + all * 2048) ∷ [])
+  unfolding choose PlaceWords Later
+  statement-written s i k seen all before own w h =
+      (record { own = own; fits = w; whole = ap (λ (x : ℕ). own + x * 2048) (sym (h [] _)) }, _)
+
+  -- a loop over a body whose words are written, a branch of two arms whose words are written
+  loop-written : (r : Run) (i k seen all : ℕ) (before : List Occurrence) (body : ℕ → List ℕ) → Sees seen before i all
+      → ((j : ℕ) → PlaceWords Word mark all [] (choose r 0 j) (body j))
+      → PlaceWords Word mark seen before (chooseItem (loop r) i k) (writeLoop body (countRun r) k)
+  unfolding writeLoop choose PlaceWords
+  loop-written r i k seen all before body h g = go (eqb k 0) (leb k (countRun r))
+    where
+      one : (j : ℕ) → PlaceWords Word mark seen before (map (inside i 0) (choose r 0 j)) (body j)
+      one j = words-inside Word mark seen all i 0 before (sees-turn seen all i 0 before h) (choose r 0 j) (body j) (g j)
+
+      two : (m j : ℕ) → PlaceWords Word mark seen (before ++ map (inside i 0) (choose r 0 m)) (map (inside i 1) (choose r 0 j)) (body j)
+      two m j =
+          words-inside Word mark seen all i 1 (before ++ map (inside i 0) (choose r 0 m))
+          (λ path. ap (bitOr seen) (behind-apart mark i 0 before (choose r 0 m) (around i 1 ∷ path)
+          (apart-turn i 0 1 path (λ (z : 0 ≡ 1). omega arith))) ∙ sees-turn seen all i 1 before h path)
+          (choose r 0 j) (body j) (g j)
+
+      go : (s t : Bool)
+          → PlaceWords Word mark seen before
+          (cond s [] (cond t (map (inside i 0) (choose r 0 (k - 1)))
+          (map (inside i 0) (choose r 0 ((k - 1 - countRun r) / countRun r)) ++ map (inside i 1) (choose r 0 ((k - 1 - countRun r) % countRun r)))))
+          (cond s [] (cond t (body (k - 1)) (body ((k - 1 - countRun r) / countRun r) ++ body ((k - 1 - countRun r) % countRun r))))
+      go true t = _
+      go false true = one (k - 1)
+      go false false =
+          let m = (k - 1 - countRun r) / countRun r in
+          let j = (k - 1 - countRun r) % countRun r in
+          words-append Word mark seen before (map (inside i 0) (choose r 0 m)) (map (inside i 1) (choose r 0 j)) (body m) (body j) (one m) (two m j)
+
+  branch-written : (a b : Run) (i k seen all : ℕ) (before : List Occurrence) (one two : ℕ → List ℕ) → Sees seen before i all
+      → ((j : ℕ) → PlaceWords Word mark all [] (choose a 0 j) (one j)) → ((j : ℕ) → PlaceWords Word mark all [] (choose b 0 j) (two j))
+      → PlaceWords Word mark seen before (chooseItem (branch a b) i k) (writeBranch one two (countRun a) k)
+  unfolding writeBranch choose
+  branch-written a b i k seen all before one two h f g = go (ltb k (countRun a))
+    where
+      go : (t : Bool)
+          → PlaceWords Word mark seen before (cond t (map (inside i 0) (choose a 0 k)) (map (inside i 1) (choose b 0 (k - countRun a))))
+          (cond t (one k) (two (k - countRun a)))
+      go true = words-inside Word mark seen all i 0 before (sees-turn seen all i 0 before h) (choose a 0 k) (one k) (f k)
+      go false =
+          words-inside Word mark seen all i 1 before (sees-turn seen all i 1 before h) (choose b 0 (k - countRun a)) (two (k - countRun a))
+          (g (k - countRun a))
 
 -- the paths through the writing of a run and of an item
-module _ (codes ids : List ℕ) (at k : ℕ) where
-  pub write-past : (n : ℕ) → length codes ≤ at → writeAt n codes ids at k ≡ []
+module _ (codes words marks : List ℕ) (seen at k : ℕ) where
+  pub write-past : (n : ℕ) → length codes ≤ at → writeAt n codes words marks seen at k ≡ []
   unfolding writeAt
   write-past zero h = refl
   write-past (suc n) h = simp (le-leb (length codes) at h)
 
-  pub write-stop : (n : ℕ) → at < length codes → 2 < getD codes at 0 → writeAt n codes ids at k ≡ []
+  pub write-stop : (n : ℕ) → at < length codes → 2 < getD codes at 0 → writeAt n codes words marks seen at k ≡ []
   unfolding writeAt
   write-stop zero h c = refl
   write-stop (suc n) h c = simp (lt-leb (length codes) at h, lt-ltb 2 (getD codes at 0) c)
 
   pub write-next : (n : ℕ) → at < length codes → getD codes at 0 ≤ 2
-      → writeAt (suc n) codes ids at k
-      ≡ writeItem (writeAt n codes ids) (countAt n codes) codes ids at (k / countAt n codes (itemAt (countAt n codes) codes at .end) .count)
-      ++ writeAt n codes ids (itemAt (countAt n codes) codes at .end) (k % countAt n codes (itemAt (countAt n codes) codes at .end) .count)
+      → writeAt (suc n) codes words marks seen at k
+      ≡ writeItem (writeAt n codes words marks seen) (countAt n codes) codes words seen at
+      (k / countAt n codes (itemAt (countAt n codes) codes at .end) .count)
+      ++ writeAt n codes words marks (bitOr seen (getD marks at 0)) (itemAt (countAt n codes) codes at .end)
+      (k % countAt n codes (itemAt (countAt n codes) codes at .end) .count)
   unfolding writeAt
   write-next n h c = simp (lt-leb (length codes) at h, le-ltb 2 (getD codes at 0) c)
 
   module _ (write : ℕ → ℕ → List ℕ) (count : ℕ → Counted) where
-    pub write-statement : getD codes at 0 ≡ 0 → writeItem write count codes ids at k ≡ getD ids at 0 ∷ []
+    pub write-statement : getD codes at 0 ≡ 0 → writeItem write count codes words seen at k ≡ (getD words at 0 + seen * 2048) ∷ []
     unfolding writeItem
     write-statement h = simp (eq-eqb (getD codes at 0) 0 h)
 
-    pub write-loop : getD codes at 0 ≡ 1 → writeItem write count codes ids at k ≡ writeLoop (write (at + 1)) (count (at + 1) .count) k
+    pub write-loop : getD codes at 0 ≡ 1 → writeItem write count codes words seen at k ≡ writeLoop (write (at + 1)) (count (at + 1) .count) k
     unfolding writeItem
     write-loop h = simp (ne-eqb (getD codes at 0) 0 (λ (z : getD codes at 0 ≡ 0). omega arith), eq-eqb (getD codes at 0) 1 h)
 
     pub write-branch : (getD codes at 0 ≡ 0 → ⊥) → (getD codes at 0 ≡ 1 → ⊥)
-        → writeItem write count codes ids at k
+        → writeItem write count codes words seen at k
         ≡ writeBranch (write (at + 1)) (write (after (length codes) (count (at + 1) .end))) (count (at + 1) .count) k
     unfolding writeItem
     write-branch h g = simp (ne-eqb (getD codes at 0) 0 h, ne-eqb (getD codes at 0) 1 g)
@@ -116,42 +193,46 @@ two-small : (a b : Run) → countItem (branch a b) ≤ 512 → countRun b ≤ 51
 unfolding countRun
 two-small a b h = omega arith
 
-statement-written : (s : StatementKind) (l : Line) (i k id : ℕ) → id ≡ l .id
-    → id ∷ [] ≡ placeIds (chooseItem (statement (statementOf s l)) i k)
-unfolding placeIds choose statementOf
-statement-written s l i k id h = rw h
-
-module _ (lines : List Line) where
+module _ (Word : Statement → ℕ → Type 0) (mark : Statement → ℕ) (lines : List Line) (words marks : List ℕ) (fit : Tables Word mark lines words marks) where
   -- the run from a place on is written whole, wherever it has at most 512 unfoldings
   abbrev Written : ℕ → ℕ → Type 0
-  Written n at = (i k : ℕ) → countRun (runOf n (drop at lines) .run) ≤ 512
-      → writeAt n (codesOf lines) (idsOf lines) at k ≡ placeIds (choose (runOf n (drop at lines) .run) i k)
+  Written n at = (i k seen all : ℕ) (before : List Occurrence) → countRun (runOf n (drop at lines) .run) ≤ 512 → Sees Word mark seen before i all
+      → PlaceWords Word mark seen before (choose (runOf n (drop at lines) .run) i k) (writeAt n (codesOf lines) words marks all at k)
 
   -- a small count is exact
   exact : (n at : ℕ) → countRun (runOf n (drop at lines) .run) ≤ 512
       → countAt n (codesOf lines) at .count ≡ countRun (runOf n (drop at lines) .run)
   exact n at h = counts-run lines n at .counts ∙ cap-small (omega arith)
 
-  ends-written : (n at i k : ℕ) (l : Line) (c : LineKind) → l .kind ≡ c → drop at lines ≡ l ∷ drop (suc at) lines
+  -- nothing is seen before the first item of a body
+  sees-start : (all : ℕ) → Sees Word mark all [] 0 all
+  unfolding shown
+  sees-start all path h = or-zero-r all
+
+  body-written : (n at all : ℕ) → Written n at → countRun (runOf n (drop at lines) .run) ≤ 512 → (j : ℕ)
+      → PlaceWords Word mark all [] (choose (runOf n (drop at lines) .run) 0 j) (writeAt n (codesOf lines) words marks all at j)
+  body-written n at all onward small j = onward 0 j all all [] small (sees-start all)
+
+  ends-written : (n at i k seen all : ℕ) (before : List Occurrence) (l : Line) (c : LineKind) → l .kind ≡ c → drop at lines ≡ l ∷ drop (suc at) lines
       → getD (codesOf lines) at 0 ≡ codeOf c → at < length (codesOf lines) → 2 < codeOf c
-      → writeAt (suc n) (codesOf lines) (idsOf lines) at k ≡ placeIds (choose (runOf (suc n) (drop at lines) .run) i k)
-  unfolding placeIds choose
-  ends-written n at i k l c e d g p h =
-      rw (write-stop (codesOf lines) (idsOf lines) at k (suc n) p (omega arith), d, run-ends n l (drop (suc at) lines) c e h)
+      → PlaceWords Word mark seen before (choose (runOf (suc n) (drop at lines) .run) i k) (writeAt (suc n) (codesOf lines) words marks all at k)
+  unfolding PlaceWords choose
+  ends-written n at i k seen all before l c e d g p h =
+      rw (write-stop (codesOf lines) words marks all at k (suc n) p (omega arith), d, run-ends n l (drop (suc at) lines) c e h) _
 
   -- an item and the run behind it
-  next-written : (n at i k : ℕ) (x : Item) (rest : List Line) → at < length (codesOf lines) → getD (codesOf lines) at 0 ≤ 2
-      → runOf (suc n) (drop at lines) ≡ behind x (runOf n rest)
+  next-written : (n at i k seen all : ℕ) (before : List Occurrence) (x : Item) (rest : List Line) → at < length (codesOf lines)
+      → getD (codesOf lines) at 0 ≤ 2 → runOf (suc n) (drop at lines) ≡ behind x (runOf n rest)
       → rest ≡ drop (itemAt (countAt n (codesOf lines)) (codesOf lines) at .end) lines
-      → countRun (runOf (suc n) (drop at lines) .run) ≤ 512
-      → ((j : ℕ) → countItem x ≤ 512 → writeItem (writeAt n (codesOf lines) (idsOf lines)) (countAt n (codesOf lines)) (codesOf lines) (idsOf lines) at j
-      ≡ placeIds (chooseItem x i j))
+      → countRun (runOf (suc n) (drop at lines) .run) ≤ 512 → Sees Word mark seen before i all
+      → ((j : ℕ) (path : List Around) → Later (suc i) path → shown mark (chooseItem x i j) path ≡ getD marks at 0)
+      → ((j : ℕ) → countItem x ≤ 512 → PlaceWords Word mark seen before (chooseItem x i j)
+      (writeItem (writeAt n (codesOf lines) words marks all) (countAt n (codesOf lines)) (codesOf lines) words all at j))
       → ((e : ℕ) → Written n e)
-      → writeAt (suc n) (codesOf lines) (idsOf lines) at k ≡ placeIds (choose (runOf (suc n) (drop at lines) .run) i k)
+      → PlaceWords Word mark seen before (choose (runOf (suc n) (drop at lines) .run) i k) (writeAt (suc n) (codesOf lines) words marks all at k)
   unfolding behind choose countRun
-  next-written n at i k x rest p c run d small item onward =
+  next-written n at i k seen all before x rest p c run d small sees new item onward =
       let codes = codesOf lines in
-      let ids = idsOf lines in
       let more = itemAt (countAt n codes) codes at .end in
       let r = runOf n rest .run in
       let same : runOf n (drop more lines) .run ≡ r = rw d in
@@ -159,39 +240,44 @@ module _ (lines : List Line) where
       let r-small : countRun (runOf n (drop more lines) .run) ≤ 512 =
       rw same (right-small (countItem x) (countRun r) (item-counts x) whole) in
       let c-exact : countAt n codes more .count ≡ countRun r = exact n more r-small ∙ ap countRun same in
-      write-next codes ids at k n p c
-      ∙ rw (c-exact, item (k / countRun r) (left-small (countItem x) (countRun r) (run-counts r) whole), onward more (suc i) (k % countRun r) r-small, same, run)
-      (sym (ids-append (chooseItem x i (k / countRun r)) (choose r (suc i) (k % countRun r))))
+      let first = item (k / countRun r) (left-small (countItem x) (countRun r) (run-counts r) whole) in
+      let then = onward more (suc i) (k % countRun r) seen (bitOr all (getD marks at 0)) (before ++ chooseItem x i (k / countRun r)) r-small
+      (sees-behind Word mark seen all i (getD marks at 0) before (chooseItem x i (k / countRun r)) sees (new (k / countRun r))) in
+      rw (write-next codes words marks all at k n p c, c-exact, run)
+      (words-append Word mark seen before (chooseItem x i (k / countRun r)) (choose r (suc i) (k % countRun r)) _ _ first (rw same at then))
 
   -- one line more
-  line-written : (n at i k : ℕ) (l : Line) (c : LineKind) → l .kind ≡ c → drop at lines ≡ l ∷ drop (suc at) lines
-      → getD (codesOf lines) at 0 ≡ codeOf c → getD (idsOf lines) at 0 ≡ l .id → at < length (codesOf lines)
-      → countRun (runOf (suc n) (drop at lines) .run) ≤ 512 → ((e : ℕ) → Written n e)
-      → writeAt (suc n) (codesOf lines) (idsOf lines) at k ≡ placeIds (choose (runOf (suc n) (drop at lines) .run) i k)
+  line-written : (n at i k seen all : ℕ) (before : List Occurrence) (l : Line) (c : LineKind) → l .kind ≡ c → drop at lines ≡ l ∷ drop (suc at) lines
+      → getD (codesOf lines) at 0 ≡ codeOf c → at < length (codesOf lines)
+      → countRun (runOf (suc n) (drop at lines) .run) ≤ 512 → Sees Word mark seen before i all → ((e : ℕ) → Written n e)
+      → PlaceWords Word mark seen before (choose (runOf (suc n) (drop at lines) .run) i k) (writeAt (suc n) (codesOf lines) words marks all at k)
   unfolding codeOf
-  line-written n at i k l (St s) e d g h p small onward =
+  line-written n at i k seen all before l (St s) e d g p small sees onward =
       let codes = codesOf lines in
-      let ids = idsOf lines in
       let run : drop at lines ≡ l ∷ drop (at + 1) lines = rw add-one d in
-      next-written n at i k (statement (statementOf s l)) (drop (at + 1) lines) p (omega arith) (rw run (run-statement n l (drop (at + 1) lines) s e))
-      (rw (item-statement codes at (countAt n codes) g) (counts-statement lines s l at .leaves)) small
-      (λ j q. write-statement codes ids at j (writeAt n codes ids) (countAt n codes) g ∙ statement-written s l i j (getD ids at 0) h) onward
-  line-written n at i k l Lo e d g h p small onward =
+      let there = line-there lines at d in
+      next-written n at i k seen all before (statement (statementOf s l)) (drop (at + 1) lines) p (omega arith)
+      (rw run (run-statement n l (drop (at + 1) lines) s e))
+      (rw (item-statement codes at (countAt n codes) g) (counts-statement lines s l at .leaves)) small sees
+      (λ j path later. statement-seen Word mark (statementOf s l) i j path ∙ sym (fit .marked at l s there e))
+      (λ j q. rw (write-statement codes words marks all at j (writeAt n codes words marks all) (countAt n codes) g)
+      (statement-written Word mark (statementOf s l) i j seen all before (getD words at 0) (fit .word at l s there e) sees)) onward
+  line-written n at i k seen all before l Lo e d g p small sees onward =
       let codes = codesOf lines in
-      let ids = idsOf lines in
       let run : drop at lines ≡ l ∷ drop (at + 1) lines = rw add-one d in
       let body = runOf n (drop (at + 1) lines) in
       let item : itemAt (countAt n codes) codes at ≡ loopCounted (length lines) (countAt n codes (at + 1)) =
       item-loop codes at (countAt n codes) g ∙ rw length-codes in
-      next-written n at i k (loop (body .run)) (tail (body .rest)) p (omega arith) (rw run (run-loop n l (drop (at + 1) lines) e))
-      (rw item (counts-loop lines body (countAt n codes (at + 1)) (counts-run lines n (at + 1)) .leaves)) small
+      let unmarked : getD marks at 0 ≡ 0 = fit .unmarked at l (line-there lines at d) (λ z. let c : getD codes at 0 ≡ 0 = g ∙ ap codeOf (sym e) ∙ z in omega arith) in
+      next-written n at i k seen all before (loop (body .run)) (tail (body .rest)) p (omega arith) (rw run (run-loop n l (drop (at + 1) lines) e))
+      (rw item (counts-loop lines body (countAt n codes (at + 1)) (counts-run lines n (at + 1)) .leaves)) small sees
+      (λ j path later. loop-unseen Word mark (body .run) i j path later ∙ sym unmarked)
       (λ j q. let b = loop-small (body .run) q in
-      write-loop codes ids at j (writeAt n codes ids) (countAt n codes) g
-      ∙ rw (exact n (at + 1) b)
-      (loop-written (body .run) i j (writeAt n codes ids (at + 1)) (λ t m. onward (at + 1) 0 m b ∙ sym (ids-inside i t (choose (body .run) 0 m))))) onward
-  line-written n at i k l Br e d g h p small onward =
+      rw (write-loop codes words marks all at j (writeAt n codes words marks all) (countAt n codes) g, exact n (at + 1) b)
+      (loop-written Word mark (body .run) i j seen all before (writeAt n codes words marks all (at + 1)) sees
+      (body-written n (at + 1) all (onward (at + 1)) b))) onward
+  line-written n at i k seen all before l Br e d g p small sees onward =
       let codes = codesOf lines in
-      let ids = idsOf lines in
       let run : drop at lines ≡ l ∷ drop (at + 1) lines = rw add-one d in
       let one = runOf n (drop (at + 1) lines) in
       let two = runOf n (tail (one .rest)) in
@@ -203,35 +289,42 @@ module _ (lines : List Line) where
       let not-one : getD codes at 0 ≡ 1 → ⊥ = λ z. omega arith in
       let item : itemAt (countAt n codes) codes at ≡ branchCounted (length lines) first (countAt n codes other) =
       item-branch codes at (countAt n codes) not-zero not-one ∙ rw length-codes in
-      next-written n at i k (branch (one .run) (two .run)) (tail (two .rest)) p (omega arith) (rw run (run-branch n l (drop (at + 1) lines) e))
-      (rw item (counts-branch lines one two first (countAt n codes other) (counts-run lines n (at + 1)) second .leaves)) small
+      let unmarked : getD marks at 0 ≡ 0 = fit .unmarked at l (line-there lines at d) (λ z. let c : getD codes at 0 ≡ 0 = g ∙ ap codeOf (sym e) ∙ z in omega arith) in
+      next-written n at i k seen all before (branch (one .run) (two .run)) (tail (two .rest)) p (omega arith)
+      (rw run (run-branch n l (drop (at + 1) lines) e))
+      (rw item (counts-branch lines one two first (countAt n codes other) (counts-run lines n (at + 1)) second .leaves)) small sees
+      (λ j path later. branch-unseen Word mark (one .run) (two .run) i j path later ∙ sym unmarked)
       (λ j q. let a = one-small (one .run) (two .run) q in
       let b : countRun (runOf n (drop other lines) .run) ≤ 512 = rw (← rest) (two-small (one .run) (two .run) q) in
-      write-branch codes ids at j (writeAt n codes ids) (countAt n codes) not-zero not-one
-      ∙ rw (exact n (at + 1) a, length-codes)
-      (branch-written (one .run) (two .run) i j (writeAt n codes ids (at + 1)) (writeAt n codes ids other)
-      (λ m. onward (at + 1) 0 m a ∙ sym (ids-inside i 0 (choose (one .run) 0 m)))
-      (λ m. onward other 0 m b ∙ rw (← rest) (sym (ids-inside i 1 (choose (two .run) 0 m)))))) onward
-  line-written n at i k l Pr e d g h p small onward = ends-written n at i k l Pr e d g p (omega arith)
-  line-written n at i k l Rl e d g h p small onward = ends-written n at i k l Rl e d g p (omega arith)
-  line-written n at i k l Fk e d g h p small onward = ends-written n at i k l Fk e d g p (omega arith)
-  line-written n at i k l El e d g h p small onward = ends-written n at i k l El e d g p (omega arith)
-  line-written n at i k l En e d g h p small onward = ends-written n at i k l En e d g p (omega arith)
-  line-written n at i k l Li e d g h p small onward = ends-written n at i k l Li e d g p (omega arith)
+      rw (write-branch codes words marks all at j (writeAt n codes words marks all) (countAt n codes) not-zero not-one, exact n (at + 1) a, length-codes)
+      (branch-written Word mark (one .run) (two .run) i j seen all before (writeAt n codes words marks all (at + 1)) (writeAt n codes words marks all other)
+      sees (body-written n (at + 1) all (onward (at + 1)) a)
+      (λ m. rw (← rest) at (body-written n other all (onward other) b m)))) onward
+  line-written n at i k seen all before l Pr e d g p small sees onward = ends-written n at i k seen all before l Pr e d g p (omega arith)
+  line-written n at i k seen all before l Rl e d g p small sees onward = ends-written n at i k seen all before l Rl e d g p (omega arith)
+  line-written n at i k seen all before l Fk e d g p small sees onward = ends-written n at i k seen all before l Fk e d g p (omega arith)
+  line-written n at i k seen all before l El e d g p small sees onward = ends-written n at i k seen all before l El e d g p (omega arith)
+  line-written n at i k seen all before l En e d g p small sees onward = ends-written n at i k seen all before l En e d g p (omega arith)
+  line-written n at i k seen all before l Li e d g p small sees onward = ends-written n at i k seen all before l Li e d g p (omega arith)
 
-  -- what is written from a place on for number k are the ids of unfolding number k of the run read off there
+  -- what is written from a place on for number k are words for the places of unfolding number k of the run read off there
   pub written-run : (n at : ℕ) → Written n at
-  unfolding runOf writeAt placeIds choose
-  written-run zero at i k small = refl
-  written-run (suc n) at i k small = go (leb (length lines) at) refl (λ e. written-run n e)
+  unfolding runOf writeAt PlaceWords choose
+  written-run zero at i k seen all before small sees = _
+  written-run (suc n) at i k seen all before small sees = go (leb (length lines) at) refl (λ e. written-run n e)
     where
       go : (t : Bool) → leb (length lines) at ≡ t → ((e : ℕ) → Written n e)
-          → writeAt (suc n) (codesOf lines) (idsOf lines) at k ≡ placeIds (choose (runOf (suc n) (drop at lines) .run) i k)
+          → PlaceWords Word mark seen before (choose (runOf (suc n) (drop at lines) .run) i k) (writeAt (suc n) (codesOf lines) words marks all at k)
       go true h onward =
           let past : length lines ≤ at = leb-true (length lines) at h in
           let empty : drop at lines ≡ [] = drop-of-length-le lines past in
-          rw (write-past (codesOf lines) (idsOf lines) at k (suc n) (omega (arith, length-codes lines)), empty)
+          rw (write-past (codesOf lines) words marks all at k (suc n) (omega (arith, length-codes lines)), empty) _
       go false h onward =
           let inner : at < length lines = leb-false (length lines) at h in
           let l = first-line lines at inner in
-          line-written n at i k (l .0) (l .0 .kind) refl (l .1) (l .2) (l .3) (omega (arith, length-codes lines)) small onward
+          line-written n at i k seen all before (l .0) (l .0 .kind) refl (l .1) (l .2) (omega (arith, length-codes lines)) small sees onward
+
+  -- words for the places of unfolding number k of the run at a place, where nothing is around it
+  pub written-whole : (n at k : ℕ) → countRun (runOf n (drop at lines) .run) ≤ 512
+      → PlaceWords Word mark 0 [] (choose (runOf n (drop at lines) .run) 0 k) (writeAt n (codesOf lines) words marks 0 at k)
+  written-whole n at k small = written-run n at 0 k 0 0 [] small (sees-start 0)

@@ -12,21 +12,21 @@ use lib.ListN.{length}
 use borrow.Author.Tests.{eqb-true, eq-eqb, ltb-true, lt-ltb}
 use Rattle.base.specs.Basic.{any, all, first, numbers, around, pairsTo}
 use Rattle.base.specs.BoolLaws.{decide, true-false, and-true, and-of, or-true, or-left, or-right}
-use Rattle.base.specs.ListLaws.{any-numbers, any-numbers-of, any-true, first-found, first-some}
+use Rattle.base.specs.ListLaws.{any-numbers, any-numbers-of, any-true, first-found, first-some, numbers-member}
 use Rattle.graph.specs.Graph.{Flow, Graph, isBack}
 use Rattle.graph.specs.Walk.{Step, isEdge, dangerousPair, isDangerous, DangerousWalk}
 use Rattle.walks.specs.Reach.{Regular, Reachable, stepsOf, closes, DangerousReturn, walk-return, roundsFor, reach-short}
 use Rattle.walks.specs.Reach.Reachable.{here, along}
 use Rattle.detecting.specs.Pick.{Pick, Picks, picked, dangerousPicks, onwardTo, reaches, returnsAt, nodeTest, stepAlong, wayTo, walkAt}
 
--- the picks stand for all edges: each is an edge, a forward one leaves a loose place where any does and else enters last,
--- and a back one leaves first
-pub record Picked (g : Graph) (ahead behind : Picks) : Type 0 where
-  pub aheadEdge : (u v : ℕ) (p : Pick) → ahead u v ≡ some p
+-- the picks among n nodes stand for all edges: each is an edge, a forward one leaves a loose place where any does and else
+-- enters last, and a back one leaves first
+pub record Picked (g : Graph) (n : ℕ) (ahead behind : Picks) : Type 0 where
+  pub aheadEdge : (u v : ℕ) (p : Pick) → u < n → v < n → ahead u v ≡ some p
       → (g .edge u (p .leaves) v (p .enters) Flow.forward ≡ true) × (p .loose ≡ g .loose u (p .leaves))
   pub aheadLast : (u i v j : ℕ) → g .edge u i v j Flow.forward ≡ true
       → (p : Pick) × (ahead u v ≡ some p) × ((p .loose ≡ true) ⊎ ((g .loose u i ≡ false) × (j ≤ p .enters)))
-  pub behindEdge : (v w : ℕ) (q : Pick) → behind v w ≡ some q → g .edge v (q .leaves) w (q .enters) Flow.back ≡ true
+  pub behindEdge : (v w : ℕ) (q : Pick) → v < n → w < n → behind v w ≡ some q → g .edge v (q .leaves) w (q .enters) Flow.back ≡ true
   pub behindFirst : (v k w l : ℕ) → g .edge v k w l Flow.back ≡ true
       → (q : Pick) × (behind v w ≡ some q) × (q .leaves ≤ k)
 
@@ -71,24 +71,24 @@ reaches-here ahead n u (suc d) w e = or-left (any (onwardTo ahead (reaches ahead
 
 module _ {g : Graph} {ahead behind : Picks} where
   -- the way that is found is a way in the graph, of at most d steps
-  pub way-found : Picked g ahead behind → (n u d w : ℕ) → reaches ahead n u d w ≡ true
+  pub way-found : {n : ℕ} → Picked g n ahead behind → (u d w : ℕ) → w < n → reaches ahead n u d w ≡ true
       → (r : Reachable g w u) × (stepsOf r ≡ wayTo ahead n u d w) × (length (stepsOf r) ≤ d)
   unfolding reaches wayTo stepsOf
-  way-found picks n u zero w h = (here (eqb-true w u h), refl, zero-le)
-  way-found picks n u (suc d) w h =
-      go (λ x e. way-found picks n u d x e) (reaches ahead n u d w) refl h
+  way-found {n} picks u zero w small h = (here (eqb-true w u h), refl, zero-le)
+  way-found {n} picks u (suc d) w small h =
+      go (λ x l e. way-found picks u d x l e) (reaches ahead n u d w) refl h
     where
       Rest : Type 0
-      Rest = (x : ℕ) → reaches ahead n u d x ≡ true
+      Rest = (x : ℕ) → x < n → reaches ahead n u d x ≡ true
           → (r : Reachable g x u) × (stepsOf r ≡ wayTo ahead n u d x) × (length (stepsOf r) ≤ d)
 
-      next : Rest → (x : ℕ) → onwardTo ahead (reaches ahead n u d) w x ≡ true
+      next : Rest → (x : ℕ) → x < n → onwardTo ahead (reaches ahead n u d) w x ≡ true
           → (r : Reachable g w u) × (stepsOf r ≡ stepAlong w Flow.forward (ahead w x) ++ wayTo ahead n u d x) × (length (stepsOf r) ≤ suc d)
-      next rest x e =
+      next rest x l e =
           let parts = and-true (picked (ahead w x)) (reaches ahead n u d x) e in
           let p = picked-some (ahead w x) (parts .0) in
-          let t = rest x (parts .1) in (
-            along {m = w} (p .0 .leaves) x (p .0 .enters) Flow.forward (picks .aheadEdge w x (p .0) (p .1) .0) (t .0),
+          let t = rest x l (parts .1) in (
+            along {m = w} (p .0 .leaves) x (p .0 .enters) Flow.forward (picks .aheadEdge w x (p .0) small l (p .1) .0) (t .0),
             ap (λ (l : List Step). record { node = w; leaves = p .0 .leaves; enters = p .0 .enters; flow = Flow.forward } ∷ l) (t .1)
                 ∙ ap (λ (l : List Step). l ++ wayTo ahead n u d x) (sym (along-some w Flow.forward (p .1))),
             suc-le-suc (t .2),
@@ -103,7 +103,9 @@ module _ {g : Graph} {ahead behind : Picks} where
           let a = any-true (onwardTo ahead (reaches ahead n u d) w) (numbers n) k in
           let f = first-found (onwardTo ahead (reaches ahead n u d) w) (numbers n) (a .1) (a .2) in
           let z : _≡_ {A = ℕ} 0 1 = cc in absurd (omega arith)
-      on rest (some x) e k = next rest x (first-some (onwardTo ahead (reaches ahead n u d) w) (numbers n) e .1)
+      on rest (some x) e k =
+          let f = first-some (onwardTo ahead (reaches ahead n u d) w) (numbers n) e in
+          next rest x (numbers-member n (f .0)) (f .1)
 
       go : Rest → (b : Bool) → reaches ahead n u d w ≡ b
           → b || any (onwardTo ahead (reaches ahead n u d) w) (numbers n) ≡ true
@@ -118,11 +120,11 @@ module _ {g : Graph} {ahead behind : Picks} where
                 ]
           ])
           × (length (stepsOf r) ≤ suc d)
-      go rest true e k = let t = rest w e in (t .0, t .1, omega arith)
+      go rest true e k = let t = rest w small e in (t .0, t .1, omega arith)
       go rest false e k = on rest (first (onwardTo ahead (reaches ahead n u d) w) (numbers n)) refl k
 
   -- an edge of either flow is stood for by a forward one
-  joined-of : Regular g → Picked g ahead behind → (m i k j : ℕ) (flow : Flow) → g .edge m i k j flow ≡ true → picked (ahead m k) ≡ true
+  joined-of : {n : ℕ} → Regular g → Picked g n ahead behind → (m i k j : ℕ) (flow : Flow) → g .edge m i k j flow ≡ true → picked (ahead m k) ≡ true
   joined-of regular picks m i k j flow h = go flow h
     where
       forward : g .edge m i k j Flow.forward ≡ true → picked (ahead m k) ≡ true
@@ -133,32 +135,32 @@ module _ {g : Graph} {ahead behind : Picks} where
       go Flow.back e = forward (regular .twin m i k j e)
 
   -- a way of at most d steps is found
-  way-reaches : Regular g → Picked g ahead behind → (n d : ℕ) → g .size ≤ n → {w u : ℕ} (r : Reachable g w u) → length (stepsOf r) ≤ d
+  way-reaches : {n : ℕ} → Regular g → Picked g n ahead behind → (d : ℕ) → g .size ≤ n → {w u : ℕ} (r : Reachable g w u) → length (stepsOf r) ≤ d
       → reaches ahead n u d w ≡ true
   unfolding reaches stepsOf
-  way-reaches regular picks n d small {w} {u} (here e) h = reaches-here ahead n u d w e
-  way-reaches regular picks n zero small (along i k j flow e r) h = absurd (not-suc-le-zero h)
-  way-reaches regular picks n (suc d) small {w} {u} (along i k j flow e r) h =
+  way-reaches {n} regular picks d small {w} {u} (here e) h = reaches-here ahead n u d w e
+  way-reaches {n} regular picks zero small (along i k j flow e r) h = absurd (not-suc-le-zero h)
+  way-reaches {n} regular picks (suc d) small {w} {u} (along i k j flow e r) h =
       or-right (reaches ahead n u d w)
       (any-numbers-of (onwardTo ahead (reaches ahead n u d) w) n k
       (let inside = regular .inNodes w i k j flow e .1 in omega arith)
-      (and-of (joined-of regular picks w i k j flow e) (way-reaches regular picks n d small r (le-of-suc-le-suc h))))
+      (and-of (joined-of regular picks w i k j flow e) (way-reaches regular picks d small r (le-of-suc-le-suc h))))
 
   -- where the test passes for three nodes, the walk along them is a dangerous closed walk, a short one
-  pub walk-found : Picked g ahead behind → (n u v w : ℕ) → 0 < n → returnsAt ahead behind n u v w ≡ true
+  pub walk-found : {n : ℕ} → Picked g n ahead behind → (u v w : ℕ) → u < n → v < n → w < n → returnsAt ahead behind n u v w ≡ true
       → (isDangerous g (walkAt ahead behind n u v w) ≡ true) × (length (walkAt ahead behind n u v w) ≤ n + 1)
   unfolding returnsAt walkAt isDangerous isEdge dangerousPair
-  walk-found picks n u v w some-node h =
+  walk-found {n} picks u v w in-u in-v in-w h =
       let test = and-true (dangerousPicks (ahead u v) (behind v w)) (reaches ahead n u (roundsFor n) w) h in
       let pair = dangerous-some (ahead u v) (behind v w) (test .0) in
-      let way = way-found picks n u (roundsFor n) w (test .1) in
+      let way = way-found picks u (roundsFor n) w in-w (test .1) in
       go (pair .0) (pair .1) (pair .2) (pair .3) (pair .4) (way .0) (way .1) (way .2)
     where
       go : (p q : Pick) → ahead u v ≡ some p → behind v w ≡ some q → ltb (q .leaves) (p .enters) || p .loose ≡ true
           → (r : Reachable g w u) → stepsOf r ≡ wayTo ahead n u (roundsFor n) w → length (stepsOf r) ≤ roundsFor n
           → (isDangerous g (walkAt ahead behind n u v w) ≡ true) × (length (walkAt ahead behind n u v w) ≤ n + 1)
       go p q first second danger r same short =
-          rw shape (and-of (and-of edges (or-left rest pair)) refl, let few = rounds-short n some-node in omega arith)
+          rw shape (and-of (and-of edges (or-left rest pair)) refl, let few = rounds-short n (omega arith) in omega arith)
         where
           e : Step
           e = record { node = u; leaves = p .leaves; enters = p .enters; flow = Flow.forward }
@@ -170,18 +172,18 @@ module _ {g : Graph} {ahead behind : Picks} where
           shape = rw (first, second, same) refl
 
           edges : all (isEdge g) (around (e ∷ c ∷ stepsOf r)) ≡ true
-          edges = and-of (picks .aheadEdge u v p first .0) (closes r c e (picks .behindEdge v w q second) refl)
+          edges = and-of (picks .aheadEdge u v p in-u in-v first .0) (closes r c e (picks .behindEdge v w q in-v in-w second) refl)
 
           pair : ltb (q .leaves) (p .enters) || g .loose u (p .leaves) ≡ true
-          pair = rw (picks .aheadEdge u v p first .1) at danger
+          pair = rw (picks .aheadEdge u v p in-u in-v first .1) at danger
 
           rest : Bool
           rest = any (dangerousPair g) (pairsTo e (c ∷ stepsOf r))
 
   -- a dangerous pair that can be closed passes the test
-  pub return-tested : Regular g → Picked g ahead behind → (n : ℕ) → g .size ≤ n → DangerousReturn g → nodeTest ahead behind n ≡ true
+  pub return-tested : {n : ℕ} → Regular g → Picked g n ahead behind → g .size ≤ n → DangerousReturn g → nodeTest ahead behind n ≡ true
   unfolding nodeTest returnsAt isEdge dangerousPair
-  return-tested regular picks n small r =
+  return-tested {n} regular picks small r =
       any-numbers-of (λ u. any (λ v. any (returnsAt ahead behind n u v) (numbers n)) (numbers n)) n u (omega (arith, out .0))
       (any-numbers-of (λ v. any (returnsAt ahead behind n u v) (numbers n)) n v (omega (arith, out .1))
       (any-numbers-of (returnsAt ahead behind n u v) n w (omega (arith, into .1))
@@ -213,7 +215,7 @@ module _ {g : Graph} {ahead behind : Picks} where
       returns =
           let t = reach-short g regular w (into .1) (r .returns) in
           let more = rounds-more (g .size) n small in
-          way-reaches regular picks n (roundsFor n) small (t .0) (omega arith)
+          way-reaches regular picks (roundsFor n) small (t .0) (omega arith)
 
       firmer : (p q : Pick) → q .leaves ≤ r .c .leaves → ltb (r .c .leaves) (r .e .enters) || g .loose u (r .e .leaves) ≡ true
           → (p .loose ≡ true) ⊎ ((g .loose u (r .e .leaves) ≡ false) × (r .e .enters ≤ p .enters))
@@ -242,22 +244,21 @@ module _ {g : Graph} {ahead behind : Picks} where
           (or-right (ltb (r .c .leaves) (r .e .enters)) (regular .backLoose u (r .e .leaves) v (r .e .enters) h))
 
   -- a dangerous closed walk, of any length, passes the test
-  pub node-complete : Regular g → Picked g ahead behind → (n : ℕ) → g .size ≤ n → DangerousWalk g → nodeTest ahead behind n ≡ true
-  node-complete regular picks n small walk = return-tested regular picks n small (walk-return walk)
+  pub node-complete : {n : ℕ} → Regular g → Picked g n ahead behind → g .size ≤ n → DangerousWalk g → nodeTest ahead behind n ≡ true
+  node-complete regular picks small walk = return-tested regular picks small (walk-return walk)
 
   -- what passes the test for some three nodes
-  pub node-found : Picked g ahead behind → (n : ℕ) → nodeTest ahead behind n ≡ true
+  pub node-found : {n : ℕ} → Picked g n ahead behind → nodeTest ahead behind n ≡ true
       → (u : ℕ) × (v : ℕ) × (w : ℕ) × (returnsAt ahead behind n u v w ≡ true)
       × (isDangerous g (walkAt ahead behind n u v w) ≡ true) × (length (walkAt ahead behind n u v w) ≤ n + 1)
   unfolding nodeTest
-  node-found picks n h =
+  node-found {n} picks h =
       let a = any-numbers (λ u. any (λ v. any (returnsAt ahead behind n u v) (numbers n)) (numbers n)) n h in
       let b = any-numbers (λ v. any (returnsAt ahead behind n (a .0) v) (numbers n)) n (a .2) in
       let c = any-numbers (returnsAt ahead behind n (a .0) (b .0)) n (b .2) in
-      let inside = a .1 in
-      let t = walk-found picks n (a .0) (b .0) (c .0) (omega arith) (c .2) in (a .0, b .0, c .0, c .2, t .0, t .1)
+      let t = walk-found picks (a .0) (b .0) (c .0) (a .1) (b .1) (c .1) (c .2) in (a .0, b .0, c .0, c .2, t .0, t .1)
 
   -- a dangerous closed walk exists exactly if the test among the nodes passes
-  pub node-iff : Regular g → Picked g ahead behind → (n : ℕ) → g .size ≤ n → (nodeTest ahead behind n ≡ true) ↔ DangerousWalk g
-  node-iff regular picks n small =
-      (λ h. let t = node-found picks n h in (walkAt ahead behind n (t .0) (t .1) (t .2), t .4), node-complete regular picks n small)
+  pub node-iff : {n : ℕ} → Regular g → Picked g n ahead behind → g .size ≤ n → (nodeTest ahead behind n ≡ true) ↔ DangerousWalk g
+  node-iff {n} regular picks small =
+      (λ h. let t = node-found picks h in (walkAt ahead behind n (t .0) (t .1) (t .2), t .4), node-complete regular picks small)

@@ -65,18 +65,18 @@ pub behind-greater : (i j k l : ℕ) → i < 1024 → j < 1024 → k < 1024 → 
 unfolding behindWord
 behind-greater i j k l p q r s h = omega arith
 
--- each entry is 0 or the word of an edge, and no edge has a greater word
+-- each entry for nodes below 64 is 0 or the word of an edge, and no edge has a greater word
 pub record Filled (g : Graph) (ahead behind : List ℕ) : Type 0 where
-  pub aheadFrom : (u v : ℕ) → (entry ahead u v ≡ 0)
+  pub aheadFrom : (u v : ℕ) → u < 64 → v < 64 → (entry ahead u v ≡ 0)
       ⊎ ((i : ℕ) × (j : ℕ) × (g .edge u i v j Flow.forward ≡ true) × (entry ahead u v ≡ aheadWord (g .loose u i) i j))
   pub aheadMost : (u i v j : ℕ) → g .edge u i v j Flow.forward ≡ true → aheadWord (g .loose u i) i j ≤ entry ahead u v
-  pub behindFrom : (v w : ℕ) → (entry behind v w ≡ 0)
+  pub behindFrom : (v w : ℕ) → v < 64 → w < 64 → (entry behind v w ≡ 0)
       ⊎ ((k : ℕ) × (l : ℕ) × (g .edge v k w l Flow.back ≡ true) × (entry behind v w ≡ behindWord k l))
   pub behindMost : (v k w l : ℕ) → g .edge v k w l Flow.back ≡ true → behindWord k l ≤ entry behind v w
 
--- no edge leaves or enters a place from 1024 on
+-- no edge leaves or enters a node from 64 on or a place from 1024 on
 abbrev pub Small : Graph → Type 0
-Small g = (m i n j : ℕ) (flow : Flow) → g .edge m i n j flow ≡ true → (i < 1024) × (j < 1024)
+Small g = (m i n j : ℕ) (flow : Flow) → g .edge m i n j flow ≡ true → (m < 64) × (n < 64) × (i < 1024) × (j < 1024)
 
 ahead-positive : (b : Bool) (i j : ℕ) → 0 < aheadWord b i j
 unfolding aheadWord
@@ -96,13 +96,13 @@ unfolding behindPick
 behind-nothing x e = rw (eq-eqb x 0 e) refl
 
 -- such tables stand for all edges
-pub filled-picked : {g : Graph} (ahead behind : List ℕ) → Small g → Filled g ahead behind → Picked g (aheadIn ahead) (behindIn behind)
+pub filled-picked : {g : Graph} (ahead behind : List ℕ) → Small g → Filled g ahead behind → Picked g 64 (aheadIn ahead) (behindIn behind)
 filled-picked {g} ahead behind small filled =
     record { aheadEdge = a-edge; aheadLast = a-last; behindEdge = b-edge; behindFirst = b-first }
   where
-    a-edge : (u v : ℕ) (p : Pick) → aheadIn ahead u v ≡ some p
+    a-edge : (u v : ℕ) (p : Pick) → u < 64 → v < 64 → aheadIn ahead u v ≡ some p
         → (g .edge u (p .leaves) v (p .enters) Flow.forward ≡ true) × (p .loose ≡ g .loose u (p .leaves))
-    a-edge u v p e = go (filled .aheadFrom u v)
+    a-edge u v p in-u in-v e = go (filled .aheadFrom u v in-u in-v)
       where
         go : (entry ahead u v ≡ 0)
             ⊎ ((i : ℕ) × (j : ℕ) × (g .edge u i v j Flow.forward ≡ true) × (entry ahead u v ≡ aheadWord (g .loose u i) i j))
@@ -110,13 +110,16 @@ filled-picked {g} ahead behind small filled =
         go (inl z) = absurd (Option·none-ne-some p (sym (ahead-nothing (entry ahead u v) z) ∙ e))
         go (inr (i, j, h, w)) =
             let in-place = small u i v j Flow.forward h in
-            let same = some-injective (sym (ahead-word (g .loose u i) i j (in-place .0) (in-place .1)) ∙ ap aheadPick (sym w) ∙ e) in
+            let same = some-injective (sym (ahead-word (g .loose u i) i j (in-place .2) (in-place .3)) ∙ ap aheadPick (sym w) ∙ e) in
             subst (λ (q : Pick). (g .edge u (q .leaves) v (q .enters) Flow.forward ≡ true) × (q .loose ≡ g .loose u (q .leaves))) same (h, refl)
 
     a-last : (u i v j : ℕ) → g .edge u i v j Flow.forward ≡ true
         → (p : Pick) × (aheadIn ahead u v ≡ some p) × ((p .loose ≡ true) ⊎ ((g .loose u i ≡ false) × (j ≤ p .enters)))
-    a-last u i v j h = go (filled .aheadFrom u v)
+    a-last u i v j h = go (filled .aheadFrom u v (one .0) (one .1))
       where
+        one : (u < 64) × (v < 64) × (i < 1024) × (j < 1024)
+        one = small u i v j Flow.forward h
+
         most : aheadWord (g .loose u i) i j ≤ entry ahead u v
         most = filled .aheadMost u i v j h
 
@@ -125,15 +128,14 @@ filled-picked {g} ahead behind small filled =
             → (p : Pick) × (aheadIn ahead u v ≡ some p) × ((p .loose ≡ true) ⊎ ((g .loose u i ≡ false) × (j ≤ p .enters)))
         go (inl z) = let positive = ahead-positive (g .loose u i) i j in let no : ⊥ = omega (arith, most) in absurd no
         go (inr (k, l, q, w)) =
-            let one = small u i v j Flow.forward h in
             let two = small u k v l Flow.forward q in (
               record { leaves = k; enters = l; loose = g .loose u k },
-              ap aheadPick w ∙ ahead-word (g .loose u k) k l (two .0) (two .1),
-              ahead-greater (g .loose u i) (g .loose u k) i j k l (one .0) (one .1) (two .0) (two .1) (rw w at most),
+              ap aheadPick w ∙ ahead-word (g .loose u k) k l (two .2) (two .3),
+              ahead-greater (g .loose u i) (g .loose u k) i j k l (one .2) (one .3) (two .2) (two .3) (rw w at most),
             )
 
-    b-edge : (v w : ℕ) (q : Pick) → behindIn behind v w ≡ some q → g .edge v (q .leaves) w (q .enters) Flow.back ≡ true
-    b-edge v w q e = go (filled .behindFrom v w)
+    b-edge : (v w : ℕ) (q : Pick) → v < 64 → w < 64 → behindIn behind v w ≡ some q → g .edge v (q .leaves) w (q .enters) Flow.back ≡ true
+    b-edge v w q in-v in-w e = go (filled .behindFrom v w in-v in-w)
       where
         go : (entry behind v w ≡ 0)
             ⊎ ((k : ℕ) × (l : ℕ) × (g .edge v k w l Flow.back ≡ true) × (entry behind v w ≡ behindWord k l))
@@ -141,12 +143,15 @@ filled-picked {g} ahead behind small filled =
         go (inl z) = absurd (Option·none-ne-some q (sym (behind-nothing (entry behind v w) z) ∙ e))
         go (inr (k, l, h, x)) =
             let in-place = small v k w l Flow.back h in
-            let same = some-injective (sym (behind-word k l (in-place .0) (in-place .1)) ∙ ap behindPick (sym x) ∙ e) in
+            let same = some-injective (sym (behind-word k l (in-place .2) (in-place .3)) ∙ ap behindPick (sym x) ∙ e) in
             subst (λ (p : Pick). g .edge v (p .leaves) w (p .enters) Flow.back ≡ true) same h
 
     b-first : (v k w l : ℕ) → g .edge v k w l Flow.back ≡ true → (q : Pick) × (behindIn behind v w ≡ some q) × (q .leaves ≤ k)
-    b-first v k w l h = go (filled .behindFrom v w)
+    b-first v k w l h = go (filled .behindFrom v w (one .0) (one .1))
       where
+        one : (v < 64) × (w < 64) × (k < 1024) × (l < 1024)
+        one = small v k w l Flow.back h
+
         most : behindWord k l ≤ entry behind v w
         most = filled .behindMost v k w l h
 
@@ -155,9 +160,8 @@ filled-picked {g} ahead behind small filled =
             → (q : Pick) × (behindIn behind v w ≡ some q) × (q .leaves ≤ k)
         go (inl z) = let positive = behind-positive k l in let no : ⊥ = omega (arith, most) in absurd no
         go (inr (i, j, q, x)) =
-            let one = small v k w l Flow.back h in
             let two = small v i w j Flow.back q in (
               record { leaves = i; enters = j; loose = true },
-              ap behindPick x ∙ behind-word i j (two .0) (two .1),
-              behind-greater k l i j (one .0) (one .1) (two .0) (two .1) (rw x at most),
+              ap behindPick x ∙ behind-word i j (two .2) (two .3),
+              behind-greater k l i j (one .2) (one .3) (two .2) (two .3) (rw x at most),
             )

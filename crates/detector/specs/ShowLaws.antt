@@ -10,11 +10,12 @@ use lib.Bits.{bitAnd}
 use lib.Dec.{ltb}
 use lib.ListN.{length, getD, set, drop, length-append}
 use lib.Seq.{set-at, drop-append-add}
-use borrow.Author.Tests.{lt-ltb, le-ltb}
+use borrow.Author.Tests.{lt-ltb, le-ltb, lt-leb, le-leb}
 use Rattle.base.specs.Basic.{has}
 use Rattle.graph.specs.Walk.{Step}
 use Rattle.detector.specs.Table.{entry, joinedRows, layersTo, nodeIn, pairFor, lowest, aheadStep, behindStep, wayOn, walkOn, tableWalk, shownWalk}
-use Rattle.detector.specs.Table.{flowWord, stepWords, shownIn, putWords, putStep, putSteps, Written, Shown}
+use Rattle.detector.specs.Table.{flowWord, stepWords, shownIn, putWords, putStep, putSteps, Written, Shown, Answered}
+use Rattle.detector.specs.declared.Found.{Found}
 use Rattle.detector.specs.Paths.{put-cons}
 use Rattle.detector.specs.WalkLaws.{node-pair, table-none, table-written}
 
@@ -109,7 +110,7 @@ nothing area e =
 
 module _ (ahead behind before : List ℕ) where
   -- an area that is too short shows nothing
-  pub shown-short : length before < 260 → Shown (shownWalk ahead behind (length before)) before before 0
+  shown-short : length before < 260 → Shown (shownWalk ahead behind (length before)) before before 0
   unfolding shownWalk
   shown-short h = nothing before (ap (λ (b : Bool). cond b [] (tableWalk ahead behind)) (lt-ltb (length before) 260 h))
 
@@ -118,13 +119,13 @@ module _ (ahead behind before : List ℕ) where
   long-enough h = ap (λ (b : Bool). cond b [] (tableWalk ahead behind)) (le-ltb (length before) 260 h)
 
   -- where no node is found there is nothing to show
-  pub shown-none : 260 ≤ length before → {rows : List ℕ} {u : ℕ} → rows ≡ joinedRows ahead → u ≡ nodeIn ahead behind rows → 64 ≤ u
+  shown-none : 260 ≤ length before → {rows : List ℕ} {u : ℕ} → rows ≡ joinedRows ahead → u ≡ nodeIn ahead behind rows → 64 ≤ u
       → Shown (shownWalk ahead behind (length before)) before before 0
   shown-none h p q l =
       let none : 64 ≤ nodeIn ahead behind (joinedRows ahead) = rw p at (rw q at l) in nothing before (long-enough h ∙ table-none ahead behind none)
 
   -- the walk that is found is shown
-  pub shown-found : 260 ≤ length before → {rows : List ℕ} {u x : ℕ} → rows ≡ joinedRows ahead → u ≡ nodeIn ahead behind rows → u < 64
+  shown-found : 260 ≤ length before → {rows : List ℕ} {u x : ℕ} → rows ≡ joinedRows ahead → u ≡ nodeIn ahead behind rows → u < 64
       → x ≡ pairFor ahead behind rows u → {after : List ℕ} {r : ℕ} → Written (walkOn ahead behind rows u x) 0 before after r
       → Shown (shownWalk ahead behind (length before)) before after r
   shown-found h {rows} {u} {x} p q l e {after} {r} t =
@@ -138,6 +139,24 @@ module _ (ahead behind before : List ℕ) where
         area = t .area ∙ put-shown (walkOn ahead behind rows u x) before (omega arith) ∙ ap (λ (w : List Step). shownIn w before) (sym shown);
         count = t .count ∙ zero-add _ ∙ ap (λ (w : List Step). length w) (sym shown);
       }
+
+  -- the three answers
+  pub answer-short : length before < 260 → Answered ahead behind before before (record { room = false; steps = 0 })
+  answer-short h = record { room = sym (lt-leb 260 (length before) h); shown = shown-short h }
+
+  pub answer-none : 260 ≤ length before → {rows : List ℕ} {u : ℕ} → rows ≡ joinedRows ahead → u ≡ nodeIn ahead behind rows → 64 ≤ u
+      → Answered ahead behind before before (record { room = true; steps = 0 })
+  answer-none h p q l = record { room = sym (le-leb 260 (length before) h); shown = shown-none h p q l }
+
+  pub answer-found : 260 ≤ length before → {rows : List ℕ} {u x : ℕ} → rows ≡ joinedRows ahead → u ≡ nodeIn ahead behind rows → u < 64
+      → x ≡ pairFor ahead behind rows u → {after : List ℕ} {r : ℕ} → Written (walkOn ahead behind rows u x) 0 before after r
+      → Answered ahead behind before after (record { room = true; steps = r })
+  answer-found h p q l e t = record { room = sym (le-leb 260 (length before) h); shown = shown-found h p q l e t }
+
+  -- where there is room, the walk of the tables is shown
+  pub answer-walk : {after : List ℕ} {r : Found} → 260 ≤ length before → Answered ahead behind before after r
+      → Shown (tableWalk ahead behind) before after (r .steps)
+  answer-walk {after} {r} h a = subst (λ (w : List Step). Shown w before after (r .steps)) (long-enough h) (a .shown)
 
 -- a node found has a pair
 pub found-pair : (ahead behind rows : List ℕ) {u x : ℕ} → u ≡ nodeIn ahead behind rows → u < 64 → x ≡ pairFor ahead behind rows u → x < 4096

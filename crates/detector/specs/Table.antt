@@ -12,6 +12,7 @@ use Rattle.base.specs.Basic.{has, meets}
 use Rattle.graph.specs.Graph.{Flow}
 use Rattle.graph.specs.Walk.{Step}
 use Rattle.detecting.specs.Pick.{Pick, Picks, dangerousPicks, walkAt}
+use Rattle.detector.specs.declared.Found.{Found}
 
 -- ---- what the words of the two tables stand for; the word for the edge from u to v stands at u * 64 + v
 
@@ -188,6 +189,11 @@ pub record Written (steps : List Step) (k : ℕ) (before after : List ℕ) (r : 
 pub record Shown (steps : List Step) (before after : List ℕ) (r : ℕ) : Type 0 where
   pub area : after ≡ shownIn steps before
   pub count : r ≡ length steps
+
+-- the answer: whether the area has room for 65 steps, and where it has, the walk of the tables is shown
+pub record Answered (ahead behind before after : List ℕ) (r : Found) : Type 0 where
+  pub room : r .room ≡ leb 260 (length before)
+  pub shown : Shown (shownWalk ahead behind (length before)) before after (r .steps)
 
 -- what holds in each turn of the writing of a way, behind two steps
 pub record WayTurn (ahead rows layers : List ℕ) (way : List Step) (before area : List ℕ) (node steps d : ℕ) : Type 0 where

@@ -283,22 +283,23 @@ table-written ahead behind h =
 
 module _ {g : Graph} (ahead behind : List ℕ) where
   -- the walk of the tables is a dangerous closed walk of at most 65 steps
-  pub table-danger : Picked g (aheadIn ahead) (behindIn behind) → nodeIn ahead behind (joinedRows ahead) < 64
+  pub table-danger : Picked g 64 (aheadIn ahead) (behindIn behind) → nodeIn ahead behind (joinedRows ahead) < 64
       → (isDangerous g (tableWalk ahead behind) ≡ true) × (length (tableWalk ahead behind) ≤ 65)
   table-danger picks h =
       let u = nodeIn ahead behind (joinedRows ahead) in
       let x = pairFor ahead behind (joinedRows ahead) u in
-      let closes = pair-closes ahead behind (joinedRows ahead) u (node-pair ahead behind (joinedRows ahead) h) in
-      let found = walk-found picks 64 u (x / 64) (x % 64) (omega arith) (closes-returns ahead behind 64 refl u x closes) in
+      let pair = node-pair ahead behind (joinedRows ahead) h in
+      let closes = pair-closes ahead behind (joinedRows ahead) u pair in
+      let found = walk-found picks u (x / 64) (x % 64) h (omega (arith, pair)) (omega arith) (closes-returns ahead behind 64 refl u x closes) in
       subst (λ (l : List Step). (isDangerous g l ≡ true) × (length l ≤ 65)) (sym (table-some ahead behind h)) found
 
   -- where there is a dangerous closed walk, of any length, one is found
-  pub table-complete : Regular g → Picked g (aheadIn ahead) (behindIn behind) → g .size ≤ 64 → DangerousWalk g
+  pub table-complete : Regular g → Picked g 64 (aheadIn ahead) (behindIn behind) → g .size ≤ 64 → DangerousWalk g
       → nodeIn ahead behind (joinedRows ahead) < 64
-  table-complete regular picks small walk = node-in ahead behind 64 refl (node-complete regular picks 64 small walk)
+  table-complete regular picks small walk = node-in ahead behind 64 refl (node-complete regular picks small walk)
 
   -- either the walk of the tables is a dangerous closed walk of at most 65 steps, or it is empty and there is none
-  pub table-verdict : Regular g → g .size ≤ 64 → Picked g (aheadIn ahead) (behindIn behind)
+  pub table-verdict : Regular g → g .size ≤ 64 → Picked g 64 (aheadIn ahead) (behindIn behind)
       → ((isDangerous g (tableWalk ahead behind) ≡ true) × (length (tableWalk ahead behind) ≤ 65))
       ⊎ ((tableWalk ahead behind ≡ []) × (DangerousWalk g → ⊥))
   table-verdict regular small picks = go (decide (ltb (nodeIn ahead behind (joinedRows ahead)) 64))

@@ -7,7 +7,7 @@ ghost use lib.ListN.{length, getD};
 ghost use Rattle.base.specs.Basic.{has};
 ghost use Rattle.detecting.specs.Pick.{dangerousPicks};
 ghost use Rattle.detector.specs.Table.{aheadPick, behindPick, withBit, joinedRow, joinedRows, growsTo, grown, layersTo, closesAt, pairIn, pairFor, nodeIn, lowest};
-ghost use Rattle.detector.specs.Table.{aheadStep, behindStep, wayOn, walkOn, shownWalk, putWords, putStep, writing, goOn, Written, Shown};
+ghost use Rattle.detector.specs.Table.{aheadStep, behindStep, wayOn, walkOn, putWords, putStep, writing, goOn, Written, Answered};
 
 // A word of a table; past its end there is no edge.
 fn word_at(table: &[u64], i: usize) -> u64
@@ -270,19 +270,35 @@ fn put_walk(
     put_way(ahead, rows, layers, w, out)
 }
 
+// Whether the area has room for 65 steps, and how many steps are shown in it.
+pub struct Found {
+    pub room: bool,
+    pub steps: usize,
+}
+
 // Shows a dangerous closed walk of the tables, four words to a step, in an area with room for 65 steps, and answers how many
 // steps it has: none where there is no such walk.
-pub fn find_walk(ahead: &[u64], behind: &[u64], out: &mut [u64]) -> usize
-    ensures { λ r. ⌜ Shown (shownWalk (now (ahead .entry)) (now (behind .entry)) (length (now (out .entry)))) (now (out .entry)) (now (out .exit)) r ⌝ }
+pub fn find_walk(ahead: &[u64], behind: &[u64], out: &mut [u64]) -> Found
+    ensures { λ r. ⌜ Answered (now (ahead .entry)) (now (behind .entry)) (now (out .entry)) (now (out .exit)) r ⌝ }
 {
     if out.len() < 260 {
-        return 0;
+        return Found {
+            room: false,
+            steps: 0,
+        };
     }
     let rows = joined_rows(ahead);
     let u = node_in(ahead, behind, rows);
     if 64 <= u {
-        return 0;
+        return Found {
+            room: true,
+            steps: 0,
+        };
     }
     let x = pair_for(ahead, behind, rows, u);
-    put_walk(ahead, behind, rows, u, x, out)
+    let n = put_walk(ahead, behind, rows, u, x, out);
+    Found {
+        room: true,
+        steps: n,
+    }
 }

@@ -1,22 +1,26 @@
 -- The edges of a table are what stands in its slots, slot after slot.
 use mathlib.Core.Path.{_≡_, refl, sym, ap, ap₂, _∙_}
-use mathlib.Core.Bool.{Bool, true, false, cond}
-use mathlib.Core.List.{List, [], _∷_, _++_, map, flatMap, append-nil, append-assoc}
-use Prim.Native.Nat.{ℕ, zero, suc, _+_, _*_, _/_, _%_, _≤_, _<_}
-use native.Mathlib.Nat.{le-antisymm, add-suc, add-zero, zero-add, suc-add, add-comm, suc-mul, zero-mul, mul-add-div-right, mod-eq-of-lt, div-eq-of-lt, add-mul-mod-self-right}
+use mathlib.Core.Bool.{Bool, true, false, cond, _&&_}
+use mathlib.Core.List.{List, [], _∷_, _++_, map, flatMap, append-nil, append-assoc, List·Memᴰ}
+use mathlib.Core.List.List·Memᴰ.{List·Memᴰ·head, List·Memᴰ·tail}
+use Prim.Native.Nat.{ℕ, zero, suc, _+_, _-_, _*_, _/_, _%_, _≤_, _<_}
+use native.Mathlib.Nat.{le-antisymm, add-suc, add-zero, zero-add, suc-add, add-comm, suc-mul, zero-mul}
+use native.Mathlib.Nat.{mul-add-div-right, mod-eq-of-lt, div-eq-of-lt, add-mul-mod-self-right}
 use native.Mathlib.Numerals.{add-one}
 use native.Mathlib.Omega.{arith}
-use lib.Dec.{eqb}
+use lib.Dec.{eqb, ltb}
 use lib.ListN.{length, length-append}
+use borrow.Author.Tests.{lt-ltb, le-ltb}
 use Rattle.base.specs.Basic.{count, numbers, numbersFrom}
-use Rattle.base.specs.ListLaws.{count-append}
+use Rattle.base.specs.ListLaws.{count-append, numbers-member, numbersFrom-member}
 use Rattle.graph.specs.Graph as G
 use Rattle.graph.specs.Edge as E
 use Rattle.tables.specs.declared.Row.{Row}
 use Rattle.tables.specs.Table.{rowAt, rowCount, rowForward, rowBack, rowStands, rowEdge, rowEdges, tableRows, edgesOfRows}
 use Rattle.tables.specs.TableLaws.{flatMap-map, flatMap-same}
 use Rattle.edges.specs.declared.Counts.{Counts}
-use Rattle.edges.specs.Slots.{tableEdges, tableCounts, slots, leftRow, rightRow, standsAt, slotEdge, one, edgesBelow, backBelow}
+use Rattle.edges.specs.Slots.{tableEdges, tableCounts, slots, leftRow, rightRow, standsAt, slotEdge, one, edgesBelow, backBelow, countsBelow}
+use Rattle.edges.specs.SlotLaws.{rows-small}
 
 -- ---- numbers in rows
 
@@ -90,19 +94,67 @@ pair-slots p q =
     ap (λ (l : List E.Edge). cond (rowForward p q) (rowEdge G.Flow.forward p q ∷ []) [] ++ l)
     (sym (append-nil (cond (rowBack p q) (rowEdge G.Flow.back p q ∷ []) [])))
 
+module _ {A C : Type 0} where
+  -- what gives nothing for each element gathers nothing
+  flatMap-none : (f : A → List C) (l : List A) → ((x : A) → List·Memᴰ x l → f x ≡ []) → flatMap f l ≡ []
+  unfolding flatMap
+  flatMap-none f [] none = refl
+  flatMap-none f (x ∷ l) none =
+      ap₂ (λ (a b : List C). a ++ b) (none x (List·Memᴰ·head refl)) (flatMap-none f l (λ y m. none y (List·Memᴰ·tail m)))
+
 module _ (table : List ℕ) where
   abbrev n : ℕ
   n = rowCount table
 
+  -- what stands in slot y of a row
+  abbrev rowSlot : Row → ℕ → List E.Edge
+  rowSlot p y =
+      let flow = cond (eqb (y % 2) 0) G.Flow.forward G.Flow.back in
+      cond (ltb y (n * 2) && rowStands flow p (rowAt table (y / 2))) (rowEdge flow p (rowAt table (y / 2)) ∷ []) []
+
+  slot-inside : (p : Row) (y : ℕ) → y < n * 2 → flowEdges p (rowAt table (y / 2)) (y % 2) ≡ rowSlot p y
+  slot-inside p y h = simp (lt-ltb y (n * 2) h)
+
+  slot-past : (p : Row) (y : ℕ) → n * 2 ≤ y → rowSlot p y ≡ []
+  slot-past p y h = simp (le-ltb y (n * 2) h)
+
+  -- the edges that leave a row, in the order of the row's slots
+  row-flat : (p : Row) → flatMap (λ j. rowEdges p (rowAt table j)) (numbers n) ≡ flatMap (rowSlot p) (numbers 1024)
+  row-flat p =
+      flatMap-same _ _ (numbers n) (λ j h. pair-slots p (rowAt table j))
+      ∙ square-flat (λ j b. flowEdges p (rowAt table j) b) 2 n
+      ∙ flatMap-same _ _ (numbers (n * 2)) (λ y h. slot-inside p y (numbers-member (n * 2) h))
+      ∙ sym (append-nil (flatMap (rowSlot p) (numbers (n * 2))))
+      ∙ ap (λ (l : List E.Edge). flatMap (rowSlot p) (numbers (n * 2)) ++ l) (sym none)
+      ∙ sym (flatMap-append (rowSlot p) (numbers (n * 2)) (numbersFrom (0 + n * 2) (1024 - n * 2)))
+      ∙ ap (flatMap (rowSlot p)) (sym (numbersFrom-append 0 (n * 2) (1024 - n * 2)) ∙ ap numbers whole)
+    where
+      whole : n * 2 + (1024 - n * 2) ≡ 1024
+      whole = let h = rows-small table in omega arith
+
+      none : flatMap (rowSlot p) (numbersFrom (0 + n * 2) (1024 - n * 2)) ≡ []
+      none =
+          flatMap-none (rowSlot p) (numbersFrom (0 + n * 2) (1024 - n * 2))
+          (λ y h. slot-past p y (let l = numbersFrom-member (0 + n * 2) (1024 - n * 2) h .0 in omega arith))
+
+  -- a slot's number tells its row and its place in the row
+  slot-is : (x : ℕ) → rowSlot (rowAt table (x / 1024)) (x % 1024) ≡ slotEdges table x
+  unfolding slotEdges standsAt slotEdge
+  slot-is x =
+      let e : x % 1024 % 2 ≡ x % 2 = omega arith in
+      ap (λ (b : ℕ). let flow = cond (eqb b 0) G.Flow.forward G.Flow.back in
+      cond (ltb (x % 1024) (n * 2) && rowStands flow (leftRow table x) (rightRow table x))
+      (rowEdge flow (leftRow table x) (rightRow table x) ∷ []) []) e
+
   -- E5: the edges of a table in the order of its slots
   pub edges-flat : tableEdges table ≡ flatMap (slotEdges table) (numbers (slots table))
-  unfolding tableEdges edgesOfRows tableRows slots slotEdges standsAt slotEdge
+  unfolding tableEdges edgesOfRows tableRows slots
   edges-flat =
       flatMap-map (λ p. flatMap (rowEdges p) (map (rowAt table) (numbers n))) (rowAt table) (numbers n)
-      ∙ flatMap-same _ _ (numbers n) (λ i h. flatMap-map (rowEdges (rowAt table i)) (rowAt table) (numbers n))
-      ∙ square-flat (λ i j. rowEdges (rowAt table i) (rowAt table j)) n n
-      ∙ flatMap-same _ _ (numbers (n * n)) (λ y h. pair-slots (rowAt table (y / n)) (rowAt table (y % n)))
-      ∙ square-flat (λ y b. flowEdges (rowAt table (y / n)) (rowAt table (y % n)) b) 2 (n * n)
+      ∙ flatMap-same _ _ (numbers n)
+      (λ i h. flatMap-map (rowEdges (rowAt table i)) (rowAt table) (numbers n) ∙ row-flat (rowAt table i))
+      ∙ square-flat (λ i y. rowSlot (rowAt table i) y) 1024 n
+      ∙ flatMap-same _ _ (numbers (n * 1024)) (λ x h. slot-is x)
 
   -- one slot more
   slots-more : (x : ℕ) → flatMap (slotEdges table) (numbers (suc x)) ≡ flatMap (slotEdges table) (numbers x) ++ slotEdges table x
@@ -144,24 +196,20 @@ module _ (table : List ℕ) where
       one-back false even = refl
 
   -- the counts of a table
-  pub counts-below : _≡_ {A = Counts} (record { edges = edgesBelow table (slots table); back = backBelow table (slots table) }) (tableCounts table)
-  unfolding tableCounts
+  pub counts-below : countsBelow table (slots table) ≡ tableCounts table
+  unfolding countsBelow tableCounts
   counts-below = λ i. record {
     edges = (edges-below (slots table) ∙ sym (ap length edges-flat)) i;
     back = (back-below (slots table) ∙ sym (ap (count (λ e. G.isBack (e .flow))) edges-flat)) i;
   }
 
--- the counts below all slots are the counts of the table
-pub counts-all : (table : List ℕ) (n x edges back : ℕ)
+-- the counts below all rows are the counts of the table
+pub counts-all : (table : List ℕ) (n i : ℕ) (counts : Counts)
     → n ≡ rowCount table
-    → x ≤ n * n * 2
-    → n * n * 2 ≤ x
-    → edges ≡ edgesBelow table x
-    → back ≡ backBelow table x
-    → _≡_ {A = Counts} (record { edges = edges; back = back }) (tableCounts table)
+    → i ≤ n
+    → n ≤ i
+    → counts ≡ countsBelow table (i * 1024)
+    → counts ≡ tableCounts table
 unfolding slots
-counts-all table n x edges back rows most least one two =
-    let end : x ≡ slots table = le-antisymm most least ∙ ap (λ (m : ℕ). m * m * 2) rows in
-    let first : edges ≡ edgesBelow table (slots table) = one ∙ ap (edgesBelow table) end in
-    let second : back ≡ backBelow table (slots table) = two ∙ ap (backBelow table) end in
-    ap₂ (λ (e b : ℕ). record { edges = e; back = b }) first second ∙ counts-below table
+counts-all table n i counts rows most least e =
+    e ∙ ap (λ (k : ℕ). countsBelow table (k * 1024)) (le-antisymm most least ∙ rows) ∙ counts-below table

@@ -3,20 +3,24 @@ use mathlib.Core.Path.{_≡_, refl, sym, ap, ap₂, _∙_}
 use mathlib.Core.Bool.{Bool, true, false, cond}
 use mathlib.Core.List.{List, [], _∷_, _++_, map, flatMap}
 use Prim.Native.Nat.{ℕ, zero, suc, _+_, _-_, _≤_, _<_}
-use native.Mathlib.Nat.{not-suc-le-zero, le-of-suc-le-suc, sub-zero}
+use mathlib.Core.Option.{some}
+use native.Mathlib.Nat.{le-antisymm, not-suc-le-zero, le-of-suc-le-suc, sub-zero}
 use native.Mathlib.Decide.{decLe}
 use native.Mathlib.Numerals.{add-one}
 use native.Mathlib.Omega.{arith}
 use lib.Dec.{leb}
-use lib.ListN.{length, set, take, drop, getD, length-set}
+use lib.ListN.{length, set, take, drop, getD, getElem?, length-set}
 use lib.Seq.{drop-cons, take-length}
-use borrow.Author.Tests.{lt-ltb, leb-true}
+use borrow.Author.Tests.{leb-true}
 use Rattle.base.specs.Basic.{numbersFrom}
 use Rattle.graph.specs.Edge as E
-use Rattle.tables.specs.Table.{rowCount}
 use Rattle.edges.specs.declared.Edge.{Edge}
-use Rattle.edges.specs.Slots.{coded, tableEdges, putInto, fittingIn, slots, standsAt, slotEdge, noEdge, edgeAt, nextFrom, nextSlot}
-use Rattle.edges.specs.SlotLaws.{rows-square}
+use Rattle.edges.specs.Slots.{coded, tableEdges, tableCounts, putInto, fittingIn, slots}
+use Rattle.edges.specs.Slots.{standsAt, slotEdge, edgeAt, nextFrom, nextSlot, noEdge, foundAs}
+use Rattle.edges.specs.declared.Found.{Found}
+use Rattle.edges.specs.declared.Counts.{Counts}
+use Rattle.base.specs.ListLaws.{getElem?-past}
+use Rattle.edges.specs.SlotLaws.{rows-small}
 use Rattle.edges.specs.Flattened.{slotEdges, edges-flat}
 
 -- the slot behind the first k edges
@@ -51,11 +55,14 @@ pub slot-more : (table : List ℕ) (k s : ℕ) → s ≡ nextSlot table (slotOf 
 unfolding slotOf
 slot-more table k s h = ap (λ (x : ℕ). x + 1) h ∙ ap (slotOf table) (sym (add-one k))
 
+pub slot-turn : (table : List ℕ) (i slot s : ℕ) → slot ≡ slotOf table i → s ≡ nextSlot table slot → s + 1 ≡ slotOf table (i + 1)
+slot-turn table i slot s e h = slot-more table i s (h ∙ ap (nextSlot table) e)
+
 -- ---- slots are few
 
 pub slots-small : (table : List ℕ) → slots table ≤ 524288
 unfolding slots
-slots-small table = let h = rows-square table (rowCount table) refl in omega arith
+slots-small table = let h = rows-small table in omega arith
 
 -- the next slot is at most the end
 nextFrom-small : (table : List ℕ) (left x : ℕ) → x + left ≤ slots table → nextFrom table left x ≤ slots table
@@ -78,6 +85,9 @@ next-small table x = go (decLe x (slots table))
     go : Dec (x ≤ slots table) → nextFrom table (slots table - x) x ≤ 524288
     go (yes l) = let m = nextFrom-small table (slots table - x) x (omega arith) in let h = slots-small table in omega arith
     go (no d) = let e : slots table - x ≡ 0 = omega arith in rw e (past table x)
+
+pub next-few : (table : List ℕ) (x s : ℕ) → s ≡ nextSlot table x → s ≤ 524288
+next-few table x s e = let h = next-small table x in omega arith
 
 pub slot-small : (table : List ℕ) (k : ℕ) → slotOf table k ≤ 524289
 unfolding slotOf
@@ -115,6 +125,12 @@ module _ (table : List ℕ) where
       go false later = later
 
 -- ---- what is put
+
+-- an element below the length is there
+getElem?-inside : {A : Type 0} (l : List A) (i : ℕ) (d : A) → i < length l → getElem? l i ≡ some (getD l i d)
+getElem?-inside [] i d h = absurd (not-suc-le-zero h)
+getElem?-inside (x ∷ l) zero d h = refl
+getElem?-inside (x ∷ l) (suc i) d h = getElem?-inside l i d (le-of-suc-le-suc h)
 
 -- one edge more at the front
 set-front : (edges : List E.Edge) (area : List Edge) (k : ℕ) (d : E.Edge) → k < length edges → k < length area
@@ -160,11 +176,38 @@ module _ (table : List ℕ) where
           let whole = same ∙ e in
           record {
             next = record { low = omega arith; rest = cc };
-            edge =
-                ap (λ (b : Bool). cond b (coded (slotEdge table (nextSlot table (slotOf table k)))) noEdge)
-                (lt-ltb (nextSlot table (slotOf table k)) (slots table) l)
-                ∙ ap coded (cc);
+            edge = ap coded (cc);
           }
+
+  behind-all : (k : ℕ) → k ≤ length edges → Behind k
+  behind-all zero h = behind-none
+  behind-all (suc k) h = behind-step k h (behind-all k (omega arith)) .next
+
+  -- an edge found by going from each edge to the next
+  pub found-at : (k i slot next : ℕ) (edge : Edge) (counts : Counts)
+      → counts ≡ tableCounts table
+      → k < counts .edges
+      → i ≤ k
+      → k ≤ i
+      → slot ≡ slotOf table i
+      → next ≡ nextSlot table slot
+      → edge ≡ edgeAt table next
+      → _≡_ {A = Found} (record { found = true; edge = edge }) (foundAs (getElem? edges k))
+  unfolding foundAs tableCounts
+  found-at k i slot next edge counts c l most least s n e =
+      let all : counts .edges ≡ length edges = ap (λ (x : Counts). x .edges) c in
+      let h : k < length edges = omega arith in
+      let there = getElem?-inside edges k (slotEdge table 0) h in
+      let place : next ≡ nextSlot table (slotOf table k) = n ∙ ap (nextSlot table) (s ∙ ap (slotOf table) (le-antisymm most least)) in
+      ap (λ (x : Edge). record { found = true; edge = x }) (e ∙ ap (edgeAt table) place ∙ behind-step k h (behind-all k (omega arith)) .edge)
+      ∙ sym (ap foundAs there)
+
+  pub found-none : (k : ℕ) (edge : Edge) (counts : Counts) → edge ≡ noEdge → counts ≡ tableCounts table → counts .edges ≤ k
+      → _≡_ {A = Found} (record { found = false; edge = edge }) (foundAs (getElem? edges k))
+  unfolding foundAs tableCounts
+  found-none k edge counts e c l =
+      let all : counts .edges ≡ length edges = ap (λ (x : Counts). x .edges) c in
+      ap (λ (x : Edge). record { found = false; edge = x }) e ∙ sym (ap foundAs (getElem?-past edges k (omega arith)))
 
   -- the first k edges stand at the front of the area, and the rest of it is as it was
   put-front : (area : List Edge) (k : ℕ) → k ≤ length edges → length edges ≤ length area

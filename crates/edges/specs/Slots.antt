@@ -1,5 +1,7 @@
--- Slots: a table of n rows has n * n pairs of rows and two slots for each pair, the forward edge's first.
-use mathlib.Core.Bool.{Bool, cond}
+-- Slots: each row of a table has 1024 slots, two for each row that an edge of it can enter, the forward edge's first.
+-- So a slot's rows and flow are told without dividing by the number of rows. Slots past the table's last row stay empty.
+use mathlib.Core.Bool.{Bool, true, false, cond, _&&_}
+use mathlib.Core.Option.{Option, none, some}
 use mathlib.Core.List.{List, _++_, map}
 use mathlib.Core.Path.{_≡_}
 use Prim.Native.Nat.{ℕ, zero, suc, _+_, _-_, _*_, _/_, _%_, _<_}
@@ -14,6 +16,7 @@ use Rattle.edges.specs.declared.Letter.{Letter}
 use Rattle.edges.specs.declared.Letter.the-variants.{A, B, C, D, E}
 use Rattle.edges.specs.declared.Edge.{Edge}
 use Rattle.edges.specs.declared.Counts.{Counts}
+use Rattle.edges.specs.declared.Found.{Found}
 
 -- ---- what the answers stand for
 
@@ -58,6 +61,14 @@ coded e = record {
   letter = letterByte (e .letter);
 }
 
+-- E5: one edge asked for by its number
+abbrev pub noEdge : Edge
+noEdge = record { node = 0; leaves = 0; into = 0; enters = 0; sharing = 0; lowest = 0; flow = 0x66; letter = 0x41 }
+
+unfoldable pub foundAs : Option E.Edge → Found
+foundAs none = record { found = false; edge = noEdge }
+foundAs (some e) = record { found = true; edge = coded e }
+
 -- the edges of a table, and how many they are
 unfoldable pub tableEdges : List ℕ → List E.Edge
 tableEdges table = edgesOfRows (tableRows table)
@@ -76,35 +87,31 @@ fittingIn table room = cond (leb (length (tableEdges table)) room) (length (tabl
 -- ---- slots
 
 unfoldable pub slots : List ℕ → ℕ
-slots table = rowCount table * rowCount table * 2
-
--- a slot of a table of n rows
-pub record InTable (table : List ℕ) (n x : ℕ) : Type 0 where
-  pub rows : n ≡ rowCount table
-  pub inside : x < n * n * 2
+slots table = rowCount table * 1024
 
 abbrev pub flowAt : ℕ → G.Flow
 flowAt x = cond (eqb (x % 2) 0) G.Flow.forward G.Flow.back
 
 abbrev pub leftRow : List ℕ → ℕ → Row
-leftRow table x = rowAt table (x / 2 / rowCount table)
+leftRow table x = rowAt table (x / 1024)
 
 abbrev pub rightRow : List ℕ → ℕ → Row
-rightRow table x = rowAt table (x / 2 % rowCount table)
+rightRow table x = rowAt table (x % 1024 / 2)
 
 -- an edge stands in the slot
 unfoldable pub standsAt : List ℕ → ℕ → Bool
-standsAt table x = rowStands (flowAt x) (leftRow table x) (rightRow table x)
+standsAt table x = ltb (x % 1024) (rowCount table * 2) && rowStands (flowAt x) (leftRow table x) (rightRow table x)
 
 -- the edge in the slot
 unfoldable pub slotEdge : List ℕ → ℕ → E.Edge
 slotEdge table x = rowEdge (flowAt x) (leftRow table x) (rightRow table x)
 
-abbrev pub noEdge : Edge
-noEdge = record { node = 0; leaves = 0; into = 0; enters = 0; sharing = 0; lowest = 0; flow = 0x66; letter = 0x41 }
-
 unfoldable pub edgeAt : List ℕ → ℕ → Edge
-edgeAt table x = cond (ltb x (slots table)) (coded (slotEdge table x)) noEdge
+edgeAt table x = coded (slotEdge table x)
+
+-- the slot behind x, past the empty slots at the end of a row
+unfoldable pub following : ℕ → ℕ → ℕ
+following n x = cond (ltb ((x + 1) % 1024) (n * 2)) (x + 1) (x / 1024 * 1024 + 1024)
 
 -- the first slot from x on in which an edge stands, or the end
 unfoldable pub nextFrom : List ℕ → ℕ → ℕ → ℕ
@@ -128,3 +135,12 @@ edgesBelow table (suc x) = edgesBelow table x + one (standsAt table x)
 unfoldable pub backBelow : List ℕ → ℕ → ℕ
 backBelow table zero = 0
 backBelow table (suc x) = backBelow table x + backOne (standsAt table x) x
+
+unfoldable pub countsBelow : List ℕ → ℕ → Counts
+countsBelow table x = record { edges = edgesBelow table x; back = backBelow table x }
+
+-- the edges that leave the rows before row i are counted
+pub record CountedTo (table : List ℕ) (n i : ℕ) (before : Counts) : Type 0 where
+  pub rows : n ≡ rowCount table
+  pub inside : i < n
+  pub counts : before ≡ countsBelow table (i * 1024)

@@ -1,17 +1,22 @@
 // The edges of the summary graph, found row by row in a table of places: eight words to a row.
 
 ghost use mathlib.Core.Path.{_≡_};
-ghost use mathlib.Core.Bool.{not, _&&_, _||_};
-ghost use Prim.Native.Nat.{_+_, _-_, _*_, _≤_, _<_, min, _/_};
-ghost use lib.ListN.{length};
-ghost use Rattle.base.specs.Basic.{meets};
+ghost use Prim.Native.Nat.{_+_, _*_, _≤_, _<_};
+ghost use lib.ListN.{getElem?};
 ghost use Rattle.graph.specs.Graph as G;
-ghost use Rattle.graph.specs.Edge.{hasTests, inserts, deletes, selects};
-ghost use Rattle.graph.specs.Edge as E;
-ghost use Rattle.tables.specs.Table.{kindOf, rowAt, rowCount, rowHolds, rowForward, rowBack, rowLetter, rowShared, rowEdge};
-ghost use Rattle.edges.specs.Slots.{letterCode, letterMeant, letterByte, coded, tableEdges, tableCounts, putInto, fittingIn, InTable, standsAt, slotEdge, edgeAt, nextSlot, one, backOne};
+ghost use Rattle.tables.specs.Table.{rowAt, rowLetter, rowShared, rowEdge};
+ghost use Rattle.edges.specs.Slots.{letterCode, letterMeant, letterByte, coded, noEdge, foundAs, tableEdges, tableCounts, putInto};
+ghost use Rattle.edges.specs.Slots.{fittingIn, standsAt, edgeAt, following, nextSlot, one, countsBelow, CountedTo};
+use standing::back_stands;
+use standing::forward_stands;
+use standing::holds_a;
+use standing::holds_b;
+use standing::holds_c;
+use standing::holds_d;
+use standing::holds_e;
+use standing::row_at;
+use standing::row_count;
 use tables::Row;
-use text::StatementKind;
 
 // The letter that an edge's record names.
 enum Letter {
@@ -36,242 +41,16 @@ pub struct Edge {
     pub letter: u8,
 }
 
+// The edge asked for, if there is one; else an edge of zeros.
+pub struct Found {
+    pub found: bool,
+    pub edge: Edge,
+}
+
 // How many edges there are, and how many of them are back edges.
 pub struct Counts {
     pub edges: usize,
     pub back: usize,
-}
-
-// Whether two sets share an attribute, or two words of keys a key.
-fn meet(x: u64, y: u64) -> bool
-    ensures { λ r. ⌜ r ≡ meets x y ⌝ }
-{
-    x & y != 0
-}
-
-fn has_tests(k: StatementKind) -> bool
-    ensures { λ r. ⌜ r ≡ hasTests k ⌝ }
-{
-    match k {
-        StatementKind::Is => false,
-        StatementKind::Ks => false,
-        StatementKind::Ps => true,
-        StatementKind::Ku => false,
-        StatementKind::Pu => true,
-        StatementKind::Kd => false,
-        StatementKind::Pd => true,
-    }
-}
-
-fn is_insert(k: StatementKind) -> bool
-    ensures { λ r. ⌜ r ≡ inserts k ⌝ }
-{
-    match k {
-        StatementKind::Is => true,
-        StatementKind::Ks => false,
-        StatementKind::Ps => false,
-        StatementKind::Ku => false,
-        StatementKind::Pu => false,
-        StatementKind::Kd => false,
-        StatementKind::Pd => false,
-    }
-}
-
-fn is_delete(k: StatementKind) -> bool
-    ensures { λ r. ⌜ r ≡ deletes k ⌝ }
-{
-    match k {
-        StatementKind::Is => false,
-        StatementKind::Ks => false,
-        StatementKind::Ps => false,
-        StatementKind::Ku => false,
-        StatementKind::Pu => false,
-        StatementKind::Kd => true,
-        StatementKind::Pd => true,
-    }
-}
-
-fn is_select(k: StatementKind) -> bool
-    ensures { λ r. ⌜ r ≡ selects k ⌝ }
-{
-    match k {
-        StatementKind::Is => false,
-        StatementKind::Ks => true,
-        StatementKind::Ps => true,
-        StatementKind::Ku => false,
-        StatementKind::Pu => false,
-        StatementKind::Kd => false,
-        StatementKind::Pd => false,
-    }
-}
-
-// The kind that a word names.
-fn kind_of(x: u64) -> StatementKind
-    ensures { λ r. ⌜ r ≡ kindOf x ⌝ }
-{
-    if x == 0 {
-        return StatementKind::Is;
-    }
-    if x == 1 {
-        return StatementKind::Ks;
-    }
-    if x == 2 {
-        return StatementKind::Ps;
-    }
-    if x == 3 {
-        return StatementKind::Ku;
-    }
-    if x == 4 {
-        return StatementKind::Pu;
-    }
-    if x == 5 {
-        return StatementKind::Kd;
-    }
-    StatementKind::Pd
-}
-
-// How many rows a table has.
-fn row_count(table: &[u64]) -> usize
-    ensures { λ r. ⌜ r ≡ rowCount (now (table .entry)) ⌝ }
-{
-    let n = table.len() / 8;
-    if n < 512 {
-        return n;
-    }
-    512
-}
-
-// Row number i.
-fn row_at(table: &[u64], i: usize) -> Row
-    requires { ⌜ i * 8 + 8 ≤ length (now table) ⌝ }
-    ensures { λ r. ⌜ r ≡ rowAt (now (table .entry)) i ⌝ }
-{
-    let b = i * 8;
-    let k = kind_of(table[b + 2]);
-    Row {
-        node: table[b],
-        place: table[b + 1],
-        kind: k,
-        relation: table[b + 3],
-        reads: table[b + 4],
-        writes: table[b + 5],
-        tests: table[b + 6],
-        keys: table[b + 7],
-    }
-}
-
-// A: neither a delete first nor an insert second, and the writes meet.
-fn holds_a(p: Row, q: Row) -> bool
-    ensures { λ r. ⌜ r ≡ rowHolds E.Letter.A p q ⌝ }
-{
-    let k = p.kind;
-    if is_delete(k) {
-        return false;
-    }
-    let l = q.kind;
-    if is_insert(l) {
-        return false;
-    }
-    meet(p.writes, q.writes)
-}
-
-// B: no delete first, and its writes meet the reads.
-fn holds_b(p: Row, q: Row) -> bool
-    ensures { λ r. ⌜ r ≡ rowHolds E.Letter.B p q ⌝ }
-{
-    let k = p.kind;
-    if is_delete(k) {
-        return false;
-    }
-    meet(p.writes, q.reads)
-}
-
-// Whether a statement changes what a predicate with these tests takes.
-fn changes(p: Row, tests: u64) -> bool
-    ensures { λ r. ⌜ r ≡ inserts (p .kind) || deletes (p .kind) || meets (p .writes) tests ⌝ }
-{
-    let k = p.kind;
-    if is_insert(k) {
-        return true;
-    }
-    if is_delete(k) {
-        return true;
-    }
-    meet(p.writes, tests)
-}
-
-// C: the first changes what the second's predicate takes.
-fn holds_c(p: Row, q: Row) -> bool
-    ensures { λ r. ⌜ r ≡ rowHolds E.Letter.C p q ⌝ }
-{
-    let k = q.kind;
-    if has_tests(k) {
-        return changes(p, q.tests);
-    }
-    false
-}
-
-// D: the reads meet the writes of a second that is no insert.
-fn holds_d(p: Row, q: Row) -> bool
-    ensures { λ r. ⌜ r ≡ rowHolds E.Letter.D p q ⌝ }
-{
-    let k = q.kind;
-    if is_insert(k) {
-        return false;
-    }
-    meet(p.reads, q.writes)
-}
-
-// E: the second changes what the first's predicate takes.
-fn holds_e(p: Row, q: Row) -> bool
-    ensures { λ r. ⌜ r ≡ rowHolds E.Letter.E p q ⌝ }
-{
-    let k = p.kind;
-    if has_tests(k) {
-        return changes(q, p.tests);
-    }
-    false
-}
-
-// Whether a forward edge stands: the rows are of one relation and some letter holds.
-fn forward_stands(p: Row, q: Row) -> bool
-    ensures { λ r. ⌜ r ≡ rowForward p q ⌝ }
-{
-    if p.relation != q.relation {
-        return false;
-    }
-    if holds_a(p, q) {
-        return true;
-    }
-    if holds_b(p, q) {
-        return true;
-    }
-    if holds_c(p, q) {
-        return true;
-    }
-    if holds_d(p, q) {
-        return true;
-    }
-    holds_e(p, q)
-}
-
-// Whether a back edge stands: E holds, or D for a select that no key shields.
-fn back_stands(p: Row, q: Row) -> bool
-    ensures { λ r. ⌜ r ≡ rowBack p q ⌝ }
-{
-    if p.relation != q.relation {
-        return false;
-    }
-    if holds_e(p, q) {
-        return true;
-    }
-    let k = p.kind;
-    if is_select(k) {
-        if holds_d(p, q) {
-            return !meet(p.keys, q.keys);
-        }
-    }
-    false
 }
 
 // The first letter that holds for a forward edge.
@@ -367,14 +146,27 @@ fn back_edge(p: Row, q: Row) -> Edge
     }
 }
 
-// Whether an edge stands in the slot, in a table of n rows.
-fn stands_at(table: &[u64], n: usize, slot: usize) -> bool
-    requires { ⌜ InTable (now table) n slot ⌝ }
+// The relation of row i.
+fn relation_of(table: &[u64], i: usize) -> u64
+    ensures { λ r. ⌜ r ≡ rowAt (now (table .entry)) i .relation ⌝ }
+{
+    let p = row_at(table, i);
+    p.relation
+}
+
+// Whether an edge stands in the slot. The relations come first: most pairs of rows differ there.
+fn stands_at(table: &[u64], slot: usize) -> bool
     ensures { λ r. ⌜ r ≡ standsAt (now (table .entry)) slot ⌝ }
 {
-    let pair = slot / 2;
-    let i = pair / n;
-    let j = pair % n;
+    let n = row_count(table);
+    if n * 2 <= slot % 1024 {
+        return false;
+    }
+    let i = slot / 1024;
+    let j = slot % 1024 / 2;
+    if relation_of(table, i) != relation_of(table, j) {
+        return false;
+    }
     let p = row_at(table, i);
     let q = row_at(table, j);
     if slot % 2 == 0 {
@@ -383,56 +175,44 @@ fn stands_at(table: &[u64], n: usize, slot: usize) -> bool
     back_stands(p, q)
 }
 
+// The slot behind a slot of n rows, past the empty ones at the end of a row.
+fn following_slot(n: usize, slot: usize) -> usize
+    requires { ⌜ (n ≤ 512) × (slot < n * 1024) ⌝ }
+    ensures { λ r. ⌜ r ≡ following n slot ⌝ }
+{
+    let next = slot + 1;
+    if next % 1024 < n * 2 {
+        return next;
+    }
+    slot / 1024 * 1024 + 1024
+}
+
 // The first slot from a slot on in which an edge stands, or the number of slots.
 fn next_slot(table: &[u64], from: usize) -> usize
     ensures { λ r. ⌜ r ≡ nextSlot (now (table .entry)) from ⌝ }
 {
     let n = row_count(table);
-    let end = n * n * 2;
+    let end = n * 1024;
     let mut x = from;
     while x < end {
-        if stands_at(table, n, x) {
+        if stands_at(table, x) {
             return x;
         }
-        x += 1;
+        x = following_slot(n, x);
     }
     end
 }
 
-// The edge in the slot, in a table of n rows.
-fn edge_in(table: &[u64], n: usize, slot: usize) -> Edge
-    requires { ⌜ InTable (now table) n slot ⌝ }
-    ensures { λ r. ⌜ r ≡ coded (slotEdge (now (table .entry)) slot) ⌝ }
+// The edge in the slot.
+fn edge_at(table: &[u64], slot: usize) -> Edge
+    ensures { λ r. ⌜ r ≡ edgeAt (now (table .entry)) slot ⌝ }
 {
-    let pair = slot / 2;
-    let i = pair / n;
-    let j = pair % n;
-    let p = row_at(table, i);
-    let q = row_at(table, j);
+    let p = row_at(table, slot / 1024);
+    let q = row_at(table, slot % 1024 / 2);
     if slot % 2 == 0 {
         return forward_edge(p, q);
     }
     back_edge(p, q)
-}
-
-// The edge in the slot; past the slots, an edge of zeros.
-fn edge_at(table: &[u64], slot: usize) -> Edge
-    ensures { λ r. ⌜ r ≡ edgeAt (now (table .entry)) slot ⌝ }
-{
-    let n = row_count(table);
-    if slot < n * n * 2 {
-        return edge_in(table, n, slot);
-    }
-    Edge {
-        node: 0,
-        leaves: 0,
-        into: 0,
-        enters: 0,
-        sharing: 0,
-        lowest: 0,
-        flow: b'f',
-        letter: b'A',
-    }
 }
 
 // One where an edge stands.
@@ -445,17 +225,24 @@ fn one_edge(stands: bool) -> usize
     0
 }
 
-// One where a back edge stands in the slot.
-fn one_back(stands: bool, x: usize) -> usize
-    ensures { λ r. ⌜ r ≡ backOne stands x ⌝ }
+// The counts before row i, and those of the edges that leave it.
+fn count_row(table: &[u64], n: usize, i: usize, before: Counts) -> Counts
+    requires { ⌜ CountedTo (now table) n i before ⌝ }
+    ensures { λ r. ⌜ r ≡ countsBelow (now (table .entry)) (i * 1024 + 1024) ⌝ }
 {
-    if stands {
-        if x % 2 == 0 {
-            return 0;
-        }
-        return 1;
+    let p = row_at(table, i);
+    let mut edges = before.edges;
+    let mut back = before.back;
+    let mut j: usize = 0;
+    while j < n {
+        let q = row_at(table, j);
+        let f = one_edge(forward_stands(p, q));
+        let b = one_edge(back_stands(p, q));
+        edges = edges + f + b;
+        back += b;
+        j += 1;
     }
-    0
+    Counts { edges, back }
 }
 
 // How many edges a table has, and how many of them are back edges.
@@ -463,17 +250,55 @@ pub fn count_edges(table: &[u64]) -> Counts
     ensures { λ r. ⌜ r ≡ tableCounts (now (table .entry)) ⌝ }
 {
     let n = row_count(table);
-    let end = n * n * 2;
-    let mut edges: usize = 0;
-    let mut back: usize = 0;
-    let mut x: usize = 0;
-    while x < end {
-        let s = stands_at(table, n, x);
-        edges += one_edge(s);
-        back += one_back(s, x);
-        x += 1;
+    let mut counts = Counts { edges: 0, back: 0 };
+    let mut i: usize = 0;
+    while i < n {
+        counts = count_row(table, n, i, counts);
+        i += 1;
     }
-    Counts { edges, back }
+    counts
+}
+
+// The edge of zeros, which stands for none.
+pub fn no_edge() -> Edge
+    ensures { λ r. ⌜ r ≡ noEdge ⌝ }
+{
+    Edge {
+        node: 0,
+        leaves: 0,
+        into: 0,
+        enters: 0,
+        sharing: 0,
+        lowest: 0,
+        flow: b'f',
+        letter: b'A',
+    }
+}
+
+// Edge number k of a table: each edge is found from where the one before stands.
+pub fn edge_of_number(table: &[u64], k: usize) -> Found
+    ensures { λ r. ⌜ r ≡ foundAs (getElem? (tableEdges (now (table .entry))) k) ⌝ }
+{
+    let c = count_edges(table);
+    if c.edges <= k {
+        let none = no_edge();
+        return Found {
+            found: false,
+            edge: none,
+        };
+    }
+    let mut slot: usize = 0;
+    let mut i: usize = 0;
+    while i < k {
+        slot = next_slot(table, slot) + 1;
+        i += 1;
+    }
+    let at = next_slot(table, slot);
+    let edge = edge_at(table, at);
+    Found {
+        found: true,
+        edge: edge,
+    }
 }
 
 // How many edges to put into an area with this much room: all, or none where they do not fit.

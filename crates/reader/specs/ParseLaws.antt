@@ -1,33 +1,37 @@
 -- The steps of the code that reads a text are those of `Reading`.
 use mathlib.Core.Path.{_≡_, refl, sym, ap, ap₂, subst, _∙_}
-use mathlib.Core.Bool.{Bool, true, false, cond, not, _&&_, _||_}
+use mathlib.Core.Bool.{Bool, true, false, cond, _&&_}
 use mathlib.Core.Bool as B
 use mathlib.Core.List.{List, [], _∷_, _++_, tail, headD, append-assoc}
 use mathlib.Core.Logic.{_⊎_, inl, inr}
-use mathlib.Core.Option.{Option, none, some, Option·some-ne-none}
-use Prim.Native.Nat.{ℕ, zero, suc, _+_, _-_, _≤_, _<_}
+use mathlib.Core.Option.{Option, none, some}
+use Prim.Native.Nat.{ℕ, suc, _+_, _-_, _≤_, _<_}
 use native.Mathlib.Omega.{arith}
 use native.Mathlib.Numerals.{add-one}
-use native.Mathlib.Nat.{add-zero, zero-add, not-suc-le-zero, le-of-suc-le-suc}
-use lib.Dec.{eqb, leb, ltb}
+use native.Mathlib.Nat.{zero-add, not-suc-le-zero}
+use lib.Dec.{eqb}
 use lib.ListN.{length, getD, set, take, drop, replicate, length-append, drop-of-length-le, length-drop}
-use lib.Seq.{drop-cons, drop-drop, take-append-seam, set-append-seam, drop-nil}
-use borrow.Author.Tests.{eqb-true, eqb-false, ltb-true, lt-ltb, eq-eqb, ne-eqb, le-leb, lt-leb}
-use Rattle.base.specs.BoolLaws.{decide}
+use lib.Seq.{drop-cons, drop-drop, set-append-seam}
+use borrow.Author.Tests.{eq-eqb, ne-eqb, le-leb, lt-leb}
 use Rattle.text.specs.declared.Line.{Line}
 use Rattle.text.specs.declared.Workload.{Workload}
 use Rattle.text.specs.Text.{newline, same, onFirst, linesIn, namesLine, lineOf, emptyLine}
 use Rattle.text.specs.Reading.{isAllowed, otherByte, endsLine, noneOpen, fault, readLines, read, Outcome}
 use Rattle.text.specs.Reading.Outcome.{refused, accepted}
-use Rattle.text.specs.Value.{linesOf, valueOf}
-use Rattle.readstate.specs.declared.State.{State}
-use Rattle.readstate.specs.Kept.{checkOf, takeOf, emptyKept}
+use Rattle.text.specs.Value.{valueOf}
+use Rattle.kept.specs.Records.{State}
+use Rattle.kept.specs.Kept.{checkOf}
+use Rattle.kept.specs.Words.{stateIn, Taken}
 use Rattle.readstate.specs.Holds.{Holds, faultOf}
-use Rattle.readstate.specs.HoldsLaws.{holds-check, holds-take, holds-start, holds-open, holds-few}
+use Rattle.readstate.specs.HoldsLaws.{holds-check, holds-few}
+use Rattle.readstate.specs.Words.{HoldsWords}
+use Rattle.readstate.specs.WordsLaws.{words-take}
 use Rattle.reader.specs.declared.Parsed.{Parsed}
-use Rattle.reader.specs.declared.Progress.{Progress}
-use Rattle.reader.specs.Parse.{parsedAs, lineOr, lineBehindByte, lineLength, appendedTo, behindLine, behindAnswer, behindLines}
-use Rattle.reader.specs.Parse.{plusOf, endOf, pickWorkload, pickProgress, goingOn, EndsAt}
+use Rattle.reader.specs.declared.Seen.{Seen}
+use Rattle.lines.specs.declared.Span.{Span}
+use Rattle.lines.specs.Span.{lineLength, spanAt}
+use Rattle.lines.specs.SpanLaws.{span-past, span-line}
+use Rattle.reader.specs.Parse.{parsedAs, lineOr, lineBehindByte, numberOf, Saw, EndsAt, Going}
 
 -- ---- bytes
 
@@ -102,26 +106,6 @@ endsLine-last (b ∷ c ∷ text) h =
     ∙ sym (ap (λ j. eqb (getD (b ∷ c ∷ text) j 0) newline) one-more)
 
 -- ---- lines
-
--- one byte further in a line
-pub line-more : (text : List ℕ) (i : ℕ) → i < length text → (getD text i 0 ≡ newline → ⊥)
-    → lineLength (drop i text) ≡ suc (lineLength (drop (i + 1) text))
-unfolding lineLength
-line-more text i h e =
-    ap lineLength (drop-cons text i 0 h)
-    ∙ ap (λ t. cond t 0 (suc (lineLength (drop (suc i) text)))) (ne-eqb (getD text i 0) newline e)
-    ∙ ap (λ j. suc (lineLength (drop j text))) (sym (add-one i))
-
--- at the end of a line
-pub line-stop : (text : List ℕ) (i : ℕ) → i < length text → getD text i 0 ≡ newline → lineLength (drop i text) ≡ 0
-unfolding lineLength
-line-stop text i h e =
-    ap lineLength (drop-cons text i 0 h)
-    ∙ ap (λ t. cond t 0 (suc (lineLength (drop (suc i) text)))) (eq-eqb (getD text i 0) newline e)
-
-pub line-done : (text : List ℕ) (i : ℕ) → length text ≤ i → lineLength (drop i text) ≡ 0
-unfolding lineLength
-line-done text i h = ap lineLength (drop-of-length-le text h)
 
 -- the lines of a text that ends a line: its first and those behind it
 pub lines-first : (text : List ℕ) → endsLine text ≡ true
@@ -211,8 +195,10 @@ same-length (a ∷ as′) (b ∷ bs) h = go (eqb a b) (same-length as′ bs (λ 
 
 -- one line more
 pub appended-value : (before : List Line) (l : Line) → length before < 1616
-    → appendedTo (valueOf before) l ≡ valueOf (before ++ (l ∷ []))
-unfolding appendedTo valueOf
+    → _≡_ {A = Workload}
+    (record { count = valueOf before .count + 1; lines = set (valueOf before .lines) (valueOf before .count) l })
+    (valueOf (before ++ (l ∷ [])))
+unfolding valueOf
 appended-value before l h =
     let counts : length before + 1 ≡ length (before ++ (l ∷ [])) = sym (length-append before (l ∷ [])) in
     let left : 1616 - length before ≡ suc (1616 - length (before ++ (l ∷ []))) = omega (arith, length-append before (l ∷ [])) in
@@ -221,123 +207,43 @@ appended-value before l h =
     = ap (λ n. set (before ++ replicate n emptyLine) (length before) l) left
     ∙ set-append-seam before emptyLine (replicate (1616 - length (before ++ (l ∷ []))) emptyLine) l
     ∙ sym (append-assoc before (l ∷ []) (replicate (1616 - length (before ++ (l ∷ []))) emptyLine)) in
-    ap
-    (λ t. pickWorkload t
-    (record { count = length before + 1; lines = set (before ++ replicate (1616 - length before) emptyLine) (length before) l })
-    (record { count = length before; lines = before ++ replicate (1616 - length before) emptyLine }))
-    (lt-ltb (length before) 1616 h)
-    ∙ (λ i. record { count = counts i; lines = cells i })
+    λ i. record { count = counts i; lines = cells i }
 
--- ---- the lines of a text
+value-count : (before : List Line) → valueOf before .count ≡ length before
+unfolding valueOf
+value-count before = refl
 
--- nothing is read behind a fault
-pub fault-stays : (p : Progress) (rest : List (List ℕ)) → eqb (p .number) 0 ≡ false → behindLines p rest ≡ p
-unfolding behindLines
-fault-stays p [] h = refl
-fault-stays p (bytes ∷ rest) h =
-    ap
-    (λ t. elim t [
-      | true ↦ behindLines (behindAnswer (p .work) (p .state) (lineOf bytes)) rest
-      | false ↦ p
-    ])
-    h
+-- ---- a line's bytes
 
--- a small count and a little more
-plus-small : (n more : ℕ) → n < 65535 → plusOf n more ≡ n + more
-unfolding plusOf
-plus-small n more h = ap (λ t. cond t (n + more) 0) (lt-ltb n 65535 h)
+pub saw-wrong : (words : List ℕ) {r : Seen} → r .number ≡ 4 → Saw words none words r
+unfolding numberOf
+saw-wrong words e = record { number = e; value = λ z. absurd (omega arith); taken = λ z. absurd (omega arith) }
 
--- a fault with this number, behind these lines
-fault-end : (before : List Line) (s : State) (number : ℕ) → eqb number 0 ≡ false → length before ≤ 1616 → (rest : List (List ℕ))
-    → parsedAs (refused number (length before + 2))
-    ≡ endOf (behindLines (record { work = valueOf before; state = s; number = number }) rest)
-unfolding parsedAs endOf valueOf
-fault-end before s number h few rest = sym (ap endOf (fault-stays _ rest h) ∙ go (eqb number 0) h)
+pub saw-fault : (words : List ℕ) (l : Line) {r : Seen} → r .number ≡ checkOf (stateIn words) l → (r .number ≡ 0 → ⊥) → Saw words (some l) words r
+unfolding numberOf
+saw-fault words l e n = record { number = e; value = λ z. absurd (n z); taken = λ z. absurd (n z) }
+
+pub saw-line : (words : List ℕ) (l : Line) {after : List ℕ} {r : Seen} → r .number ≡ checkOf (stateIn words) l → r .line ≡ l
+    → Taken words l after → Saw words (some l) after r
+unfolding numberOf
+saw-line words l {after} e f t =
+    record {
+      number = e;
+      value = λ z. ap some (sym f);
+      taken = λ z. subst (λ x. Taken words x after) (sym f) t;
+    }
+
+-- a fault ends reading
+pub line-refused : (before : List Line) (s : State) (n : ℕ) (bytes : List ℕ) (rest : List (List ℕ)) → Holds s before
+    → n ≡ numberOf s (lineOf bytes) → (n ≡ 0 → ⊥) → readLines before (bytes ∷ rest) ≡ refused n (length before + 2)
+unfolding readLines numberOf faultOf
+line-refused before s n bytes rest h e z = go (lineOf bytes) e
   where
-    go : (t : Bool) → t ≡ false
-        → _≡_ {A = Parsed} (elim t [
-          | false ↦ record { work = valueOf []; number = number; line = plusOf (length before) 2 }
-          | true ↦
-              elim (eqb (s .stack .depth) 0) [
-                | true ↦ record { work = valueOf before; number = 0; line = 0 }
-                | false ↦ record { work = valueOf []; number = 7; line = plusOf (length before) 1 }
-              ]
-        ])
-        (record { work = valueOf []; number = number; line = length before + 2 })
-    go true e = absurd (B.true≢false e)
-    go false e = ap {B = Parsed} (λ n. record { work = valueOf []; number = number; line = n }) (plus-small (length before) 2 (omega arith))
+    one : (l : Line) → n ≡ checkOf s l → fault before l ≡ some n
+    one l q = sym (holds-check s before l h) ∙ ap faultOf (sym q) ∙ ap (λ t. cond t none (some n)) (ne-eqb n 0 z)
 
--- at the end no block may be open
-lines-end : (before : List Line) (s : State) → Holds s before
-    → parsedAs (elim (noneOpen before) [ true ↦ accepted before | false ↦ refused 7 (length before + 1) ])
-    ≡ endOf (goingOn (valueOf before) s)
-unfolding parsedAs endOf valueOf
-lines-end before s h =
-    ap (λ t. parsedAs (elim t [ true ↦ accepted before | false ↦ refused 7 (length before + 1) ])) (holds-open s before h)
-    ∙ go (eqb (s .stack .depth) 0)
-  where
-    go : (t : Bool)
-        → _≡_ {A = Parsed}
-        (parsedAs (elim t [ true ↦ accepted before | false ↦ refused 7 (length before + 1) ]))
-        (elim t [
-          | true ↦ record { work = valueOf before; number = 0; line = 0 }
-          | false ↦ record { work = valueOf []; number = 7; line = plusOf (length before) 1 }
-        ])
-    go true = refl
-    go false =
-        let few = holds-few s before h in
-        ap {B = Parsed} (λ n. record { work = valueOf []; number = 7; line = n }) (sym (plus-small (length before) 1 (omega arith)))
-
--- a value line: its fault ends reading, or it is taken
-line-taken : (before : List Line) (s : State) (l : Line) (rest : List (List ℕ)) → Holds s before
-    → (Holds (takeOf s l) (before ++ (l ∷ []))
-    → parsedAs (readLines (before ++ (l ∷ [])) rest) ≡ endOf (behindLines (goingOn (valueOf (before ++ (l ∷ []))) (takeOf s l)) rest))
-    → (n : ℕ) → checkOf s l ≡ n → (t : Bool) → eqb n 0 ≡ t
-    → parsedAs
-    (elim (fault before l) [
-      | some number ↦ refused number (length before + 2)
-      | none ↦ readLines (before ++ (l ∷ [])) rest
-    ])
-    ≡ endOf (behindLines (behindLine (valueOf before) s l) rest)
-unfolding behindLine faultOf
-line-taken before s l rest h later n e true z =
-    let found : fault before l ≡ none
-    = sym (holds-check s before l h) ∙ ap faultOf e ∙ ap (λ t. cond t none (some n)) z in
-    let kept = holds-take s before l h found in
-    let few = holds-few (takeOf s l) (before ++ (l ∷ [])) kept in
-    let room : length before < 1616 = omega (arith, length-append before (l ∷ [])) in
-    ap (λ f. parsedAs (elim f [ some number ↦ refused number (length before + 2) | none ↦ readLines (before ++ (l ∷ [])) rest ])) found
-    ∙ later kept
-    ∙ sym (ap (λ p. endOf (behindLines p rest))
-    (ap (λ t. pickProgress t
-    (record { work = appendedTo (valueOf before) l; state = takeOf s l; number = 0 })
-    (record { work = valueOf before; state = s; number = checkOf s l }))
-    (ap (λ m. eqb m 0) e ∙ z)
-    ∙ ap (λ w. goingOn w (takeOf s l)) (appended-value before l room)))
-line-taken before s l rest h later n e false z =
-    let found : fault before l ≡ some n
-    = sym (holds-check s before l h) ∙ ap faultOf e ∙ ap (λ t. cond t none (some n)) z in
-    ap (λ f. parsedAs (elim f [ some number ↦ refused number (length before + 2) | none ↦ readLines (before ++ (l ∷ [])) rest ])) found
-    ∙ fault-end before s n z (holds-few s before h) rest
-    ∙ sym (ap (λ p. endOf (behindLines p rest))
-    (ap (λ t. pickProgress t
-    (record { work = appendedTo (valueOf before) l; state = takeOf s l; number = 0 })
-    (record { work = valueOf before; state = s; number = checkOf s l }))
-    (ap (λ m. eqb m 0) e ∙ z)
-    ∙ ap {B = Progress} (λ m. record { work = valueOf before; state = s; number = m }) e))
-
--- the lines that are left give what the code gives
-pub lines-read : (rest : List (List ℕ)) (before : List Line) (s : State) → Holds s before
-    → parsedAs (readLines before rest) ≡ endOf (behindLines (goingOn (valueOf before) s) rest)
-unfolding readLines behindLines behindAnswer
-lines-read [] before s h = lines-end before s h
-lines-read (bytes ∷ rest) before s h = go (λ l kept. lines-read rest (before ++ (l ∷ [])) (takeOf s l) kept) (lineOf bytes)
-  where
-    go : ((l : Line) → Holds (takeOf s l) (before ++ (l ∷ []))
-        → parsedAs (readLines (before ++ (l ∷ [])) rest) ≡ endOf (behindLines (goingOn (valueOf (before ++ (l ∷ []))) (takeOf s l)) rest))
-        → (o : Option Line)
-        → parsedAs
-        (elim o [
+    go : (o : Option Line) → n ≡ numberOf s o
+        → _≡_ {A = Outcome} (elim o [
           | none ↦ refused 4 (length before + 2)
           | some l ↦
               elim (fault before l) [
@@ -345,9 +251,32 @@ lines-read (bytes ∷ rest) before s h = go (λ l kept. lines-read rest (before 
                 | none ↦ readLines (before ++ (l ∷ [])) rest
               ]
         ])
-        ≡ endOf (behindLines (behindAnswer (valueOf before) s o) rest)
-    go later none = fault-end before s 4 refl (holds-few s before h) rest
-    go later (some l) = line-taken before s l rest h (later l) (checkOf s l) refl (eqb (checkOf s l) 0) refl
+        (refused n (length before + 2))
+    go none q = ap (λ m. refused m (length before + 2)) (sym q)
+    go (some l) q =
+        ap {B = Outcome} (λ f. elim f [ some number ↦ refused number (length before + 2) | none ↦ readLines (before ++ (l ∷ [])) rest ]) (one l q)
+
+-- a line without a fault
+line-passes : (before : List Line) (s : State) (l : Line) → Holds s before → checkOf s l ≡ 0 → fault before l ≡ none
+unfolding faultOf
+line-passes before s l h e = sym (holds-check s before l h) ∙ ap faultOf e
+
+-- reading goes on behind it
+pub line-taken : (before : List Line) (l : Line) (bytes : List ℕ) (rest : List (List ℕ)) → lineOf bytes ≡ some l → fault before l ≡ none
+    → readLines before (bytes ∷ rest) ≡ readLines (before ++ (l ∷ [])) rest
+unfolding readLines
+line-taken before l bytes rest e f =
+    ap {B = Outcome}
+    (λ o. elim o [
+      | none ↦ refused 4 (length before + 2)
+      | some x ↦
+          elim (fault before x) [
+            | some number ↦ refused number (length before + 2)
+            | none ↦ readLines (before ++ (x ∷ [])) rest
+          ]
+    ])
+    e
+    ∙ ap {B = Outcome} (λ t. elim t [ some number ↦ refused number (length before + 2) | none ↦ readLines (before ++ (l ∷ [])) rest ]) f
 
 -- ---- the whole text
 
@@ -418,36 +347,16 @@ line-at text at end h (inl e) q =
       behind = subst (λ d. (endsLine d ≡ true) ⊎ (d ≡ [])) next (ends-behind part e);
     }
 
--- one line further
-pub behind-step : (p : Progress) (bytes : List ℕ) (rest : List (List ℕ)) → p .number ≡ 0
-    → behindLines p (bytes ∷ rest) ≡ behindLines (behindAnswer (p .work) (p .state) (lineOf bytes)) rest
-unfolding behindLines
-behind-step p bytes rest h =
-    ap
-    (λ t. elim t [
-      | true ↦ behindLines (behindAnswer (p .work) (p .state) (lineOf bytes)) rest
-      | false ↦ p
-    ])
-    (eq-eqb (p .number) 0 h)
-
--- past the last line
-pub behind-done : (p : Progress) (text : List ℕ) (at : ℕ) → length text ≤ at → behindLines p (linesIn (drop at text)) ≡ p
-unfolding behindLines linesIn
-behind-done p text at h = ap (λ d. behindLines p (linesIn d)) (drop-of-length-le text h)
-
 -- the whole text, where its first line is the names line
 pub read-whole : (text : List ℕ) (end : ℕ) → length text ≤ 32768 → otherByte 1 text ≡ none → endsLine text ≡ true
     → end ≡ 0 + lineLength (drop 0 text) → same (take (end - 0) (drop 0 text)) namesLine ≡ true
-    → endOf (behindLines (goingOn (valueOf []) emptyKept) (linesIn (drop (end + 1) text))) ≡ parsedAs (read text)
+    → readLines [] (linesIn (drop (end + 1) text)) ≡ read text
 read-whole text end h o e q n =
     let here : end ≡ lineLength text = q ∙ zero-add (lineLength text) in
     let less : end - 0 ≡ lineLength text = omega arith in
     let next : suc (lineLength text) ≡ end + 1 = omega arith in
     let names = ap (λ j. same (take j text) namesLine) (sym less) ∙ n in
-    sym
-    (ap parsedAs (read-rest text h o e names)
-    ∙ lines-read (linesIn (drop (suc (lineLength text)) text)) [] emptyKept holds-start
-    ∙ ap (λ j. endOf (behindLines (goingOn (valueOf []) emptyKept) (linesIn (drop j text)))) next)
+    sym (read-rest text h o e names ∙ ap (λ j. readLines [] (linesIn (drop j text))) next)
 
 pub read-unnamed : (text : List ℕ) (end : ℕ) → length text ≤ 32768 → otherByte 1 text ≡ none → endsLine text ≡ true
     → end ≡ 0 + lineLength (drop 0 text) → same (take (end - 0) (drop 0 text)) namesLine ≡ false → read text ≡ refused 3 1
@@ -459,3 +368,109 @@ read-unnamed text end h o e q n =
 -- the first line of a text that ends a line
 pub first-at : (text : List ℕ) (end : ℕ) → endsLine text ≡ true → end ≡ 0 + lineLength (drop 0 text) → LineAt text 0 end
 first-at text end e q = let inside = lines-first text e .1 in line-at text 0 end (omega arith) (inl e) q
+
+-- ---- between two lines
+
+pub going-first : (text : List ℕ) (start : ℕ) {w : Workload} {words : List ℕ} → EndsAt text start → w ≡ valueOf [] → HoldsWords words []
+    → Going text start w words start 2
+going-first text start e w h = record { ends = e; before = []; work = w; holds = h; number = refl; reads = refl }
+
+-- the line at hand
+pub going-here : {text words : List ℕ} {start at line : ℕ} {w : Workload} {span : Span} → Going text start w words at line → at < length text
+    → span ≡ spanAt text at line → LineAt text at (span .end)
+unfolding spanAt
+going-here {text} {at = at} {span = span} g h e = line-at text at (span .end) h (g .ends) (ap (λ (x : Span). x .end) e)
+
+pub going-few : {text words : List ℕ} {start at line : ℕ} {w : Workload} → Going text start w words at line
+    → (w .count ≤ 1616) × (line ≡ w .count + 2)
+going-few {words = words} g =
+    let few = holds-few (stateIn words) (g .before) (g .holds .state) in
+    let same = ap (λ (x : Workload). x .count) (g .work) ∙ value-count (g .before) in
+    let line = g .number in
+    (omega (arith, few, same), omega (arith, line, same))
+
+pub going-refused : {text words after : List ℕ} {start at line : ℕ} {w : Workload} {r : Seen} {end : ℕ} → Going text start w words at line
+    → LineAt text at end → Saw words (lineOf (take (end - at) (drop at text))) after r → (r .number ≡ 0 → ⊥)
+    → refused (r .number) line ≡ readLines [] (linesIn (drop start text))
+going-refused {text} {words} {at = at} {r = r} {end = end} g here saw z =
+    ap (refused (r .number)) (g .number)
+    ∙ sym
+    (line-refused (g .before) (stateIn words) (r .number) (take (end - at) (drop at text)) (linesIn (drop (end + 1) text))
+    (g .holds .state)
+    (saw .number)
+    z)
+    ∙ ap (readLines (g .before)) (sym (here .lines))
+    ∙ g .reads
+
+-- the line taken
+passes : {text words after : List ℕ} {start at line : ℕ} {w : Workload} {r : Seen} {o : Option Line} (g : Going text start w words at line)
+    → Saw words o after r → r .number ≡ 0 → fault (g .before) (r .line) ≡ none
+unfolding numberOf
+passes {words = words} {r = r} g saw z =
+    line-passes (g .before) (stateIn words) (r .line) (g .holds .state) (sym (saw .number ∙ ap (numberOf (stateIn words)) (saw .value z)) ∙ z)
+
+pub going-room : {text words after : List ℕ} {start at line : ℕ} {w : Workload} {r : Seen} {o : Option Line} → Going text start w words at line
+    → Saw words o after r → r .number ≡ 0 → w .count < 1616
+going-room {words = words} {after = after} {r = r} g saw z =
+    let held = words-take (saw .taken z) (g .before) (g .holds) (passes g saw z) in
+    let few = holds-few (stateIn after) (g .before ++ (r .line ∷ [])) (held .state) in
+    let same = ap (λ (x : Workload). x .count) (g .work) ∙ value-count (g .before) in
+    omega (arith, few, same, length-append (g .before) (r .line ∷ []))
+
+pub going-next : {text words after : List ℕ} {start at line : ℕ} {w : Workload} {r : Seen} {span : Span} (g : Going text start w words at line)
+    → span ≡ spanAt text at line → LineAt text at (span .end)
+    → Saw words (lineOf (take (span .end - at) (drop at text))) after r → r .number ≡ 0
+    → Going text start (record { count = w .count + 1; lines = set (w .lines) (w .count) (r .line) }) after (span .next) (span .line)
+going-next {text} {words} {after} {start} {at} {line} {w} {r} {span} g e here saw z =
+    let few = going-few g in
+    let next = span-past text at line e (here .inside) in
+    let numbers = span-line text at line e (omega (arith, few .0, few .1)) in
+    let room = going-room g saw z in
+    let same = ap (λ (x : Workload). x .count) (g .work) ∙ value-count (g .before) in
+    record {
+      ends = subst (EndsAt text) (sym next) (here .behind);
+      before = g .before ++ (r .line ∷ []);
+      work =
+          ap {B = Workload} (λ (x : Workload). record { count = x .count + 1; lines = set (x .lines) (x .count) (r .line) }) (g .work)
+          ∙ appended-value (g .before) (r .line) (omega arith);
+      holds = words-take (saw .taken z) (g .before) (g .holds) (passes g saw z);
+      number = numbers ∙ ap (λ m. m + 1) (g .number) ∙ omega (arith, length-append (g .before) (r .line ∷ []));
+      reads =
+          ap (λ p. readLines (g .before ++ (r .line ∷ [])) (linesIn (drop p text))) next
+          ∙ sym
+          (line-taken (g .before) (r .line) (take (span .end - at) (drop at text)) (linesIn (drop (span .end + 1) text))
+          (saw .value z)
+          (passes g saw z))
+          ∙ ap (readLines (g .before)) (sym (here .lines))
+          ∙ g .reads;
+    }
+
+-- behind the last line
+end-reads : (text : List ℕ) (at : ℕ) (before : List Line) → length text ≤ at
+    → readLines before (linesIn (drop at text)) ≡ elim (noneOpen before) [ true ↦ accepted before | false ↦ refused 7 (length before + 1) ]
+unfolding readLines linesIn
+end-reads text at before h = ap (λ d. readLines before (linesIn d)) (drop-of-length-le text h)
+
+pub going-open : {text words : List ℕ} {start at line d : ℕ} {w : Workload} (g : Going text start w words at line) → length text ≤ at
+    → ((lines : List Line) → HoldsWords words lines → noneOpen lines ≡ eqb d 0) → (d ≡ 0 → ⊥)
+    → refused 7 (line - 1) ≡ readLines [] (linesIn (drop start text))
+going-open {text} {at = at} {line = line} {d = d} g h open-blocks z =
+    let number = g .number in
+    let less : line - 1 ≡ length (g .before) + 1 = omega arith in
+    ap (refused 7) less
+    ∙ sym (end-reads text at (g .before) h
+    ∙ ap {B = Outcome} (λ t. elim t [ true ↦ accepted (g .before) | false ↦ refused 7 (length (g .before) + 1) ])
+    (open-blocks (g .before) (g .holds) ∙ ne-eqb d 0 z))
+    ∙ g .reads
+
+pub going-closed : {text words : List ℕ} {start at line d : ℕ} {w : Workload} (g : Going text start w words at line) → length text ≤ at
+    → ((lines : List Line) → HoldsWords words lines → noneOpen lines ≡ eqb d 0) → d ≡ 0
+    → _≡_ {A = Parsed} (record { work = w; number = 0; line = 0 }) (parsedAs (readLines [] (linesIn (drop start text))))
+unfolding parsedAs
+going-closed {text} {at = at} {d = d} g h open-blocks z =
+    ap {B = Parsed} (λ (x : Workload). record { work = x; number = 0; line = 0 }) (g .work)
+    ∙ ap parsedAs
+    (sym (end-reads text at (g .before) h
+    ∙ ap {B = Outcome} (λ t. elim t [ true ↦ accepted (g .before) | false ↦ refused 7 (length (g .before) + 1) ])
+    (open-blocks (g .before) (g .holds) ∙ eq-eqb d 0 z))
+    ∙ g .reads)

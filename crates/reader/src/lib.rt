@@ -1,21 +1,19 @@
 // Reads any text: its workload value, or the refusal's number and line.
 use fields::LineRead;
-use readstate::State;
 use text::Line;
 use text::LineKind;
 use text::Workload;
 ghost use mathlib.Core.Path.{_≡_};
 ghost use mathlib.Core.List.{List, []};
-ghost use Prim.Native.Nat.{_+_, _-_, _≤_, _<_};
+ghost use mathlib.Core.Option.{some};
+ghost use Prim.Native.Nat.{_≤_, _<_};
 ghost use mathlib.Core.Bool.{_&&_};
 ghost use lib.Dec.{leb};
 ghost use lib.ListN.{length, drop};
 ghost use Rattle.text.specs.Text.{same, linesIn, lineOf, namesLine};
-ghost use Rattle.text.specs.Reading.{isAllowed, otherByte, endsLine, read};
+ghost use Rattle.text.specs.Reading.{isAllowed, otherByte, endsLine, readLines, read};
 ghost use Rattle.text.specs.Value.{valueOf};
-ghost use Rattle.readstate.specs.Kept.{emptyKept};
-ghost use Rattle.reader.specs.Parse.{parsedAs, lineOr, lineLength, appendedTo, behindLine, behindAnswer, behindLines, plusOf, endOf, lineBehindByte};
-ghost use Rattle.reader.specs.Parse.{goingOn, EndsAt};
+ghost use Rattle.reader.specs.Parse.{parsedAs, lineOr, lineBehindByte, Saw, EndsAt};
 ghost use Rattle.text.specs.Reading.Outcome.{refused as Refused};
 
 // What a text gives: number 0 and its workload value, or a refusal's number and line with the empty workload.
@@ -25,11 +23,10 @@ pub struct Parsed {
     pub line: u64,
 }
 
-// The lines taken so far, what is kept of them, and the number of the fault that ended reading, 0 where none did.
-struct Progress {
-    work: Workload,
-    state: State,
+// What the bytes of a line give: number 0 and the line, or a fault's number.
+struct Seen {
     number: u8,
+    line: Line,
 }
 
 fn between(low: u8, b: u8, high: u8) -> bool
@@ -99,20 +96,6 @@ fn ends_line(text: &[u8]) -> bool
     text[n - 1] == 0x0a
 }
 
-// Where the line that begins at a place ends: at the next 0A, or with the text.
-fn line_end(text: &[u8], at: usize) -> usize
-    ensures { λ r. ⌜ r ≡ at + lineLength (drop at (now (text .entry))) ⌝ }
-{
-    let mut i = at;
-    while i < text.len() {
-        if text[i] == 0x0a {
-            return i;
-        }
-        i += 1;
-    }
-    i
-}
-
 fn same_bytes(a: &[u8], b: &[u8]) -> bool
     ensures { λ r. ⌜ r ≡ same (now (a .entry)) (now (b .entry)) ⌝ }
 {
@@ -148,65 +131,6 @@ fn empty_workload() -> Workload
     }
 }
 
-fn appended(w: Workload, l: Line) -> Workload
-    ensures { λ r. ⌜ r ≡ appendedTo w l ⌝ }
-{
-    let at = w.count;
-    if at < 1616 {
-        let mut r = w;
-        r.lines[at] = l;
-        r.count = at + 1;
-        return r;
-    }
-    w
-}
-
-// Takes a value line, if it passes its tests.
-fn with_line(w: Workload, s: State, l: Line) -> Progress
-    ensures { λ r. ⌜ r ≡ behindLine w s l ⌝ }
-{
-    let number = readstate::check(s, l);
-    if number != 0 {
-        return Progress {
-            work: w,
-            state: s,
-            number,
-        };
-    }
-    Progress {
-        work: appended(w, l),
-        state: readstate::take(s, l),
-        number: 0,
-    }
-}
-
-// Takes the bytes of a line, if they are a value line that passes its tests.
-fn with_bytes(p: Progress, bytes: &[u8]) -> Progress
-    ensures { λ r. ⌜ r ≡ behindAnswer (p .work) (p .state) (lineOf (now (bytes .entry))) ⌝ }
-{
-    let w = p.work;
-    let s = p.state;
-    let r = fields::line_of(bytes);
-    match r {
-        LineRead::Value(l) => with_line(w, s, l),
-        LineRead::Wrong => Progress {
-            work: w,
-            state: s,
-            number: 4,
-        },
-    }
-}
-
-// A count and a little more.
-fn plus(n: usize, more: u8) -> u64
-    ensures { λ r. ⌜ r ≡ plusOf n more ⌝ }
-{
-    if n < 65535 {
-        return n as u64 + more as u64;
-    }
-    0
-}
-
 fn refused(number: u8, line: u64) -> Parsed
     ensures { λ r. ⌜ r ≡ parsedAs (Refused number line) ⌝ }
 {
@@ -217,56 +141,73 @@ fn refused(number: u8, line: u64) -> Parsed
     }
 }
 
-// The answer at the end: no block may be open.
-fn at_end(p: Progress) -> Parsed
-    ensures { λ r. ⌜ r ≡ endOf p ⌝ }
+// Takes a value line into the words, if it passes its tests.
+fn see_value(words: &mut [u64], l: Line) -> Seen
+    ensures { λ r. ⌜ Saw (now (words .entry)) (some l) (now (words .exit)) r ⌝ }
 {
-    let w = p.work;
-    let s = p.state;
-    let k = s.stack;
-    let number = p.number;
-    let count = w.count;
+    let number = readstate::check(words, l);
     if number != 0 {
-        return refused(number, plus(count, 2));
+        return Seen { number, line: l };
     }
-    if k.depth != 0 {
-        return refused(7, plus(count, 1));
+    readstate::take(words, l);
+    Seen { number, line: l }
+}
+
+// Takes the bytes of a line into the words, if they are a value line that passes its tests.
+fn see_bytes(words: &mut [u64], bytes: &[u8]) -> Seen
+    ensures { λ r. ⌜ Saw (now (words .entry)) (lineOf (now (bytes .entry))) (now (words .exit)) r ⌝ }
+{
+    let r = fields::line_of(bytes);
+    match r {
+        LineRead::Value(l) => see_value(words, l),
+        LineRead::Wrong => Seen {
+            number: 4,
+            line: Line {
+                kind: LineKind::En,
+                id: 0,
+                rel: 0,
+                to: 0,
+                reads: 0,
+                writes: 0,
+                tests: 0,
+            },
+        },
+    }
+}
+
+// Reads the lines from a place on, behind the names line, up to a fault or the end, where no block may be open.
+fn read_lines(text: &[u8], start: usize) -> Parsed
+    requires { ⌜ EndsAt (now text) start ⌝ }
+    ensures { λ r. ⌜ r ≡ parsedAs (readLines [] (linesIn (drop start (now (text .entry))))) ⌝ }
+{
+    let mut w = empty_workload();
+    let mut words = [0u64; 424];
+    readstate::start(&mut words);
+    let mut at = start;
+    let mut line: u64 = 2;
+    while at < text.len() {
+        let span = lines::line_span(text, at, line);
+        let end = span.end;
+        let seen = see_bytes(&mut words, &text[at..end]);
+        let number = seen.number;
+        if number != 0 {
+            return refused(number, line);
+        }
+        let n = w.count;
+        let l = seen.line;
+        w.lines[n] = l;
+        w.count = n + 1;
+        at = span.next;
+        line = span.line;
+    }
+    if readstate::depth(&words) != 0 {
+        return refused(7, line - 1);
     }
     Parsed {
         work: w,
         number: 0,
         line: 0,
     }
-}
-
-// Before the first line.
-fn begin() -> Progress
-    ensures { λ r. ⌜ r ≡ goingOn (valueOf []) emptyKept ⌝ }
-{
-    Progress {
-        work: empty_workload(),
-        state: readstate::start(),
-        number: 0,
-    }
-}
-
-// Reads the lines from a place on, up to a fault or the end.
-fn read_lines(text: &[u8], start: usize) -> Progress
-    requires { ⌜ EndsAt (now text) start ⌝ }
-    ensures { λ r. ⌜ r ≡ behindLines (goingOn (valueOf []) emptyKept) (linesIn (drop start (now (text .entry)))) ⌝ }
-{
-    let mut p = begin();
-    let mut at = start;
-    while at < text.len() {
-        let number = p.number;
-        if number != 0 {
-            return p;
-        }
-        let end = line_end(text, at);
-        p = with_bytes(p, &text[at..end]);
-        at = end + 1;
-    }
-    p
 }
 
 // The first line is the names line.
@@ -290,9 +231,9 @@ pub fn read_text(text: &[u8]) -> Parsed
     if !ends_line(text) {
         return refused(2, 0);
     }
-    let end = line_end(text, 0);
+    let end = lines::line_end(text, 0);
     if !is_names(&text[0..end]) {
         return refused(3, 1);
     }
-    at_end(read_lines(text, end + 1))
+    read_lines(text, end + 1)
 }

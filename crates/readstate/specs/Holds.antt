@@ -11,10 +11,7 @@ use Rattle.base.specs.Basic.{all}
 use Rattle.text.specs.declared.Line.{Line}
 use Rattle.text.specs.Reading.{Block, isStatementOf, canBeParent}
 use Rattle.reading.specs.State.{State as Before, stateOf, stateBounded, numbered}
-use Rattle.readstate.specs.declared.Tables.{Tables}
-use Rattle.readstate.specs.declared.Stack.{Stack}
-use Rattle.readstate.specs.declared.Statements.{Statements}
-use Rattle.readstate.specs.declared.State.{State}
+use Rattle.kept.specs.Records.{Tables, Stack, Statements, State}
 
 -- the places of the blocks of one part, as a set
 unfoldable pub maskOf : ℕ → List Block → ℕ

@@ -30,12 +30,9 @@ use Rattle.reading.specs.State.{Own, State as Before, ownAfter, ownBehind, empt
 use Rattle.reading.specs.State.{stateNoneOpen, stateInnermost, stateOrdered, stateNamed, stateSetsFit, blocksWithin, stateLinkFits}
 use Rattle.reading.specs.State.{stateTests, stateFault, numbered, numberedFrom, emptyState}
 use Rattle.reading.specs.StateLaws.{fault-state, numbered-more, stateOf-append, stateOf-empty, noneOpen-state}
-use Rattle.readstate.specs.declared.Tables.{Tables}
-use Rattle.readstate.specs.declared.Stack.{Stack}
-use Rattle.readstate.specs.declared.Statements.{Statements}
-use Rattle.readstate.specs.declared.State.{State}
-use Rattle.readstate.specs.Kept.{nextOf, markOf, takeAs, roomOf, orderedOf, namedAs, setsFitAs, isLinkOf, checkOf, checkBy, emptyKept, emptyStack, emptyStatements}
-use Rattle.readstate.specs.Kept.{inBodyOf, innermostOf, blocksWithinOf, linkFitsOf, pushedOf, poppedOf, secondOf, withStatement}
+use Rattle.kept.specs.Records.{Tables, Stack, Statements, State}
+use Rattle.kept.specs.Kept.{nextOf, markOf, takeAs, roomOf, orderedOf, namedAs, setsFitAs, isLinkOf, checkOf, checkBy, emptyKept, emptyStack, emptyStatements}
+use Rattle.kept.specs.Kept.{inBodyOf, innermostOf, blocksWithinOf, linkFitsOf, pushedOf, poppedOf, secondOf, withStatement}
 use Rattle.readstate.specs.Holds.{maskOf, placeOf, partOf, parentalOf, Cells, Levels, Depths, TablesHold, StackHolds}
 use Rattle.readstate.specs.Holds.{StatementsHold, Keeps, fitting, Good, Holds, faultOf}
 

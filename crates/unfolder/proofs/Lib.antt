@@ -4,3 +4,4 @@ pub mod FillLaws
 pub mod RowLaws
 pub mod LineLaws
 pub mod UnfoldLaws
+pub mod SettledLaws

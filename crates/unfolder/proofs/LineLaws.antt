@@ -21,27 +21,27 @@ use Rattle.choosing.specs.TableLaws.{addAll-append, flat-append, from-nothing}
 use Rattle.unfolder.specs.Facts.{Counting, Room, Wrote, Rows, Rowed, LineFits, Lined, AllFit}
 
 -- no rows
-pub lined-none : (codes ids : List ℕ) (i program : ℕ) (t : Filled) (before : List ℕ) → (getD codes i 0 ≡ 3 → ⊥)
-    → Lined (linePieces codes ids i program) t before t before
+pub lined-none : (codes words marks : List ℕ) (i program : ℕ) (t : Filled) (before : List ℕ) → (getD codes i 0 ≡ 3 → ⊥)
+    → Lined (linePieces codes words marks i program) t before t before
 unfolding linePieces flat addAll
-lined-none codes ids i program t before h =
+lined-none codes words marks i program t before h =
     rw (ne-eqb (getD codes i 0) 3 h) (record { same = refl; stands = rw add-zero (sym (take-append-drop (t .used) before)) })
 
 -- the rows of a program
-pub line-rows : (codes ids : List ℕ) (i program : ℕ) (c : Counted) → getD codes i 0 ≡ 3
+pub line-rows : (codes words marks : List ℕ) (i program : ℕ) (c : Counted) → getD codes i 0 ≡ 3
     → Counting (length codes) (i + 1) (countAt (length codes - (i + 1)) codes (i + 1)) c
-    → linePieces codes ids i program ≡ tabulate (row program codes ids (i + 1) (length codes - (i + 1))) 0 (c .count - 0)
+    → linePieces codes words marks i program ≡ tabulate (row program codes words marks (i + 1) (length codes - (i + 1))) 0 (c .count - 0)
 unfolding linePieces countedBehind
-line-rows codes ids i program c h p = rw (eq-eqb (getD codes i 0) 3 h, ← p .same, sub-zero)
+line-rows codes words marks i program c h p = rw (eq-eqb (getD codes i 0) 3 h, ← p .same, sub-zero)
 
-module _ (codes ids : List ℕ) (rows same : List Piece) (e : rows ≡ same) (t : Filled) (area : List ℕ) (h : LineFits codes ids rows t area) where
+module _ (codes words marks : List ℕ) (rows same : List Piece) (e : rows ≡ same) (t : Filled) (area : List ℕ) (h : LineFits codes words marks rows t area) where
   rest-length : length (take (length area - t .used) (drop (t .used) area)) ≡ length area - t .used
   rest-length = omega (arith, length-take (length area - t .used) (drop (t .used) area), length-drop (t .used) area)
 
-  pub line-rows-fit : length area < 18446744073709551616 → Rows codes ids same t (take (length area - t .used) (drop (t .used) area))
+  pub line-rows-fit : length area < 18446744073709551616 → Rows codes words marks same t (take (length area - t .used) (drop (t .used) area))
   line-rows-fit small =
       record {
-        room = record { paired = h .paired; fits = rw rest-length (omega (arith, h .places, ap (λ (l : List Piece). length (flat l)) e)) };
+        room = record { paired = h .paired; marked = h .marked; fits = rw rest-length (omega (arith, h .places, ap (λ (l : List Piece). length (flat l)) e)) };
         cells = omega (arith, h .cells, ap length e);
         places = rw rest-length (omega (arith, h .places));
       }
@@ -97,32 +97,32 @@ length-tabulate f k zero = refl
 length-tabulate f k (suc m) = ap suc (length-tabulate f (k + 1) m)
 
 -- no more programs than pieces
-programs-few : (codes ids : List ℕ) (i : ℕ) → programsBefore codes i ≤ length (piecesBefore codes ids i)
+programs-few : (codes words marks : List ℕ) (i : ℕ) → programsBefore codes i ≤ length (piecesBefore codes words marks i)
 unfolding programsBefore piecesBefore linePrograms linePieces countedBehind
-programs-few codes ids zero = omega arith
-programs-few codes ids (suc i) = rw length-append (go (eqb (getD codes i 0) 3) (programs-few codes ids i))
+programs-few codes words marks zero = omega arith
+programs-few codes words marks (suc i) = rw length-append (go (eqb (getD codes i 0) 3) (programs-few codes words marks i))
   where
     n : ℕ
     n = programsBefore codes i
 
     f : ℕ → Piece
-    f = row n codes ids (i + 1) (length codes - (i + 1))
+    f = row n codes words marks (i + 1) (length codes - (i + 1))
 
-    go : (t : Bool) → n ≤ length (piecesBefore codes ids i)
-        → cond t (n + 1) n ≤ length (piecesBefore codes ids i) + length (cond t (tabulate f 0 (countedBehind codes i .count)) [])
+    go : (t : Bool) → n ≤ length (piecesBefore codes words marks i)
+        → cond t (n + 1) n ≤ length (piecesBefore codes words marks i) + length (cond t (tabulate f 0 (countedBehind codes i .count)) [])
     go true h = omega (arith, length-tabulate f 0 (countedBehind codes i .count), count-positive (length codes - (i + 1)) codes (i + 1))
     go false h = omega arith
 
 -- pieces before a place stand in front of those before a later one
-pieces-grow : (codes ids : List ℕ) (i d : ℕ) → (rest : List Piece) × (piecesBefore codes ids (i + d) ≡ piecesBefore codes ids i ++ rest)
+pieces-grow : (codes words marks : List ℕ) (i d : ℕ) → (rest : List Piece) × (piecesBefore codes words marks (i + d) ≡ piecesBefore codes words marks i ++ rest)
 unfolding piecesBefore
-pieces-grow codes ids i zero = ([], rw add-zero (sym (append-nil (piecesBefore codes ids i))))
-pieces-grow codes ids i (suc d) =
-    let r = pieces-grow codes ids i d in
-    let new = linePieces codes ids (i + d) (programsBefore codes (i + d)) in
-    (r .0 ++ new, rw add-suc (ap (λ (l : List Piece). l ++ new) (r .1) ∙ append-assoc (piecesBefore codes ids i) (r .0) new))
+pieces-grow codes words marks i zero = ([], rw add-zero (sym (append-nil (piecesBefore codes words marks i))))
+pieces-grow codes words marks i (suc d) =
+    let r = pieces-grow codes words marks i d in
+    let new = linePieces codes words marks (i + d) (programsBefore codes (i + d)) in
+    (r .0 ++ new, rw add-suc (ap (λ (l : List Piece). l ++ new) (r .1) ∙ append-assoc (piecesBefore codes words marks i) (r .0) new))
 
--- ids behind those that stand there
+-- words behind those that stand there
 wrote-line : (w v before area end : List ℕ) (u : ℕ) → u ≡ length w → Wrote w before (length w) area → length w + length v ≤ length before
     → end ≡ take u area ++ (v ++ drop (u + length v) area) → Wrote (w ++ v) before (length (w ++ v)) end
 wrote-line w v before area end u e h fits d =
@@ -133,28 +133,28 @@ wrote-line w v before area end u e h fits d =
     }
 
 -- what holds at each turn
-pub record Going (codes ids before : List ℕ) (i : ℕ) (area : List ℕ) (t : Filled) (program : ℕ) : Type 0 where
+pub record Going (codes words marks before : List ℕ) (i : ℕ) (area : List ℕ) (t : Filled) (program : ℕ) : Type 0 where
   pub inside : i ≤ length codes
-  pub filled : t ≡ addAll (table []) (piecesBefore codes ids i)
+  pub filled : t ≡ addAll (table []) (piecesBefore codes words marks i)
   pub number : program ≡ programsBefore codes i
-  pub stands : Wrote (flat (piecesBefore codes ids i)) before (length (flat (piecesBefore codes ids i))) area
+  pub stands : Wrote (flat (piecesBefore codes words marks i)) before (length (flat (piecesBefore codes words marks i))) area
 
-pub going-start : (codes ids before : List ℕ) (t : Filled) → t ≡ table [] → Going codes ids before 0 before t 0
+pub going-start : (codes words marks before : List ℕ) (t : Filled) → t ≡ table [] → Going codes words marks before 0 before t 0
 unfolding piecesBefore programsBefore flat addAll
-going-start codes ids before t e =
+going-start codes words marks before t e =
     record { inside = omega arith; filled = e; number = refl; stands = record { many = refl; inside = omega arith; stands = refl } }
 
-module _ (codes ids before : List ℕ) (all : AllFit codes ids (piecesBefore codes ids (length codes)) before) where
-  module _ (i : ℕ) (area : List ℕ) (t : Filled) (program : ℕ) (g : Going codes ids before i area t program) where
+module _ (codes words marks before : List ℕ) (all : AllFit codes words marks (piecesBefore codes words marks (length codes)) before) where
+  module _ (i : ℕ) (area : List ℕ) (t : Filled) (program : ℕ) (g : Going codes words marks before i area t program) where
     ps : List Piece
-    ps = piecesBefore codes ids i
+    ps = piecesBefore codes words marks i
 
-    whole : (rest : List Piece) × (piecesBefore codes ids (length codes) ≡ ps ++ rest)
+    whole : (rest : List Piece) × (piecesBefore codes words marks (length codes) ≡ ps ++ rest)
     unfolding ps
     whole =
-        let r = pieces-grow codes ids i (length codes - i) in
+        let r = pieces-grow codes words marks i (length codes - i) in
         let e : i + (length codes - i) ≡ length codes = omega (arith, g .inside) in
-        (r .0, ap (piecesBefore codes ids) (sym e) ∙ r .1)
+        (r .0, ap (piecesBefore codes words marks) (sym e) ∙ r .1)
 
     few : length ps ≤ 64
     few = omega (arith, all .cells, ap length (whole .1), length-append ps (whole .0))
@@ -178,18 +178,18 @@ module _ (codes ids before : List ℕ) (all : AllFit codes ids (piecesBefore cod
 
     pub program-small : program < 255
     unfolding ps
-    program-small = omega (arith, g .number, programs-few codes ids i, few)
+    program-small = omega (arith, g .number, programs-few codes words marks i, few)
 
     module _ (h : i < length codes) where
       new : List Piece
-      new = linePieces codes ids i program
+      new = linePieces codes words marks i program
 
-      next-whole : (rest : List Piece) × (piecesBefore codes ids (length codes) ≡ (ps ++ new) ++ rest)
+      next-whole : (rest : List Piece) × (piecesBefore codes words marks (length codes) ≡ (ps ++ new) ++ rest)
       unfolding piecesBefore ps new
       next-whole =
-          let r = pieces-grow codes ids (suc i) (length codes - suc i) in
+          let r = pieces-grow codes words marks (suc i) (length codes - suc i) in
           let e : suc i + (length codes - suc i) ≡ length codes = omega arith in
-          (r .0, rw (g .number) (ap (piecesBefore codes ids) (sym e) ∙ r .1))
+          (r .0, rw (g .number) (ap (piecesBefore codes words marks) (sym e) ∙ r .1))
 
       cells-fit : length ps + length new ≤ 64
       cells-fit = omega (arith, all .cells, ap length (next-whole .1), length-append (ps ++ new) (next-whole .0), length-append ps new)
@@ -206,17 +206,18 @@ module _ (codes ids before : List ℕ) (all : AllFit codes ids (piecesBefore cod
             length-append (flat ps) (flat new),
           )
 
-      pub going-fits : LineFits codes ids (linePieces codes ids i program) t area
+      pub going-fits : LineFits codes words marks (linePieces codes words marks i program) t area
       unfolding new
       going-fits =
           record {
             paired = all .paired;
+            marked = all .marked;
             cells = omega (arith, cells-fit, counted);
             places = omega (arith, places-fit, used, same-length);
           }
 
-      pub going-next : (r : Filled) (end : List ℕ) (next : ℕ) → Lined (linePieces codes ids i program) t area r end → next ≡ linePrograms codes i program
-          → Going codes ids before (i + 1) end r next
+      pub going-next : (r : Filled) (end : List ℕ) (next : ℕ) → Lined (linePieces codes words marks i program) t area r end → next ≡ linePrograms codes i program
+          → Going codes words marks before (i + 1) end r next
       unfolding piecesBefore programsBefore new ps
       going-next r end next s n =
           record {
@@ -228,13 +229,13 @@ module _ (codes ids before : List ℕ) (all : AllFit codes ids (piecesBefore cod
           }
         where
           new′ : List Piece
-          new′ = linePieces codes ids i (programsBefore codes i)
+          new′ = linePieces codes words marks i (programsBefore codes i)
 
-  pub going-length : (i : ℕ) (area : List ℕ) (t : Filled) (program : ℕ) → Going codes ids before i area t program → length area ≡ length before
+  pub going-length : (i : ℕ) (area : List ℕ) (t : Filled) (program : ℕ) → Going codes words marks before i area t program → length area ≡ length before
   going-length i area t program g = same-length i area t program g
 
-  pub going-end : (i : ℕ) (area : List ℕ) (t : Filled) (program : ℕ) → Going codes ids before i area t program → length codes ≤ i
-      → Rowed (piecesBefore codes ids (length codes)) (table []) before t area
+  pub going-end : (i : ℕ) (area : List ℕ) (t : Filled) (program : ℕ) → Going codes words marks before i area t program → length codes ≤ i
+      → Rowed (piecesBefore codes words marks (length codes)) (table []) before t area
   going-end i area t program g h =
       let e : length codes ≡ i = omega (arith, g .inside) in
       record { same = rw e (g .filled); stands = rw e (g .stands) }

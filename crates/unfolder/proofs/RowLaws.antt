@@ -27,29 +27,29 @@ rowed-nothing rows t before e = rw e (record { same = refl; stands = wrote-nothi
 wrote-length : (w before : List ℕ) (r : ℕ) (area : List ℕ) → Wrote w before r area → Wrote w before (length w) area
 wrote-length w before r area h = rw (h .many) at h
 
-module _ (codes ids : List ℕ) (p : Piece) (rest rows : List Piece) (e : rows ≡ p ∷ rest) (t : Filled) (area : List ℕ) (h : Rows codes ids rows t area) where
-  flat-parts : flat rows ≡ p .ids ++ flat rest
+module _ (codes words marks : List ℕ) (p : Piece) (rest rows : List Piece) (e : rows ≡ p ∷ rest) (t : Filled) (area : List ℕ) (h : Rows codes words marks rows t area) where
+  flat-parts : flat rows ≡ p .words ++ flat rest
   unfolding flat
   flat-parts = rw e
 
-  pub row-room : Room codes ids (p .ids) area
-  row-room = room-left codes ids (p .ids) (flat rest) (flat rows) area flat-parts (h .room)
+  pub row-room : Room codes words marks (p .words) area
+  row-room = room-left codes words marks (p .words) (flat rest) (flat rows) area flat-parts (h .room)
 
   pub row-cell : t .count < 64
   row-cell = omega (arith, h .cells, ap length e)
 
-  module _ (m : ℕ) (mid : List ℕ) (first : Wrote (p .ids) area m mid) where
+  module _ (m : ℕ) (mid : List ℕ) (first : Wrote (p .words) area m mid) where
     pub row-places : t .used + m < 18446744073709551616
     row-places = omega (arith, h .places, first .inside)
 
     mid-length : length mid ≡ length area
-    mid-length = rw (first .stands) (length-append (p .ids) (drop (length (p .ids)) area) ∙ omega (arith, length-drop (length (p .ids)) area, first .inside, first .many))
+    mid-length = rw (first .stands) (length-append (p .words) (drop (length (p .words)) area) ∙ omega (arith, length-drop (length (p .words)) area, first .inside, first .many))
 
-    pub more-rows : (u : Filled) → u ≡ added t (p .program) m → Rows codes ids rest u (take (length mid - m) (drop m mid))
+    pub more-rows : (u : Filled) → u ≡ added t (p .program) m → Rows codes words marks rest u (take (length mid - m) (drop m mid))
     unfolding added
     more-rows u d =
         record {
-          room = room-right codes ids (p .ids) (flat rest) (flat rows) area flat-parts (h .room) m mid first;
+          room = room-right codes words marks (p .words) (flat rest) (flat rows) area flat-parts (h .room) m mid first;
           cells = omega (arith, h .cells, ap length e, ap (λ (x : Filled). x .count) d);
           places = omega (arith, h .places, first .inside, mid-length, ap (λ (x : Filled). x .used) d, length-take (length mid - m) (drop m mid), length-drop m mid);
         }
@@ -61,5 +61,5 @@ module _ (codes ids : List ℕ) (p : Piece) (rest rows : List Piece) (e : rows �
         record {
           same = s .same ∙ rw (d, first .many, e);
           stands = wrote-length (flat rows) area _ _
-              (wrote-both codes ids (p .ids) (flat rest) (flat rows) area flat-parts (h .room) m mid first (length (flat rest)) end (s .stands));
+              (wrote-both codes words marks (p .words) (flat rest) (flat rows) area flat-parts (h .room) m mid first (length (flat rest)) end (s .stands));
         }

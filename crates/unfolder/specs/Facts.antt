@@ -29,9 +29,10 @@ pub record Behind (lines e place r : ℕ) : Type 0 where
   pub low : e ≤ r
   pub high : r ≤ lines
 
--- the lines' numbers and ids belong together, the place is among them, and the area has room for what is written
-pub record Room (codes ids : List ℕ) (written area : List ℕ) : Type 0 where
-  pub paired : length ids ≡ length codes
+-- the lines' numbers and tables belong together, and the area has room for what is written
+pub record Room (codes words marks : List ℕ) (written area : List ℕ) : Type 0 where
+  pub paired : length words ≡ length codes
+  pub marked : length marks ≡ length codes
   pub fits : length written ≤ length area
 
 -- numbers stand at the start of an area, which is otherwise as it was; the result is how many
@@ -47,8 +48,8 @@ pub record Totalled (totals r : Totals) : Type 0 where
   pub short : r .statements ≤ 513
 
 -- the table and the area have room for rows
-pub record Rows (codes ids : List ℕ) (rows : List Piece) (t : Filled) (area : List ℕ) : Type 0 where
-  pub room : Room codes ids (flat rows) area
+pub record Rows (codes words marks : List ℕ) (rows : List Piece) (t : Filled) (area : List ℕ) : Type 0 where
+  pub room : Room codes words marks (flat rows) area
   pub cells : t .count + length rows ≤ 64
   pub places : t .used + length area < 18446744073709551616
 
@@ -58,8 +59,9 @@ pub record Rowed (rows : List Piece) (t : Filled) (before : List ℕ) (r : Fille
   pub stands : Wrote (flat rows) before (length (flat rows)) area
 
 -- the table and the area have room for a line's rows behind those that stand there
-pub record LineFits (codes ids : List ℕ) (rows : List Piece) (t : Filled) (area : List ℕ) : Type 0 where
-  pub paired : length ids ≡ length codes
+pub record LineFits (codes words marks : List ℕ) (rows : List Piece) (t : Filled) (area : List ℕ) : Type 0 where
+  pub paired : length words ≡ length codes
+  pub marked : length marks ≡ length codes
   pub cells : t .count + length rows ≤ 64
   pub places : t .used + length (flat rows) ≤ length area
 
@@ -69,7 +71,8 @@ pub record Lined (rows : List Piece) (t : Filled) (before : List ℕ) (r : Fille
   pub stands : area ≡ take (t .used) before ++ (flat rows ++ drop (t .used + length (flat rows)) before)
 
 -- all pieces have room
-pub record AllFit (codes ids : List ℕ) (rows : List Piece) (area : List ℕ) : Type 0 where
-  pub paired : length ids ≡ length codes
+pub record AllFit (codes words marks : List ℕ) (rows : List Piece) (area : List ℕ) : Type 0 where
+  pub paired : length words ≡ length codes
+  pub marked : length marks ≡ length codes
   pub cells : length rows ≤ 64
   pub places : length (flat rows) ≤ length area

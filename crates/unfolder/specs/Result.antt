@@ -1,14 +1,14 @@
 -- What the unfolding of a workload tells, and what then stands in the lent area.
-use mathlib.Core.Bool.{cond}
+use mathlib.Core.Bool.{Bool, false, cond, _||_}
 use mathlib.Core.List.{List, [], _∷_, _++_, map}
 use mathlib.Core.Path.{_≡_}
-use Prim.Native.Nat.{ℕ, _+_}
+use Prim.Native.Nat.{ℕ, _+_, _≤_}
+use lib.Dec.{ltb}
 use lib.ListN.{length, drop, replicate}
-use Rattle.text.specs.declared.Line.{Line}
-use Rattle.graph.specs.Unfolding.{Node, nodesOf}
-use Rattle.report.specs.State.{tooMany, shortForUnfoldings}
+use Rattle.graph.specs.Unfolding.{Node}
 use Rattle.choosing.specs.declared.Filled.{Filled}
-use Rattle.choosing.specs.Table.{cells}
+use Rattle.choosing.specs.Table.{cells, table}
+use Rattle.choosing.specs.Pieces.{Piece, flat, totalsBefore, piecesBefore}
 use Rattle.choosing.specs.Writing.{placeIds}
 use Rattle.unfolder.specs.declared.Unfolded.{Unfolded}
 
@@ -42,17 +42,26 @@ nodesTold nodes =
 unfoldable pub tableTold : Filled → Unfolded
 tableTold f = record { refusal = 0; count = f .count; program = f .program; start = f .start; length = f .length }
 
--- S22, S20 in this order, else the nodes
-unfoldable pub answer : List Line → ℕ → Unfolded
-answer lines room =
-    cond (tooMany lines) (refusedWith 22) (cond (shortForUnfoldings lines room) (refusedWith 20) (nodesTold (nodesOf lines)))
+-- over the lines' numbers: S22, S20, and the pieces that are written
+unfoldable pub overMany : List ℕ → Bool
+overMany codes = ltb 64 (totalsBefore codes (length codes) .count) || ltb 512 (totalsBefore codes (length codes) .statements)
 
--- the area: as it was on a refusal, else the nodes' statement ids from its start on, and past them as it was
-unfoldable pub areaAfter : List Line → List ℕ → List ℕ
-areaAfter lines before =
-    cond (tooMany lines) before
-    (cond (shortForUnfoldings lines (length before)) before (idsIn (nodesOf lines) ++ drop (length (idsIn (nodesOf lines))) before))
+unfoldable pub tooShort : List ℕ → ℕ → Bool
+tooShort codes room = ltb room (totalsBefore codes (length codes) .statements)
 
-pub record Unfolds (lines : List Line) (before : List ℕ) (r : Unfolded) (area : List ℕ) : Type 0 where
-  pub tells : r ≡ answer lines (length before)
-  pub stands : area ≡ areaAfter lines before
+abbrev pub piecesOver : List ℕ → List ℕ → List ℕ → List Piece
+piecesOver codes words marks = piecesBefore codes words marks (length codes)
+
+-- the tables have a cell for each line; where S22 lets them pass, the pieces are no more and no longer than counted
+pub record Ready (codes words marks : List ℕ) : Type 0 where
+  pub paired : length words ≡ length codes
+  pub marked : length marks ≡ length codes
+  pub few : overMany codes ≡ false → length (piecesOver codes words marks) ≤ 64
+  pub short : overMany codes ≡ false → length (flat (piecesOver codes words marks)) ≤ totalsBefore codes (length codes) .statements
+
+-- S22, S20 in this order with the area as it was, else the pieces told and written from the area's start on, and past them as it was
+pub record Tabled (codes words marks before : List ℕ) (r : Unfolded) (area : List ℕ) : Type 0 where
+  pub tells : r ≡ cond (overMany codes) (refusedWith 22) (cond (tooShort codes (length before)) (refusedWith 20) (tableTold (table (piecesOver codes words marks))))
+  pub stands : area
+      ≡ cond (overMany codes) before
+      (cond (tooShort codes (length before)) before (flat (piecesOver codes words marks) ++ drop (length (flat (piecesOver codes words marks))) before))

@@ -1,9 +1,13 @@
-// The unfoldings of a workload, written as statement ids into a lent area.
+// The unfoldings of a workload, written into a lent area: as statement ids, or as words that tell each place's line and what is seen there.
 
 use choosing::Counted;
 use choosing::Filled;
 use choosing::Totals;
-use text::LineKind;
+use givens::is_given;
+use linetables::codes_in;
+use linetables::ids_in;
+use linetables::marks_in;
+use linetables::numbers_of_lines;
 use text::Workload;
 ghost use mathlib.Core.List.{[]};
 ghost use mathlib.Core.Path.{_≡_};
@@ -12,11 +16,10 @@ ghost use lib.ListN.{length};
 ghost use Rattle.choosing.specs.Cap.{plus, times};
 ghost use Rattle.choosing.specs.Codes.{after, nothingAt, statementAt, loopCounted, branchCounted, nextCounted, itemAt, countAt};
 ghost use Rattle.choosing.specs.Writing.{writeItem, writeAt};
-ghost use Rattle.choosing.specs.Codes.{codeOf, codesOf, idsOf};
 ghost use Rattle.choosing.specs.Pieces.{row, tabulate, lineTotals, totalsBefore, linePieces, linePrograms, piecesBefore};
 ghost use Rattle.choosing.specs.Table.{added, table};
-ghost use Rattle.text.specs.Value.{linesOf};
-ghost use Rattle.unfolder.specs.Result.{refusedWith, tableTold, Unfolds};
+ghost use Rattle.unfolder.specs.Result.{refusedWith, tableTold, Ready, Tabled};
+ghost use Rattle.unfolder.specs.Settled.{Settled, PlacesSettled};
 ghost use Rattle.unfolder.specs.Facts.{Behind, Counting, Small, Totalled, Room, Wrote, Rows, Rowed, LineFits, Lined, AllFit};
 
 // The unfoldings of a workload: the number of the refusal, or 0 and how many there are, with each one's program, start and length.
@@ -160,18 +163,29 @@ fn count_block(codes: &[u8], at: usize, left: usize) -> Counted
     count_arms(codes.len(), body, two)
 }
 
-fn wide(x: u8) -> u64
-    ensures { λ r. ⌜ r ≡ x ⌝ }
+// A line's word with what is seen there.
+fn word_with(word: u16, seen: u32) -> u64
+    ensures { λ r. ⌜ r ≡ word + seen * 2048 ⌝ }
 {
-    x as u64
+    word as u64 + seen as u64 * 2048
 }
 
-// Writes the statement ids of unfolding number k of the run at a place from the area's start on; answers how many.
+// Writes the words of unfolding number k of the run at a place from the area's start on; answers how many.
 // The leftmost choice changes slowest: the first block takes the quotient by what the rest counts, the rest the remainder.
-fn write_run(codes: &[u8], ids: &[u8], at: usize, left: usize, k: u64, out: &mut [u64]) -> usize
+// Behind a statement its mark is seen too; what is seen inside a block is not seen behind it.
+fn write_run(
+    codes: &[u8],
+    words: &[u16],
+    marks: &[u32],
+    seen: u32,
+    at: usize,
+    left: usize,
+    k: u64,
+    out: &mut [u64],
+) -> usize
     requires { ⌜ at ≤ length (now codes) ⌝ }
-    requires { ⌜ Room (now codes) (now ids) (writeAt left (now codes) (now ids) at k) (now out) ⌝ }
-    ensures { λ r. ⌜ Wrote (writeAt left (now (codes .entry)) (now (ids .entry)) at k) (now (out .entry)) r (now (out .exit)) ⌝ }
+    requires { ⌜ Room (now codes) (now words) (now marks) (writeAt left (now codes) (now words) (now marks) seen at k) (now out) ⌝ }
+    ensures { λ r. ⌜ Wrote (writeAt left (now (codes .entry)) (now (words .entry)) (now (marks .entry)) seen at k) (now (out .entry)) r (now (out .exit)) ⌝ }
 {
     if left == 0 {
         return 0;
@@ -185,19 +199,38 @@ fn write_run(codes: &[u8], ids: &[u8], at: usize, left: usize, k: u64, out: &mut
     let x = count_block(codes, at, left - 1);
     let more = count_run(codes, x.end, left - 1);
     let n = more.count;
-    let m = write_block(codes, ids, at, left - 1, k / n, out);
-    m + write_run(codes, ids, x.end, left - 1, k % n, &mut out[m..])
+    let m = write_block(codes, words, marks, seen, at, left - 1, k / n, out);
+    m
+        + write_run(
+            codes,
+            words,
+            marks,
+            seen | marks[at],
+            x.end,
+            left - 1,
+            k % n,
+            &mut out[m..],
+        )
 }
 
 // The same for the statement or block at a place: of a loop no turn, one turn of each, two turns of each;
 // of a branch the first arm's, then the second's.
-fn write_block(codes: &[u8], ids: &[u8], at: usize, left: usize, k: u64, out: &mut [u64]) -> usize
+fn write_block(
+    codes: &[u8],
+    words: &[u16],
+    marks: &[u32],
+    seen: u32,
+    at: usize,
+    left: usize,
+    k: u64,
+    out: &mut [u64],
+) -> usize
     requires { ⌜ at < length (now codes) ⌝ }
-    requires { ⌜ Room (now codes) (now ids) (writeItem (writeAt left (now codes) (now ids)) (countAt left (now codes)) (now codes) (now ids) at k) (now out) ⌝ }
-    ensures { λ r. ⌜ Wrote (writeItem (writeAt left (now (codes .entry)) (now (ids .entry))) (countAt left (now (codes .entry))) (now (codes .entry)) (now (ids .entry)) at k) (now (out .entry)) r (now (out .exit)) ⌝ }
+    requires { ⌜ Room (now codes) (now words) (now marks) (writeItem (writeAt left (now codes) (now words) (now marks) seen) (countAt left (now codes)) (now codes) (now words) seen at k) (now out) ⌝ }
+    ensures { λ r. ⌜ Wrote (writeItem (writeAt left (now (codes .entry)) (now (words .entry)) (now (marks .entry)) seen) (countAt left (now (codes .entry))) (now (codes .entry)) (now (words .entry)) seen at k) (now (out .entry)) r (now (out .exit)) ⌝ }
 {
     if codes[at] == 0 {
-        out[0] = wide(ids[at]);
+        out[0] = word_with(words[at], seen);
         return 1;
     }
     let body = count_run(codes, at + 1, left);
@@ -207,16 +240,35 @@ fn write_block(codes: &[u8], ids: &[u8], at: usize, left: usize, k: u64, out: &m
             return 0;
         }
         if k <= n {
-            return write_run(codes, ids, at + 1, left, k - 1, out);
+            return write_run(codes, words, marks, seen, at + 1, left, k - 1, out);
         }
         let j = k - 1 - n;
-        let m = write_run(codes, ids, at + 1, left, j / n, out);
-        return m + write_run(codes, ids, at + 1, left, j % n, &mut out[m..]);
+        let m = write_run(codes, words, marks, seen, at + 1, left, j / n, out);
+        return m
+            + write_run(
+                codes,
+                words,
+                marks,
+                seen,
+                at + 1,
+                left,
+                j % n,
+                &mut out[m..],
+            );
     }
     if k < n {
-        return write_run(codes, ids, at + 1, left, k, out);
+        return write_run(codes, words, marks, seen, at + 1, left, k, out);
     }
-    write_run(codes, ids, behind(codes.len(), body.end), left, k - n, out)
+    write_run(
+        codes,
+        words,
+        marks,
+        seen,
+        behind(codes.len(), body.end),
+        left,
+        k - n,
+        out,
+    )
 }
 
 // A line's part in the totals: only a `pr` line has one.
@@ -252,71 +304,6 @@ fn count_all(codes: &[u8]) -> Totals
     t
 }
 
-fn code_of(k: LineKind) -> u8
-    ensures { λ r. ⌜ r ≡ codeOf k ⌝ }
-{
-    match k {
-        LineKind::Rl => {
-            return 4;
-        }
-        LineKind::Fk => {
-            return 4;
-        }
-        LineKind::Pr => {
-            return 3;
-        }
-        LineKind::St(s) => {
-            return 0;
-        }
-        LineKind::Lo => {
-            return 1;
-        }
-        LineKind::Br => {
-            return 2;
-        }
-        LineKind::El => {
-            return 4;
-        }
-        LineKind::En => {
-            return 4;
-        }
-        LineKind::Li => {
-            return 4;
-        }
-    }
-}
-
-// The kinds of all cells of a workload value, as numbers.
-fn codes_in(w: Workload) -> [u8; 1616]
-    requires { ⌜ length (w .lines) ≡ 1616 ⌝ }
-    ensures { λ r. ⌜ r ≡ codesOf (w .lines) ⌝ }
-{
-    let mut codes = [0u8; 1616];
-    let mut i: usize = 0;
-    while i < 1616 {
-        let l = w.lines[i];
-        let k = l.kind;
-        codes[i] = code_of(k);
-        i += 1;
-    }
-    codes
-}
-
-// Their ids.
-fn ids_in(w: Workload) -> [u8; 1616]
-    requires { ⌜ length (w .lines) ≡ 1616 ⌝ }
-    ensures { λ r. ⌜ r ≡ idsOf (w .lines) ⌝ }
-{
-    let mut ids = [0u8; 1616];
-    let mut i: usize = 0;
-    while i < 1616 {
-        let l = w.lines[i];
-        ids[i] = l.id;
-        i += 1;
-    }
-    ids
-}
-
 // One row more of the table.
 fn add(t: Filled, program: u8, n: usize) -> Filled
     requires { ⌜ (t .count < 64) × (t .used + n < 18446744073709551616) ⌝ }
@@ -335,7 +322,8 @@ fn add(t: Filled, program: u8, n: usize) -> Filled
 // Writes the unfoldings k to n - 1 of the run at a place one behind the other, the rest of the area lent on each time.
 fn write_rows(
     codes: &[u8],
-    ids: &[u8],
+    words: &[u16],
+    marks: &[u32],
     at: usize,
     left: usize,
     k: u64,
@@ -345,29 +333,41 @@ fn write_rows(
     area: &mut [u64],
 ) -> Filled
     requires { ⌜ at ≤ length (now codes) ⌝ }
-    requires { ⌜ Rows (now codes) (now ids) (tabulate (row program (now codes) (now ids) at left) k (n - k)) t (now area) ⌝ }
-    ensures { λ r. ⌜ Rowed (tabulate (row program (now (codes .entry)) (now (ids .entry)) at left) k (n - k)) t (now (area .entry)) r (now (area .exit)) ⌝ }
+    requires { ⌜ Rows (now codes) (now words) (now marks) (tabulate (row program (now codes) (now words) (now marks) at left) k (n - k)) t (now area) ⌝ }
+    ensures { λ r. ⌜ Rowed (tabulate (row program (now (codes .entry)) (now (words .entry)) (now (marks .entry)) at left) k (n - k)) t (now (area .entry)) r (now (area .exit)) ⌝ }
 {
     if n <= k {
         return t;
     }
-    let m = write_run(codes, ids, at, left, k, area);
+    let m = write_run(codes, words, marks, 0, at, left, k, area);
     let u = add(t, program, m);
-    write_rows(codes, ids, at, left, k + 1, n, program, u, &mut area[m..])
+    write_rows(
+        codes,
+        words,
+        marks,
+        at,
+        left,
+        k + 1,
+        n,
+        program,
+        u,
+        &mut area[m..],
+    )
 }
 
 // Writes the unfoldings of the program behind a `pr` line into the rest of the area; another line has none.
 fn write_line(
     codes: &[u8],
-    ids: &[u8],
+    words: &[u16],
+    marks: &[u32],
     i: usize,
     program: u8,
     t: Filled,
     area: &mut [u64],
 ) -> Filled
     requires { ⌜ i < length (now codes) ⌝ }
-    requires { ⌜ LineFits (now codes) (now ids) (linePieces (now codes) (now ids) i program) t (now area) ⌝ }
-    ensures { λ r. ⌜ Lined (linePieces (now (codes .entry)) (now (ids .entry)) i program) t (now (area .entry)) r (now (area .exit)) ⌝ }
+    requires { ⌜ LineFits (now codes) (now words) (now marks) (linePieces (now codes) (now words) (now marks) i program) t (now area) ⌝ }
+    ensures { λ r. ⌜ Lined (linePieces (now (codes .entry)) (now (words .entry)) (now (marks .entry)) i program) t (now (area .entry)) r (now (area .exit)) ⌝ }
 {
     if codes[i] != 3 {
         return t;
@@ -377,7 +377,8 @@ fn write_line(
     let used = t.used;
     write_rows(
         codes,
-        ids,
+        words,
+        marks,
         i + 1,
         left,
         0,
@@ -412,15 +413,15 @@ fn empty_table() -> Filled
 }
 
 // Writes the unfoldings of all programs one behind the other from the area's start.
-fn write_all(codes: &[u8], ids: &[u8], area: &mut [u64]) -> Filled
-    requires { ⌜ AllFit (now codes) (now ids) (piecesBefore (now codes) (now ids) (length (now codes))) (now area) ⌝ }
-    ensures { λ r. ⌜ Rowed (piecesBefore (now (codes .entry)) (now (ids .entry)) (length (now (codes .entry)))) (table []) (now (area .entry)) r (now (area .exit)) ⌝ }
+fn write_all(codes: &[u8], words: &[u16], marks: &[u32], area: &mut [u64]) -> Filled
+    requires { ⌜ AllFit (now codes) (now words) (now marks) (piecesBefore (now codes) (now words) (now marks) (length (now codes))) (now area) ⌝ }
+    ensures { λ r. ⌜ Rowed (piecesBefore (now (codes .entry)) (now (words .entry)) (now (marks .entry)) (length (now (codes .entry)))) (table []) (now (area .entry)) r (now (area .exit)) ⌝ }
 {
     let mut t = empty_table();
     let mut program: u8 = 0;
     let mut i: usize = 0;
     while i < codes.len() {
-        t = write_line(codes, ids, i, program, t, area);
+        t = write_line(codes, words, marks, i, program, t, area);
         program = next_program(codes, i, program);
         i += 1;
     }
@@ -454,15 +455,12 @@ fn told(f: Filled) -> Unfolded
     }
 }
 
-// Writes the unfoldings of a workload value whose lines are known to be in its cells, or refuses 22 or 20.
-fn unfold_lines(w: Workload, area: &mut [u64]) -> Unfolded
-    requires { ⌜ (length (w .lines) ≡ 1616) × (w .count ≤ 1616) ⌝ }
-    ensures { λ r. ⌜ Unfolds (linesOf w) (now (area .entry)) r (now (area .exit)) ⌝ }
+// Writes the unfoldings over the lines' numbers and tables, or refuses 22 or 20.
+fn unfold_tables(codes: &[u8], words: &[u16], marks: &[u32], area: &mut [u64]) -> Unfolded
+    requires { ⌜ Ready (now codes) (now words) (now marks) ⌝ }
+    ensures { λ r. ⌜ Tabled (now (codes .entry)) (now (words .entry)) (now (marks .entry)) (now (area .entry)) r (now (area .exit)) ⌝ }
 {
-    let n = w.count;
-    let codes = codes_in(w);
-    let ids = ids_in(w);
-    let t = count_all(&codes[..n]);
+    let t = count_all(codes);
     if t.count > 64 {
         return refused(22);
     }
@@ -473,6 +471,34 @@ fn unfold_lines(w: Workload, area: &mut [u64]) -> Unfolded
     if room < t.statements {
         return refused(20);
     }
-    let f = write_all(&codes[..n], &ids[..n], area);
+    let f = write_all(codes, words, marks, area);
     told(f)
+}
+
+// Writes the unfoldings of a workload value as statement ids, one behind the other from the area's start, or refuses 21, 22 or 20.
+pub fn unfold(w: Workload, area: &mut [u64]) -> Unfolded
+    ensures { λ r. ⌜ Settled w (now (area .entry)) r (now (area .exit)) ⌝ }
+{
+    if !is_given(w) {
+        return refused(21);
+    }
+    let n = w.count;
+    let codes = codes_in(w);
+    let words = ids_in(w);
+    let marks = [0u32; 1616];
+    unfold_tables(&codes[..n], &words[..n], &marks[..n], area)
+}
+
+// The same as words that tell each place's line and which parents that shield are seen there.
+pub fn unfold_places(w: Workload, area: &mut [u64]) -> Unfolded
+    ensures { λ r. ⌜ PlacesSettled w (now (area .entry)) r (now (area .exit)) ⌝ }
+{
+    if !is_given(w) {
+        return refused(21);
+    }
+    let n = w.count;
+    let codes = codes_in(w);
+    let words = numbers_of_lines();
+    let marks = marks_in(w);
+    unfold_tables(&codes[..n], &words[..n], &marks[..n], area)
 }

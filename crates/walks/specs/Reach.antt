@@ -93,7 +93,7 @@ back-loose s t h = go (back-letter s t h .1)
     go (inr e) = selects-loose (at s .kind) (e .0)
 
 -- where both pass, there are both
-both-pass : (test : Place → Place → Bool) (s t : Option Place) → bothPass test s t ≡ true
+pub both-pass : (test : Place → Place → Bool) (s t : Option Place) → bothPass test s t ≡ true
     → (a : Place) × (b : Place) × (s ≡ some a) × (t ≡ some b)
 both-pass test none t h = absurd (false≢true h)
 both-pass test (some s) none h = absurd (false≢true h)

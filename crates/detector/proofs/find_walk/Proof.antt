@@ -1,4 +1,4 @@
-use Rattle.detector.specs.ShowLaws.{shown-short, shown-none, shown-found, found-pair}
+use Rattle.detector.specs.ShowLaws.{answer-short, answer-none, answer-found, found-pair}
 use native.Mathlib.Omega.{arith}
 use mathlib.Core.Path.{_≡_, refl, ap, sym, _∙_}
 use Prim.Native.Nat.{ℕ, _+_, _-_, _*_, _≤_, _<_}
@@ -15,7 +15,7 @@ use Rattle.detector.proofs.put_walk.Reads as put-walk-reads
 
 -- src/lib.rt:272:9
 returns : tie.Need-returns
-returns c = shown-short _ _ _ (c .if1 .taken)
+returns c = answer-short _ _ _ (c .if1 .taken)
 
 -- src/lib.rt:274:9
 joined-rows-requires : tie.Need-joined-rows-requires
@@ -27,7 +27,7 @@ node-in-requires c κs = search needs
 
 -- src/lib.rt:277:9
 returns-2 : tie.Need-returns-2
-returns-2 c = shown-none _ _ _ (c .before .before .before .if1 .left) (c .before .before .joined-rows .ensures) (c .before .node-in .ensures) (c .if2 .taken)
+returns-2 c = answer-none _ _ _ (c .before .before .before .if1 .left) (c .before .before .joined-rows .ensures) (c .before .node-in .ensures) (c .if2 .taken)
 
 -- src/lib.rt:279:9
 pair-for-requires : tie.Need-pair-for-requires
@@ -43,7 +43,7 @@ same-length c = search needs
 
 -- src/lib.rt:268:1
 returns-3 : tie.Need-returns-3
-returns-3 c = shown-found _ _ _ (c .before .before .before .before .before .before .before .before .if1 .left) (c .before .before .before .before .before .before .before .joined-rows .ensures) (c .before .before .before .before .before .before .node-in .ensures) (c .before .before .before .before .before .if2 .left) (c .before .before .before .before .pair-for .ensures)
+returns-3 c = answer-found _ _ _ (c .before .before .before .before .before .before .before .before .if1 .left) (c .before .before .before .before .before .before .before .joined-rows .ensures) (c .before .before .before .before .before .before .node-in .ensures) (c .before .before .before .before .before .if2 .left) (c .before .before .before .before .pair-for .ensures)
     (c .before .before .put-walk .ensures)
 
 pub find-walk-spec : {M : Type 1} → statement M

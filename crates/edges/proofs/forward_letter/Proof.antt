@@ -28,7 +28,15 @@ holds-c-requires c κs = search needs
 -- src/lib.rt:283:9
 returns-3 : tie.Need-returns-3
 unfolding rowLetter
-returns-3 c = simp (c .if3 .taken, ← c .before .holds-c .ensures, c .before .before .if2 .left, ← c .before .before .before .holds-b .ensures, c .before .before .before .before .if1 .left, ← c .before .before .before .before .before .holds-a .ensures)
+returns-3 c =
+    simp (
+      c .if3 .taken,
+      ← c .before .holds-c .ensures,
+      c .before .before .if2 .left,
+      ← c .before .before .before .holds-b .ensures,
+      c .before .before .before .before .if1 .left,
+      ← c .before .before .before .before .before .holds-a .ensures,
+    )
 
 -- src/lib.rt:285:8
 holds-d-requires : tie.Need-holds-d-requires
@@ -37,12 +45,32 @@ holds-d-requires c κs = search needs
 -- src/lib.rt:286:9
 returns-4 : tie.Need-returns-4
 unfolding rowLetter
-returns-4 c = simp (c .if4 .taken, ← c .before .holds-d .ensures, c .before .before .if3 .left, ← c .before .before .before .holds-c .ensures, c .before .before .before .before .if2 .left, ← c .before .before .before .before .before .holds-b .ensures, c .before .before .before .before .before .before .if1 .left, ← c .before .before .before .before .before .before .before .holds-a .ensures)
+returns-4 c =
+    simp (
+      c .if4 .taken,
+      ← c .before .holds-d .ensures,
+      c .before .before .if3 .left,
+      ← c .before .before .before .holds-c .ensures,
+      c .before .before .before .before .if2 .left,
+      ← c .before .before .before .before .before .holds-b .ensures,
+      c .before .before .before .before .before .before .if1 .left,
+      ← c .before .before .before .before .before .before .before .holds-a .ensures,
+    )
 
 -- src/lib.rt:273:1
 returns-5 : tie.Need-returns-5
 unfolding rowLetter
-returns-5 c = simp (c .if4 .left, ← c .before .holds-d .ensures, c .before .before .if3 .left, ← c .before .before .before .holds-c .ensures, c .before .before .before .before .if2 .left, ← c .before .before .before .before .before .holds-b .ensures, c .before .before .before .before .before .before .if1 .left, ← c .before .before .before .before .before .before .before .holds-a .ensures)
+returns-5 c =
+    simp (
+      c .if4 .left,
+      ← c .before .holds-d .ensures,
+      c .before .before .if3 .left,
+      ← c .before .before .before .holds-c .ensures,
+      c .before .before .before .before .if2 .left,
+      ← c .before .before .before .before .before .holds-b .ensures,
+      c .before .before .before .before .before .before .if1 .left,
+      ← c .before .before .before .before .before .before .before .holds-a .ensures,
+    )
 
 pub forward-letter-spec : {M : Type 1} → statement M
 forward-letter-spec =

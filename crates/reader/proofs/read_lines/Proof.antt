@@ -1,85 +1,90 @@
-use Rattle.reader.specs.Parse.{behindLines, goingOn, EndsAt}
-use Rattle.reader.specs.ParseLaws.{line-at, fault-stays, behind-step, behind-done}
-use borrow.Author.Tests.{ne-eqb}
+use Rattle.reader.specs.Parse.{parsedAs, EndsAt, Going}
+use Rattle.reader.specs.ParseLaws.{going-first, going-here, going-few, going-refused, going-room, going-next, going-open, going-closed}
+use Rattle.lines.specs.SpanLaws.{span-end, span-past}
 use mathlib.Core.Path.{_≡_, refl, sym, ap, _∙_}
 use native.Mathlib.Omega.{arith}
-use mathlib.Core.List.{[]}
-use Rattle.text.specs.Text.{linesIn}
-use Rattle.text.specs.Value.{valueOf}
-use Rattle.readstate.specs.Kept.{emptyKept}
-use Prim.Native.Nat.{_+_, _-_}
-use lib.ListN.{length, drop}
+use Prim.Native.Nat.{ℕ, _+_, _-_}
+use lib.ListN.{length, length-replicate}
 use borrow.Author.Needs.{needs}
 use Rattle.reader.proofs.read_lines.Statement.{statement}
 use Rattle.reader.proofs.read_lines.Tie as tie
 use Rattle.reader.proofs.read_lines.Reads as reads
 use Rattle.reader.proofs.read_lines.Lts as lts
-use Rattle.reader.proofs.begin.Reads as begin-reads
-use Rattle.reader.proofs.line_end.Reads as line-end-reads
-use Rattle.reader.proofs.with_bytes.Reads as with-bytes-reads
 
 abbrev Inv-loop : tie.InvT-loop
-Inv-loop text start p₀ at₀ p at =
-    EndsAt text at
-    × (behindLines p (linesIn (drop at text)) ≡ behindLines (goingOn (valueOf []) emptyKept) (linesIn (drop start text)))
+Inv-loop text start w₀ words₀ at₀ line₀ w words at line = (length words ≡ 424) × Going text start w words at line
 
 abbrev μ-loop : tie.MeasureT-loop
-μ-loop text start p₀ at₀ p at = length text - at
+μ-loop text start w₀ words₀ at₀ line₀ w words at line = length text - at
 
--- src/lib.rt:257:9
-begin-requires : tie.Need-begin-requires Inv-loop μ-loop
-begin-requires c κs = search needs
+empty-workload-requires : tie.Need-empty-workload-requires Inv-loop μ-loop
+empty-workload-requires c κs = search needs
 
--- src/lib.rt:259:5
+slice-aggregate-start : tie.Need-slice-aggregate-start Inv-loop μ-loop
+slice-aggregate-start c = search needs
+
+start-requires : tie.Need-start-requires Inv-loop μ-loop
+start-requires c κs = search needs
+
 loop-holds : tie.Need-loop-holds Inv-loop μ-loop
-loop-holds c = (c .before .before .pre, ap (λ p. behindLines p (linesIn (drop (c .before .before .args .start) (c .before .before .args .text .now)))) (c .begin .ensures))
+loop-holds c = (search needs, going-first (c .before .before .before .before .before .args .text .now) (c .before .before .before .before .before .args .start) (c .before .before .before .before .before .pre) (c .before .before .before .empty-workload .ensures) (c .before .start .ensures .1 (omega (arith, length-replicate {A = ℕ} 424 0))))
 
--- src/lib.rt:262:13
+line-span-requires : tie.Need-line-span-requires Inv-loop μ-loop
+line-span-requires c κs = search needs
+
+slice-aggregate-see-bytes : tie.Need-slice-aggregate-see-bytes Inv-loop μ-loop
+slice-aggregate-see-bytes c = search needs
+
+sub-see-bytes : tie.Need-sub-see-bytes Inv-loop μ-loop
+sub-see-bytes c = omega (arith, (going-here (c .before .before .before .loop .inv .1) (c .before .before .loop-test .taken) (c .before .line-span .ensures)) .inside, span-end (c .before .before .before .before .before .before .before .before .before .args .text .now) (c .before .before .before .loop .at) (c .before .before .before .loop .line) (c .before .line-span .ensures))
+
+part-see-bytes-start : tie.Need-part-see-bytes-start Inv-loop μ-loop
+part-see-bytes-start c = omega (arith, (going-here (c .before .before .before .loop .inv .1) (c .before .before .loop-test .taken) (c .before .line-span .ensures)) .inside, span-end (c .before .before .before .before .before .before .before .before .before .args .text .now) (c .before .before .before .loop .at) (c .before .before .before .loop .line) (c .before .line-span .ensures))
+
+part-see-bytes-end : tie.Need-part-see-bytes-end Inv-loop μ-loop
+part-see-bytes-end c = omega (arith, (going-here (c .before .before .before .loop .inv .1) (c .before .before .loop-test .taken) (c .before .line-span .ensures)) .inside, span-end (c .before .before .before .before .before .before .before .before .before .args .text .now) (c .before .before .before .loop .at) (c .before .before .before .loop .line) (c .before .line-span .ensures))
+
+see-bytes-requires : tie.Need-see-bytes-requires Inv-loop μ-loop
+see-bytes-requires c κs = search needs
+
+refused-requires : tie.Need-refused-requires Inv-loop μ-loop
+refused-requires c κs = search needs
+
 returns : tie.Need-returns Inv-loop μ-loop
-returns c = sym (fault-stays (c .before .before .loop .p) (linesIn (drop (c .before .before .loop .at) (c .before .before .before .before .before .args .text .now))) (ne-eqb _ _ (c .if1 .taken))) ∙ c .before .before .loop .inv .1
+returns c = c .refused .ensures ∙ ap parsedAs (going-refused (c .before .before .before .before .before .before .before .before .loop .inv .1) (going-here (c .before .before .before .before .before .before .before .before .loop .inv .1) (c .before .before .before .before .before .before .before .loop-test .taken) (c .before .before .before .before .before .before .line-span .ensures)) (c .before .before .before .see-bytes .ensures) (c .before .if1 .taken))
 
--- src/lib.rt:264:13
-line-end-requires : tie.Need-line-end-requires Inv-loop μ-loop
-line-end-requires c κs = search needs
+mul-l : tie.Need-mul-l Inv-loop μ-loop
+mul-l c = omega (arith, going-room (c .before .before .before .before .before .before .before .before .loop .inv .1) (c .before .before .before .see-bytes .ensures) (c .before .if1 .left))
 
--- src/lib.rt:265:27
-sub-with-bytes : tie.Need-sub-with-bytes Inv-loop μ-loop
-sub-with-bytes c = omega (arith, (line-at (c .before .before .before .before .before .before .args .text .now) (c .before .before .before .loop .at) (c .line-end .result) (c .before .before .loop-test .taken) (c .before .before .before .loop .inv .0) (c .line-end .ensures)) .inside)
+element-set-from-l : tie.Need-element-set-from-l Inv-loop μ-loop
+element-set-from-l c = omega (arith, going-room (c .before .before .before .before .before .before .before .before .loop .inv .1) (c .before .before .before .see-bytes .ensures) (c .before .if1 .left))
 
--- src/lib.rt:265:27
-part-with-bytes-start : tie.Need-part-with-bytes-start Inv-loop μ-loop
-part-with-bytes-start c = omega (arith, (line-at (c .before .before .before .before .before .before .args .text .now) (c .before .before .before .loop .at) (c .line-end .result) (c .before .before .loop-test .taken) (c .before .before .before .loop .inv .0) (c .line-end .ensures)) .inside)
+add-w : tie.Need-add-w Inv-loop μ-loop
+add-w c = omega (arith, going-room (c .before .before .before .before .before .before .before .before .loop .inv .1) (c .before .before .before .see-bytes .ensures) (c .before .if1 .left))
 
--- src/lib.rt:265:27
-part-with-bytes-end : tie.Need-part-with-bytes-end Inv-loop μ-loop
-part-with-bytes-end c = omega (arith, (line-at (c .before .before .before .before .before .before .args .text .now) (c .before .before .before .loop .at) (c .line-end .result) (c .before .before .loop-test .taken) (c .before .before .before .loop .inv .0) (c .line-end .ensures)) .inside)
-
--- src/lib.rt:265:9
-with-bytes-requires : tie.Need-with-bytes-requires Inv-loop μ-loop
-with-bytes-requires c κs = search needs
-
--- src/lib.rt:266:14
-add-at : tie.Need-add-at Inv-loop μ-loop
-add-at c = omega (arith, (line-at (c .before .before .before .before .before .before .before .before .args .text .now) (c .before .before .before .before .before .loop .at) (c .before .before .line-end .result) (c .before .before .before .before .loop-test .taken) (c .before .before .before .before .before .loop .inv .0) (c .before .before .line-end .ensures)) .inside)
-
--- src/lib.rt:259:5
 loop-less : tie.Need-loop-less Inv-loop μ-loop
-loop-less c = omega (arith, (line-at (c .before .before .before .before .before .before .before .before .args .text .now) (c .before .before .before .before .before .loop .at) (c .before .before .line-end .result) (c .before .before .before .before .loop-test .taken) (c .before .before .before .before .before .loop .inv .0) (c .before .before .line-end .ensures)) .inside)
+loop-less c = omega (arith, c .before .before .before .before .before .before .before .loop-test .taken, span-end (c .before .before .before .before .before .before .before .before .before .before .before .before .before .before .args .text .now) (c .before .before .before .before .before .before .before .before .loop .at) (c .before .before .before .before .before .before .before .before .loop .line) (c .before .before .before .before .before .before .line-span .ensures), span-past (c .before .before .before .before .before .before .before .before .before .before .before .before .before .before .args .text .now) (c .before .before .before .before .before .before .before .before .loop .at) (c .before .before .before .before .before .before .before .before .loop .line) (c .before .before .before .before .before .before .line-span .ensures) ((going-here (c .before .before .before .before .before .before .before .before .loop .inv .1) (c .before .before .before .before .before .before .before .loop-test .taken) (c .before .before .before .before .before .before .line-span .ensures)) .inside))
 
--- src/lib.rt:259:5
 loop-again : tie.Need-loop-again Inv-loop μ-loop
-loop-again c =
-    let here = line-at (c .before .before .before .before .before .before .before .before .args .text .now) (c .before .before .before .before .before .loop .at) (c .before .before .line-end .result) (c .before .before .before .before .loop-test .taken) (c .before .before .before .before .before .loop .inv .0) (c .before .before .line-end .ensures) in (
-      here .behind,
-      ap (λ q. behindLines q (linesIn (drop (c .before .before .line-end .result + 1) (c .before .before .before .before .before .before .before .before .args .text .now)))) (c .with-bytes .ensures)
-          ∙ sym (behind-step (c .before .before .before .before .before .loop .p) _ _ (c .before .before .before .if1 .left))
-          ∙ sym (ap (behindLines (c .before .before .before .before .before .loop .p)) (here .lines))
-          ∙ c .before .before .before .before .before .loop .inv .1,
-    )
+loop-again c = (search needs, going-next (c .before .before .before .before .before .before .before .before .loop .inv .1) (c .before .before .before .before .before .before .line-span .ensures) (going-here (c .before .before .before .before .before .before .before .before .loop .inv .1) (c .before .before .before .before .before .before .before .loop-test .taken) (c .before .before .before .before .before .before .line-span .ensures)) (c .before .before .before .see-bytes .ensures) (c .before .if1 .left))
 
--- src/lib.rt:253:1
+slice-aggregate-depth : tie.Need-slice-aggregate-depth Inv-loop μ-loop
+slice-aggregate-depth c = search needs
+
+depth-requires : tie.Need-depth-requires Inv-loop μ-loop
+depth-requires c κs = search needs
+
+sub-refused : tie.Need-sub-refused Inv-loop μ-loop
+sub-refused c = omega (arith, going-few (c .before .before .before .before .loop .inv .1) .1)
+
+refused-requires-2 : tie.Need-refused-requires-2 Inv-loop μ-loop
+refused-requires-2 c κs = search needs
+
 returns-2 : tie.Need-returns-2 Inv-loop μ-loop
-returns-2 c = sym (behind-done (c .before .loop .p) (c .before .before .before .before .args .text .now) (c .before .loop .at) (c .loop-test .left)) ∙ c .before .loop .inv .1
+returns-2 c = c .refused2 .ensures ∙ ap parsedAs (going-open (c .before .before .before .before .before .loop .inv .1) (c .before .before .before .before .loop-test .left) (c .before .before .depth .ensures .1) (c .before .if2 .taken))
+
+returns-3 : tie.Need-returns-3 Inv-loop μ-loop
+returns-3 c = going-closed (c .before .before .before .before .loop .inv .1) (c .before .before .before .loop-test .left) (c .before .depth .ensures .1) (c .if2 .left)
 
 pub read-lines-spec : {M : Type 1} → statement M
 read-lines-spec =
@@ -87,15 +92,26 @@ read-lines-spec =
     (tie.spec
     Inv-loop
     μ-loop
-    begin-requires
+    empty-workload-requires
+    slice-aggregate-start
+    start-requires
     loop-holds
+    line-span-requires
+    slice-aggregate-see-bytes
+    sub-see-bytes
+    part-see-bytes-start
+    part-see-bytes-end
+    see-bytes-requires
+    refused-requires
     returns
-    line-end-requires
-    sub-with-bytes
-    part-with-bytes-start
-    part-with-bytes-end
-    with-bytes-requires
-    add-at
+    mul-l
+    element-set-from-l
+    add-w
     loop-less
     loop-again
-    returns-2)
+    slice-aggregate-depth
+    depth-requires
+    sub-refused
+    refused-requires-2
+    returns-2
+    returns-3)

@@ -3,17 +3,16 @@ use native.Mathlib.Omega.{arith}
 use borrow.Author.Tests.{not-true, not-false}
 use Rattle.text.specs.Reading.{otherByte}
 use Rattle.text.specs.Reading.Outcome.{refused as Refused}
-use Rattle.reader.specs.Parse.{parsedAs, endOf}
+use Rattle.reader.specs.Parse.{parsedAs}
 use Rattle.reader.specs.ParseLaws.{read-long, read-other, read-last, read-unnamed, read-whole, first-at, otherByte-line, otherByte-some}
 use borrow.Author.Needs.{needs}
 use Rattle.reader.proofs.read_text.Statement.{statement}
 use Rattle.reader.proofs.read_text.Tie as tie
 use Rattle.reader.proofs.read_text.Reads as reads
 use Rattle.reader.proofs.read_text.Lts as lts
-use Rattle.reader.proofs.at_end.Reads as at-end-reads
 use Rattle.reader.proofs.ends_line.Reads as ends-line-reads
 use Rattle.reader.proofs.is_names.Reads as is-names-reads
-use Rattle.reader.proofs.line_end.Reads as line-end-reads
+use Rattle.lines.proofs.line_end.Reads as line-end-reads
 use Rattle.reader.proofs.other_byte.Reads as other-byte-reads
 use Rattle.reader.proofs.read_lines.Reads as read-lines-reads
 use Rattle.reader.proofs.refused.Reads as refused-reads
@@ -100,19 +99,15 @@ add-read-lines c = omega (arith, (first-at (c .before .before .before .before .b
 read-lines-requires : tie.Need-read-lines-requires
 read-lines-requires c κs = first-at (c .before .before .before .before .before .before .before .before .before .before .args .text .now) (c .before .before .before .line-end .result) (sym (c .before .before .before .before .before .ends-line .ensures) ∙ not-false _ (c .before .before .before .before .if3 .left)) (c .before .before .before .line-end .ensures) .behind
 
--- src/lib.rt:296:5
-at-end-requires : tie.Need-at-end-requires
-at-end-requires c κs = search needs
-
 -- src/lib.rt:279:1
 returns-5 : tie.Need-returns-5
 returns-5 c =
-    c .at-end .ensures
-    ∙ ap endOf (c .before .read-lines .ensures)
-    ∙ read-whole (c .before .before .before .before .before .before .before .before .before .before .before .before .args .text .now) (c .before .before .before .before .before .line-end .result) (c .before .before .before .before .before .before .before .before .before .before .if1 .left) (otherByte-line 1 (c .before .before .before .before .before .before .before .before .before .before .before .before .args .text .now) (omega arith) (sym (c .before .before .before .before .before .before .before .before .before .other-byte .ensures) ∙ c .before .before .before .before .before .before .before .before .if2 .left))
-    (sym (c .before .before .before .before .before .before .before .ends-line .ensures) ∙ not-false _ (c .before .before .before .before .before .before .if3 .left))
-    (c .before .before .before .before .before .line-end .ensures)
-    (sym (c .before .before .before .is-names .ensures) ∙ not-false _ (c .before .before .if4 .left))
+    c .read-lines .ensures
+    ∙ ap parsedAs
+    (read-whole (c .before .before .before .before .before .before .before .before .before .before .before .args .text .now) (c .before .before .before .before .line-end .result) (c .before .before .before .before .before .before .before .before .before .if1 .left) (otherByte-line 1 (c .before .before .before .before .before .before .before .before .before .before .before .args .text .now) (omega arith) (sym (c .before .before .before .before .before .before .before .before .other-byte .ensures) ∙ c .before .before .before .before .before .before .before .if2 .left))
+    (sym (c .before .before .before .before .before .before .ends-line .ensures) ∙ not-false _ (c .before .before .before .before .before .if3 .left))
+    (c .before .before .before .before .line-end .ensures)
+    (sym (c .before .before .is-names .ensures) ∙ not-false _ (c .before .if4 .left)))
 
 pub read-text-spec : {M : Type 1} → statement M
 read-text-spec =
@@ -135,5 +130,4 @@ read-text-spec =
     returns-4
     add-read-lines
     read-lines-requires
-    at-end-requires
     returns-5)

@@ -1,28 +1,18 @@
-use Rattle.readstate.specs.HoldsLaws.{holds-start}
-use Rattle.readstate.specs.Kept.{emptyKept}
+use Rattle.readstate.specs.WordsLaws.{words-start}
 use borrow.Author.Needs.{needs}
 use Rattle.readstate.proofs.start.Statement.{statement}
 use Rattle.readstate.proofs.start.Tie as tie
 use Rattle.readstate.proofs.start.Reads as reads
 use Rattle.readstate.proofs.start.Lts as lts
-use Rattle.readstate.proofs.empty_stack.Reads as empty-stack-reads
-use Rattle.readstate.proofs.empty_statements.Reads as empty-statements-reads
 
--- src/lib.rt:633:16
-empty-stack-requires : tie.Need-empty-stack-requires
-empty-stack-requires c κs = search needs
+start-requires : tie.Need-start-requires
+start-requires c κs = search needs
 
--- src/lib.rt:634:21
-empty-statements-requires : tie.Need-empty-statements-requires
-empty-statements-requires c κs = search needs
+same-length : tie.Need-same-length
+same-length c = search needs
 
--- src/lib.rt:618:1
 returns : tie.Need-returns
-unfolding emptyKept
-returns c = (
-  rw (c .before .empty-stack .ensures, c .empty-statements .ensures),
-  rw (c .before .empty-stack .ensures, c .empty-statements .ensures) holds-start,
-)
+returns c = (c .before .before .start .ensures, words-start _ (c .before .before .start .ensures))
 
 pub start-spec : {M : Type 1} → statement M
-start-spec = tie.close (tie.spec empty-stack-requires empty-statements-requires returns)
+start-spec = tie.close (tie.spec start-requires same-length returns)

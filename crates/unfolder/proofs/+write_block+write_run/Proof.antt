@@ -2,12 +2,11 @@ use Rattle.unfolder.proofs.WriteLaws.{wrote-nothing, run-nothing, run-p
 use Rattle.choosing.specs.WritingLaws.{write-past, write-stop, write-statement}
 use Rattle.choosing.specs.Writing.{writeAt}
 use Rattle.choosing.specs.Codes.{countAt}
-use Prim.Native.Nat.{_+_}
 use borrow.Author.Needs.{needs}
 use native.Mathlib.Omega.{arith}
 use mathlib.Core.Path.{_≡_, refl, ap, sym, _∙_}
 use lib.ListN.{length, set, getD, length-set, take, drop}
-use Prim.Native.Nat.{ℕ, _<_}
+use Prim.Native.Nat.{ℕ, _<_, _+_}
 use borrow.Fn.Kinds.{In}
 use borrow.Fn.PlainCycle.{Measures, is, falls, and}
 use Rattle.unfolder.proofs.write_block.Reads as write-block
@@ -19,35 +18,35 @@ use Rattle.unfolder.proofs.+write_block+write_run.Lts-write_run as writ
 use Rattle.unfolder.proofs.behind.Reads as behind-reads
 use Rattle.unfolder.proofs.count_block.Reads as count-block-reads
 use Rattle.unfolder.proofs.count_run.Reads as count-run-reads
-use Rattle.unfolder.proofs.wide.Reads as wide-reads
+use Rattle.unfolder.proofs.word_with.Reads as word-with-reads
 use Rattle.unfolder.proofs.+write_block+write_run.{statement}
 use Rattle.unfolder.proofs.+write_block+write_run.Tie.{close}
 
-abbrev μ-write-block : Measures 3 write-block-kinds.ps ℕ
-μ-write-block κs a = a .1 .1 .1 .0 + a .1 .1 .1 .0 + 1
+abbrev μ-write-block : Measures 4 write-block-kinds.ps ℕ
+μ-write-block κs a = a .1 .1 .1 .1 .1 .0 + a .1 .1 .1 .1 .1 .0 + 1
 
-abbrev μ-write-run : Measures 3 write-run-kinds.ps ℕ
-μ-write-run κs a = a .1 .1 .1 .0 + a .1 .1 .1 .0
+abbrev μ-write-run : Measures 4 write-run-kinds.ps ℕ
+μ-write-run κs a = a .1 .1 .1 .1 .1 .0 + a .1 .1 .1 .1 .1 .0
 
-abbrev write-block-at : ℕ → In 3 write-block-kinds.ps
+abbrev write-block-at : ℕ → In 4 write-block-kinds.ps
 write-block-at t =
-    and 3 write-block-kinds.ps (is 3 write-block-kinds.ps μ-write-block t) write-block.Pre
+    and 4 write-block-kinds.ps (is 4 write-block-kinds.ps μ-write-block t) write-block.Pre
 
-abbrev write-block-below : ℕ → In 3 write-block-kinds.ps
+abbrev write-block-below : ℕ → In 4 write-block-kinds.ps
 write-block-below t =
-    and 3 write-block-kinds.ps (falls 3 write-block-kinds.ps _<_ μ-write-block t) write-block.Pre
+    and 4 write-block-kinds.ps (falls 4 write-block-kinds.ps _<_ μ-write-block t) write-block.Pre
 
-abbrev write-run-at : ℕ → In 3 write-run-kinds.ps
-write-run-at t = and 3 write-run-kinds.ps (is 3 write-run-kinds.ps μ-write-run t) write-run.Pre
+abbrev write-run-at : ℕ → In 4 write-run-kinds.ps
+write-run-at t = and 4 write-run-kinds.ps (is 4 write-run-kinds.ps μ-write-run t) write-run.Pre
 
-abbrev write-run-below : ℕ → In 3 write-run-kinds.ps
+abbrev write-run-below : ℕ → In 4 write-run-kinds.ps
 write-run-below t =
-    and 3 write-run-kinds.ps (falls 3 write-run-kinds.ps _<_ μ-write-run t) write-run.Pre
+    and 4 write-run-kinds.ps (falls 4 write-run-kinds.ps _<_ μ-write-run t) write-run.Pre
 
--- src/lib.rt:161:8
+-- src/lib.rt:222:8
 write-block-shared-slice-read-if1 : (t : ℕ) → write-block-lts.Need-shared-slice-read-if1 (
-  wide-reads.Asked,
-  wide-reads.Learnt,
+  word-with-reads.Asked,
+  word-with-reads.Learnt,
   count-run-reads.Asked,
   count-run-reads.Learnt,
   write-run-below t,
@@ -57,10 +56,10 @@ write-block-shared-slice-read-if1 : (t : ℕ) → write-block-lts.Need-shared-sl
 ) (write-block-at t) write-block.Post
 write-block-shared-slice-read-if1 t c = search needs
 
--- src/lib.rt:162:23
-write-block-shared-slice-read-wide : (t : ℕ) → write-block-lts.Need-shared-slice-read-wide (
-  wide-reads.Asked,
-  wide-reads.Learnt,
+-- src/lib.rt:223:28
+write-block-mul-word-with : (t : ℕ) → write-block-lts.Need-mul-word-with (
+  word-with-reads.Asked,
+  word-with-reads.Learnt,
   count-run-reads.Asked,
   count-run-reads.Learnt,
   write-run-below t,
@@ -68,12 +67,26 @@ write-block-shared-slice-read-wide : (t : ℕ) → write-block-lts.Need-shared-s
   behind-reads.Asked,
   behind-reads.Learnt,
 ) (write-block-at t) write-block.Post
-write-block-shared-slice-read-wide t c = search needs
+write-block-mul-word-with t c = search needs
 
--- src/lib.rt:162:18
-write-block-wide-requires : (t : ℕ) → write-block-lts.Need-wide-requires (
-  wide-reads.Asked,
-  wide-reads.Learnt,
+-- src/lib.rt:223:28
+write-block-shared-slice-read-word-with :
+    (t : ℕ) → write-block-lts.Need-shared-slice-read-word-with (
+      word-with-reads.Asked,
+      word-with-reads.Learnt,
+      count-run-reads.Asked,
+      count-run-reads.Learnt,
+      write-run-below t,
+      write-run.Post,
+      behind-reads.Asked,
+      behind-reads.Learnt,
+    ) (write-block-at t) write-block.Post
+write-block-shared-slice-read-word-with t c = search needs
+
+-- src/lib.rt:223:18
+write-block-word-with-requires : (t : ℕ) → write-block-lts.Need-word-with-requires (
+  word-with-reads.Asked,
+  word-with-reads.Learnt,
   count-run-reads.Asked,
   count-run-reads.Learnt,
   write-run-below t,
@@ -81,12 +94,12 @@ write-block-wide-requires : (t : ℕ) → write-block-lts.Need-wide-requires (
   behind-reads.Asked,
   behind-reads.Learnt,
 ) (write-block-at t) write-block.Post
-write-block-wide-requires t c κs = search needs
+write-block-word-with-requires t c κs = search needs
 
--- src/lib.rt:162:9
+-- src/lib.rt:223:9
 write-block-slice-write-out : (t : ℕ) → write-block-lts.Need-slice-write-out (
-  wide-reads.Asked,
-  wide-reads.Learnt,
+  word-with-reads.Asked,
+  word-with-reads.Learnt,
   count-run-reads.Asked,
   count-run-reads.Learnt,
   write-run-below t,
@@ -95,12 +108,12 @@ write-block-slice-write-out : (t : ℕ) → write-block-lts.Need-slice-write-out
   behind-reads.Learnt,
 ) (write-block-at t) write-block.Post
 write-block-slice-write-out t c =
-    one-fits _ _ _ _ _ (write-statement (c .before .before .before .before .before .before .before .args .codes .now) (c .before .before .before .before .before .before .before .args .ids .now) (c .before .before .before .before .before .before .before .args .at) (c .before .before .before .before .before .before .before .args .k) (writeAt (c .before .before .before .before .before .before .before .args .left) (c .before .before .before .before .before .before .before .args .codes .now) (c .before .before .before .before .before .before .before .args .ids .now)) (countAt (c .before .before .before .before .before .before .before .args .left) (c .before .before .before .before .before .before .before .args .codes .now)) (c .before .before .if1 .taken)) (c .before .before .before .before .before .before .before .pre .1 .1)
+    one-fits _ _ _ _ _ _ (write-statement (c .before .before .before .before .before .before .before .before .args .codes .now) (c .before .before .before .before .before .before .before .before .args .words .now) (c .before .before .before .before .before .before .before .before .args .marks .now) (c .before .before .before .before .before .before .before .before .args .seen) (c .before .before .before .before .before .before .before .before .args .at) (c .before .before .before .before .before .before .before .before .args .k) (writeAt (c .before .before .before .before .before .before .before .before .args .left) (c .before .before .before .before .before .before .before .before .args .codes .now) (c .before .before .before .before .before .before .before .before .args .words .now) (c .before .before .before .before .before .before .before .before .args .marks .now) (c .before .before .before .before .before .before .before .before .args .seen)) (countAt (c .before .before .before .before .before .before .before .before .args .left) (c .before .before .before .before .before .before .before .before .args .codes .now)) (c .before .before .if1 .taken)) (c .before .before .before .before .before .before .before .before .pre .1 .1)
 
--- src/lib.rt:163:9
+-- src/lib.rt:224:9
 write-block-same-length : (t : ℕ) → write-block-lts.Need-same-length (
-  wide-reads.Asked,
-  wide-reads.Learnt,
+  word-with-reads.Asked,
+  word-with-reads.Learnt,
   count-run-reads.Asked,
   count-run-reads.Learnt,
   write-run-below t,
@@ -110,10 +123,10 @@ write-block-same-length : (t : ℕ) → write-block-lts.Need-same-length (
 ) (write-block-at t) write-block.Post
 write-block-same-length t c = search needs
 
--- src/lib.rt:163:9
+-- src/lib.rt:224:9
 write-block-returns : (t : ℕ) → write-block-lts.Need-returns (
-  wide-reads.Asked,
-  wide-reads.Learnt,
+  word-with-reads.Asked,
+  word-with-reads.Learnt,
   count-run-reads.Asked,
   count-run-reads.Learnt,
   write-run-below t,
@@ -122,12 +135,12 @@ write-block-returns : (t : ℕ) → write-block-lts.Need-returns (
   behind-reads.Learnt,
 ) (write-block-at t) write-block.Post
 write-block-returns t c =
-    wrote-one _ _ _ _ _ _ (write-statement (c .before .before .before .before .before .before .before .args .codes .now) (c .before .before .before .before .before .before .before .args .ids .now) (c .before .before .before .before .before .before .before .args .at) (c .before .before .before .before .before .before .before .args .k) (writeAt (c .before .before .before .before .before .before .before .args .left) (c .before .before .before .before .before .before .before .args .codes .now) (c .before .before .before .before .before .before .before .args .ids .now)) (countAt (c .before .before .before .before .before .before .before .args .left) (c .before .before .before .before .before .before .before .args .codes .now)) (c .before .before .if1 .taken)) (c .wide .ensures) (c .before .before .before .before .before .before .before .pre .1 .1)
+    wrote-one _ _ _ _ _ _ _ (write-statement (c .before .before .before .before .before .before .before .before .args .codes .now) (c .before .before .before .before .before .before .before .before .args .words .now) (c .before .before .before .before .before .before .before .before .args .marks .now) (c .before .before .before .before .before .before .before .before .args .seen) (c .before .before .before .before .before .before .before .before .args .at) (c .before .before .before .before .before .before .before .before .args .k) (writeAt (c .before .before .before .before .before .before .before .before .args .left) (c .before .before .before .before .before .before .before .before .args .codes .now) (c .before .before .before .before .before .before .before .before .args .words .now) (c .before .before .before .before .before .before .before .before .args .marks .now) (c .before .before .before .before .before .before .before .before .args .seen)) (countAt (c .before .before .before .before .before .before .before .before .args .left) (c .before .before .before .before .before .before .before .before .args .codes .now)) (c .before .before .if1 .taken)) (c .word-with .ensures) (c .before .before .before .before .before .before .before .before .pre .1 .1)
 
--- src/lib.rt:165:33
+-- src/lib.rt:226:33
 write-block-add-count-run : (t : ℕ) → write-block-lts.Need-add-count-run (
-  wide-reads.Asked,
-  wide-reads.Learnt,
+  word-with-reads.Asked,
+  word-with-reads.Learnt,
   count-run-reads.Asked,
   count-run-reads.Learnt,
   write-run-below t,
@@ -137,10 +150,10 @@ write-block-add-count-run : (t : ℕ) → write-block-lts.Need-add-count-run (
 ) (write-block-at t) write-block.Post
 write-block-add-count-run t c = search needs
 
--- src/lib.rt:165:9
+-- src/lib.rt:226:9
 write-block-count-run-requires : (t : ℕ) → write-block-lts.Need-count-run-requires (
-  wide-reads.Asked,
-  wide-reads.Learnt,
+  word-with-reads.Asked,
+  word-with-reads.Learnt,
   count-run-reads.Asked,
   count-run-reads.Learnt,
   write-run-below t,
@@ -150,10 +163,10 @@ write-block-count-run-requires : (t : ℕ) → write-block-lts.Need-count-run-re
 ) (write-block-at t) write-block.Post
 write-block-count-run-requires t c κs = search needs
 
--- src/lib.rt:167:8
+-- src/lib.rt:228:8
 write-block-shared-slice-read-if2 : (t : ℕ) → write-block-lts.Need-shared-slice-read-if2 (
-  wide-reads.Asked,
-  wide-reads.Learnt,
+  word-with-reads.Asked,
+  word-with-reads.Learnt,
   count-run-reads.Asked,
   count-run-reads.Learnt,
   write-run-below t,
@@ -163,10 +176,10 @@ write-block-shared-slice-read-if2 : (t : ℕ) → write-block-lts.Need-shared-sl
 ) (write-block-at t) write-block.Post
 write-block-shared-slice-read-if2 t c = search needs
 
--- src/lib.rt:169:13
+-- src/lib.rt:230:13
 write-block-returns-2 : (t : ℕ) → write-block-lts.Need-returns-2 (
-  wide-reads.Asked,
-  wide-reads.Learnt,
+  word-with-reads.Asked,
+  word-with-reads.Learnt,
   count-run-reads.Asked,
   count-run-reads.Learnt,
   write-run-below t,
@@ -175,12 +188,12 @@ write-block-returns-2 : (t : ℕ) → write-block-lts.Need-returns-2 (
   behind-reads.Learnt,
 ) (write-block-at t) write-block.Post
 write-block-returns-2 t c =
-    wrote-nothing _ _ (loop-none (c .before .before .before .before .before .before .before .before .before .args .codes .now) (c .before .before .before .before .before .before .before .before .before .args .ids .now) (c .before .before .before .before .before .before .before .before .before .args .at) (c .before .before .before .before .before .before .before .before .before .args .k) (c .before .before .before .before .before .before .before .before .before .args .left) (c .before .before .before .count-run .result) (c .before .before .before .count-run .ensures) (c .before .if2 .taken) (c .if3 .taken))
+    wrote-nothing _ _ (loop-none (c .before .before .before .before .before .before .before .before .before .before .args .codes .now) (c .before .before .before .before .before .before .before .before .before .before .args .words .now) (c .before .before .before .before .before .before .before .before .before .before .args .marks .now) (c .before .before .before .before .before .before .before .before .before .before .args .seen) (c .before .before .before .before .before .before .before .before .before .before .args .at) (c .before .before .before .before .before .before .before .before .before .before .args .k) (c .before .before .before .before .before .before .before .before .before .before .args .left) (c .before .before .before .count-run .result) (c .before .before .before .count-run .ensures) (c .before .if2 .taken) (c .if3 .taken))
 
--- src/lib.rt:172:42
+-- src/lib.rt:233:57
 write-block-add-write-run : (t : ℕ) → write-block-lts.Need-add-write-run (
-  wide-reads.Asked,
-  wide-reads.Learnt,
+  word-with-reads.Asked,
+  word-with-reads.Learnt,
   count-run-reads.Asked,
   count-run-reads.Learnt,
   write-run-below t,
@@ -190,10 +203,10 @@ write-block-add-write-run : (t : ℕ) → write-block-lts.Need-add-write-run (
 ) (write-block-at t) write-block.Post
 write-block-add-write-run t c = search needs
 
--- src/lib.rt:172:56
+-- src/lib.rt:233:71
 write-block-sub-write-run : (t : ℕ) → write-block-lts.Need-sub-write-run (
-  wide-reads.Asked,
-  wide-reads.Learnt,
+  word-with-reads.Asked,
+  word-with-reads.Learnt,
   count-run-reads.Asked,
   count-run-reads.Learnt,
   write-run-below t,
@@ -203,10 +216,10 @@ write-block-sub-write-run : (t : ℕ) → write-block-lts.Need-sub-write-run (
 ) (write-block-at t) write-block.Post
 write-block-sub-write-run t c = search needs
 
--- src/lib.rt:172:13
+-- src/lib.rt:233:13
 write-block-write-run-requires : (t : ℕ) → write-block-lts.Need-write-run-requires (
-  wide-reads.Asked,
-  wide-reads.Learnt,
+  word-with-reads.Asked,
+  word-with-reads.Learnt,
   count-run-reads.Asked,
   count-run-reads.Learnt,
   write-run-below t,
@@ -215,12 +228,12 @@ write-block-write-run-requires : (t : ℕ) → write-block-lts.Need-write-run-re
   behind-reads.Learnt,
 ) (write-block-at t) write-block.Post
 write-block-write-run-requires t c κs =
-    (search needs, (search needs, room-as _ _ _ _ _ (loop-one (c .before .before .before .before .before .before .before .before .before .before .before .args .codes .now) (c .before .before .before .before .before .before .before .before .before .before .before .args .ids .now) (c .before .before .before .before .before .before .before .before .before .before .before .args .at) (c .before .before .before .before .before .before .before .before .before .before .before .args .k) (c .before .before .before .before .before .before .before .before .before .before .before .args .left) (c .before .before .before .before .before .count-run .result) (c .before .before .before .before .before .count-run .ensures) (c .before .before .before .if2 .taken) (c .before .before .if3 .left) (c .before .if4 .taken)) (c .before .before .before .before .before .before .before .before .before .before .before .pre .1 .1)))
+    (search needs, (search needs, room-as _ _ _ _ _ _ (loop-one (c .before .before .before .before .before .before .before .before .before .before .before .before .args .codes .now) (c .before .before .before .before .before .before .before .before .before .before .before .before .args .words .now) (c .before .before .before .before .before .before .before .before .before .before .before .before .args .marks .now) (c .before .before .before .before .before .before .before .before .before .before .before .before .args .seen) (c .before .before .before .before .before .before .before .before .before .before .before .before .args .at) (c .before .before .before .before .before .before .before .before .before .before .before .before .args .k) (c .before .before .before .before .before .before .before .before .before .before .before .before .args .left) (c .before .before .before .before .before .count-run .result) (c .before .before .before .before .before .count-run .ensures) (c .before .before .before .if2 .taken) (c .before .before .if3 .left) (c .before .if4 .taken)) (c .before .before .before .before .before .before .before .before .before .before .before .before .pre .1 .1)))
 
--- src/lib.rt:172:13
+-- src/lib.rt:233:13
 write-block-same-length-2 : (t : ℕ) → write-block-lts.Need-same-length-2 (
-  wide-reads.Asked,
-  wide-reads.Learnt,
+  word-with-reads.Asked,
+  word-with-reads.Learnt,
   count-run-reads.Asked,
   count-run-reads.Learnt,
   write-run-below t,
@@ -230,10 +243,10 @@ write-block-same-length-2 : (t : ℕ) → write-block-lts.Need-same-length-2 (
 ) (write-block-at t) write-block.Post
 write-block-same-length-2 t c = search needs
 
--- src/lib.rt:172:13
+-- src/lib.rt:233:13
 write-block-returns-3 : (t : ℕ) → write-block-lts.Need-returns-3 (
-  wide-reads.Asked,
-  wide-reads.Learnt,
+  word-with-reads.Asked,
+  word-with-reads.Learnt,
   count-run-reads.Asked,
   count-run-reads.Learnt,
   write-run-below t,
@@ -242,12 +255,12 @@ write-block-returns-3 : (t : ℕ) → write-block-lts.Need-returns-3 (
   behind-reads.Learnt,
 ) (write-block-at t) write-block.Post
 write-block-returns-3 t c =
-    wrote-as _ _ _ _ _ (loop-one (c .before .before .before .before .before .before .before .before .before .before .before .before .before .before .args .codes .now) (c .before .before .before .before .before .before .before .before .before .before .before .before .before .before .args .ids .now) (c .before .before .before .before .before .before .before .before .before .before .before .before .before .before .args .at) (c .before .before .before .before .before .before .before .before .before .before .before .before .before .before .args .k) (c .before .before .before .before .before .before .before .before .before .before .before .before .before .before .args .left) (c .before .before .before .before .before .before .before .before .count-run .result) (c .before .before .before .before .before .before .before .before .count-run .ensures) (c .before .before .before .before .before .before .if2 .taken) (c .before .before .before .before .before .if3 .left) (c .before .before .before .before .if4 .taken)) (c .before .before .write-run .ensures)
+    wrote-as _ _ _ _ _ (loop-one (c .before .before .before .before .before .before .before .before .before .before .before .before .before .before .before .args .codes .now) (c .before .before .before .before .before .before .before .before .before .before .before .before .before .before .before .args .words .now) (c .before .before .before .before .before .before .before .before .before .before .before .before .before .before .before .args .marks .now) (c .before .before .before .before .before .before .before .before .before .before .before .before .before .before .before .args .seen) (c .before .before .before .before .before .before .before .before .before .before .before .before .before .before .before .args .at) (c .before .before .before .before .before .before .before .before .before .before .before .before .before .before .before .args .k) (c .before .before .before .before .before .before .before .before .before .before .before .before .before .before .before .args .left) (c .before .before .before .before .before .before .before .before .count-run .result) (c .before .before .before .before .before .before .before .before .count-run .ensures) (c .before .before .before .before .before .before .if2 .taken) (c .before .before .before .before .before .if3 .left) (c .before .before .before .before .if4 .taken)) (c .before .before .write-run .ensures)
 
--- src/lib.rt:174:17
+-- src/lib.rt:235:17
 write-block-sub-j : (t : ℕ) → write-block-lts.Need-sub-j (
-  wide-reads.Asked,
-  wide-reads.Learnt,
+  word-with-reads.Asked,
+  word-with-reads.Learnt,
   count-run-reads.Asked,
   count-run-reads.Learnt,
   write-run-below t,
@@ -257,10 +270,10 @@ write-block-sub-j : (t : ℕ) → write-block-lts.Need-sub-j (
 ) (write-block-at t) write-block.Post
 write-block-sub-j t c = search needs
 
--- src/lib.rt:174:17
+-- src/lib.rt:235:17
 write-block-sub-j-2 : (t : ℕ) → write-block-lts.Need-sub-j-2 (
-  wide-reads.Asked,
-  wide-reads.Learnt,
+  word-with-reads.Asked,
+  word-with-reads.Learnt,
   count-run-reads.Asked,
   count-run-reads.Learnt,
   write-run-below t,
@@ -270,10 +283,10 @@ write-block-sub-j-2 : (t : ℕ) → write-block-lts.Need-sub-j-2 (
 ) (write-block-at t) write-block.Post
 write-block-sub-j-2 t c = search needs
 
--- src/lib.rt:175:39
+-- src/lib.rt:236:54
 write-block-add-write-run-2 : (t : ℕ) → write-block-lts.Need-add-write-run-2 (
-  wide-reads.Asked,
-  wide-reads.Learnt,
+  word-with-reads.Asked,
+  word-with-reads.Learnt,
   count-run-reads.Asked,
   count-run-reads.Learnt,
   write-run-below t,
@@ -283,10 +296,10 @@ write-block-add-write-run-2 : (t : ℕ) → write-block-lts.Need-add-write-run-2
 ) (write-block-at t) write-block.Post
 write-block-add-write-run-2 t c = search needs
 
--- src/lib.rt:175:53
+-- src/lib.rt:236:68
 write-block-div-write-run : (t : ℕ) → write-block-lts.Need-div-write-run (
-  wide-reads.Asked,
-  wide-reads.Learnt,
+  word-with-reads.Asked,
+  word-with-reads.Learnt,
   count-run-reads.Asked,
   count-run-reads.Learnt,
   write-run-below t,
@@ -296,10 +309,10 @@ write-block-div-write-run : (t : ℕ) → write-block-lts.Need-div-write-run (
 ) (write-block-at t) write-block.Post
 write-block-div-write-run t c = search needs
 
--- src/lib.rt:175:13
+-- src/lib.rt:236:13
 write-block-write-run-requires-2 : (t : ℕ) → write-block-lts.Need-write-run-requires-2 (
-  wide-reads.Asked,
-  wide-reads.Learnt,
+  word-with-reads.Asked,
+  word-with-reads.Learnt,
   count-run-reads.Asked,
   count-run-reads.Learnt,
   write-run-below t,
@@ -308,12 +321,12 @@ write-block-write-run-requires-2 : (t : ℕ) → write-block-lts.Need-write-run-
   behind-reads.Learnt,
 ) (write-block-at t) write-block.Post
 write-block-write-run-requires-2 t c κs =
-    (search needs, (search needs, room-left _ _ _ _ _ _ (loop-two (c .before .before .before .before .before .before .before .before .before .before .before .args .codes .now) (c .before .before .before .before .before .before .before .before .before .before .before .args .ids .now) (c .before .before .before .before .before .before .before .before .before .before .before .args .at) (c .before .before .before .before .before .before .before .before .before .before .before .args .k) (c .before .before .before .before .before .before .before .before .before .before .before .args .left) (c .before .before .before .before .before .count-run .result) (c .before .before .before .before .before .count-run .ensures) (c .before .before .before .if2 .taken) (c .before .before .if3 .left) (c .before .if4 .left)) (c .before .before .before .before .before .before .before .before .before .before .before .pre .1 .1)))
+    (search needs, (search needs, room-left _ _ _ _ _ _ _ (loop-two (c .before .before .before .before .before .before .before .before .before .before .before .before .args .codes .now) (c .before .before .before .before .before .before .before .before .before .before .before .before .args .words .now) (c .before .before .before .before .before .before .before .before .before .before .before .before .args .marks .now) (c .before .before .before .before .before .before .before .before .before .before .before .before .args .seen) (c .before .before .before .before .before .before .before .before .before .before .before .before .args .at) (c .before .before .before .before .before .before .before .before .before .before .before .before .args .k) (c .before .before .before .before .before .before .before .before .before .before .before .before .args .left) (c .before .before .before .before .before .count-run .result) (c .before .before .before .before .before .count-run .ensures) (c .before .before .before .if2 .taken) (c .before .before .if3 .left) (c .before .if4 .left)) (c .before .before .before .before .before .before .before .before .before .before .before .before .pre .1 .1)))
 
--- src/lib.rt:176:42
+-- src/lib.rt:237:57
 write-block-add-write-run-3 : (t : ℕ) → write-block-lts.Need-add-write-run-3 (
-  wide-reads.Asked,
-  wide-reads.Learnt,
+  word-with-reads.Asked,
+  word-with-reads.Learnt,
   count-run-reads.Asked,
   count-run-reads.Learnt,
   write-run-below t,
@@ -323,10 +336,10 @@ write-block-add-write-run-3 : (t : ℕ) → write-block-lts.Need-add-write-run-3
 ) (write-block-at t) write-block.Post
 write-block-add-write-run-3 t c = search needs
 
--- src/lib.rt:176:56
+-- src/lib.rt:237:71
 write-block-rem-write-run : (t : ℕ) → write-block-lts.Need-rem-write-run (
-  wide-reads.Asked,
-  wide-reads.Learnt,
+  word-with-reads.Asked,
+  word-with-reads.Learnt,
   count-run-reads.Asked,
   count-run-reads.Learnt,
   write-run-below t,
@@ -336,10 +349,10 @@ write-block-rem-write-run : (t : ℕ) → write-block-lts.Need-rem-write-run (
 ) (write-block-at t) write-block.Post
 write-block-rem-write-run t c = search needs
 
--- src/lib.rt:176:63
+-- src/lib.rt:237:78
 write-block-mul-write-run : (t : ℕ) → write-block-lts.Need-mul-write-run (
-  wide-reads.Asked,
-  wide-reads.Learnt,
+  word-with-reads.Asked,
+  word-with-reads.Learnt,
   count-run-reads.Asked,
   count-run-reads.Learnt,
   write-run-below t,
@@ -349,10 +362,10 @@ write-block-mul-write-run : (t : ℕ) → write-block-lts.Need-mul-write-run (
 ) (write-block-at t) write-block.Post
 write-block-mul-write-run t c = search needs
 
--- src/lib.rt:176:63
+-- src/lib.rt:237:78
 write-block-sub-write-run-2 : (t : ℕ) → write-block-lts.Need-sub-write-run-2 (
-  wide-reads.Asked,
-  wide-reads.Learnt,
+  word-with-reads.Asked,
+  word-with-reads.Learnt,
   count-run-reads.Asked,
   count-run-reads.Learnt,
   write-run-below t,
@@ -362,10 +375,10 @@ write-block-sub-write-run-2 : (t : ℕ) → write-block-lts.Need-sub-write-run-2
 ) (write-block-at t) write-block.Post
 write-block-sub-write-run-2 t c = search needs
 
--- src/lib.rt:176:63
+-- src/lib.rt:237:78
 write-block-part-write-run-start : (t : ℕ) → write-block-lts.Need-part-write-run-start (
-  wide-reads.Asked,
-  wide-reads.Learnt,
+  word-with-reads.Asked,
+  word-with-reads.Learnt,
   count-run-reads.Asked,
   count-run-reads.Learnt,
   write-run-below t,
@@ -375,10 +388,10 @@ write-block-part-write-run-start : (t : ℕ) → write-block-lts.Need-part-write
 ) (write-block-at t) write-block.Post
 write-block-part-write-run-start t c = search needs
 
--- src/lib.rt:176:63
+-- src/lib.rt:237:78
 write-block-part-write-run-end : (t : ℕ) → write-block-lts.Need-part-write-run-end (
-  wide-reads.Asked,
-  wide-reads.Learnt,
+  word-with-reads.Asked,
+  word-with-reads.Learnt,
   count-run-reads.Asked,
   count-run-reads.Learnt,
   write-run-below t,
@@ -388,10 +401,10 @@ write-block-part-write-run-end : (t : ℕ) → write-block-lts.Need-part-write-r
 ) (write-block-at t) write-block.Post
 write-block-part-write-run-end t c = search needs
 
--- src/lib.rt:176:20
+-- src/lib.rt:237:20
 write-block-write-run-requires-3 : (t : ℕ) → write-block-lts.Need-write-run-requires-3 (
-  wide-reads.Asked,
-  wide-reads.Learnt,
+  word-with-reads.Asked,
+  word-with-reads.Learnt,
   count-run-reads.Asked,
   count-run-reads.Learnt,
   write-run-below t,
@@ -400,12 +413,12 @@ write-block-write-run-requires-3 : (t : ℕ) → write-block-lts.Need-write-run-
   behind-reads.Learnt,
 ) (write-block-at t) write-block.Post
 write-block-write-run-requires-3 t c κs =
-    (search needs, (search needs, room-right _ _ _ _ _ _ (loop-two (c .before .before .before .before .before .before .before .before .before .before .before .before .before .before .before .args .codes .now) (c .before .before .before .before .before .before .before .before .before .before .before .before .before .before .before .args .ids .now) (c .before .before .before .before .before .before .before .before .before .before .before .before .before .before .before .args .at) (c .before .before .before .before .before .before .before .before .before .before .before .before .before .before .before .args .k) (c .before .before .before .before .before .before .before .before .before .before .before .before .before .before .before .args .left) (c .before .before .before .before .before .before .before .before .before .count-run .result) (c .before .before .before .before .before .before .before .before .before .count-run .ensures) (c .before .before .before .before .before .before .before .if2 .taken) (c .before .before .before .before .before .before .if3 .left) (c .before .before .before .before .before .if4 .left)) (c .before .before .before .before .before .before .before .before .before .before .before .before .before .before .before .pre .1 .1) _ _ (c .before .before .before .write-run2 .ensures)))
+    (search needs, (search needs, room-right _ _ _ _ _ _ _ (loop-two (c .before .before .before .before .before .before .before .before .before .before .before .before .before .before .before .before .args .codes .now) (c .before .before .before .before .before .before .before .before .before .before .before .before .before .before .before .before .args .words .now) (c .before .before .before .before .before .before .before .before .before .before .before .before .before .before .before .before .args .marks .now) (c .before .before .before .before .before .before .before .before .before .before .before .before .before .before .before .before .args .seen) (c .before .before .before .before .before .before .before .before .before .before .before .before .before .before .before .before .args .at) (c .before .before .before .before .before .before .before .before .before .before .before .before .before .before .before .before .args .k) (c .before .before .before .before .before .before .before .before .before .before .before .before .before .before .before .before .args .left) (c .before .before .before .before .before .before .before .before .before .count-run .result) (c .before .before .before .before .before .before .before .before .before .count-run .ensures) (c .before .before .before .before .before .before .before .if2 .taken) (c .before .before .before .before .before .before .if3 .left) (c .before .before .before .before .before .if4 .left)) (c .before .before .before .before .before .before .before .before .before .before .before .before .before .before .before .before .pre .1 .1) _ _ (c .before .before .before .write-run2 .ensures)))
 
--- src/lib.rt:176:16
+-- src/lib.rt:237:16
 write-block-add-result : (t : ℕ) → write-block-lts.Need-add-result (
-  wide-reads.Asked,
-  wide-reads.Learnt,
+  word-with-reads.Asked,
+  word-with-reads.Learnt,
   count-run-reads.Asked,
   count-run-reads.Learnt,
   write-run-below t,
@@ -414,12 +427,12 @@ write-block-add-result : (t : ℕ) → write-block-lts.Need-add-result (
   behind-reads.Learnt,
 ) (write-block-at t) write-block.Post
 write-block-add-result t c =
-    omega (arith, (wrote-both _ _ _ _ _ _ (loop-two (c .before .before .before .before .before .before .before .before .before .before .before .before .before .before .before .before .before .before .args .codes .now) (c .before .before .before .before .before .before .before .before .before .before .before .before .before .before .before .before .before .before .args .ids .now) (c .before .before .before .before .before .before .before .before .before .before .before .before .before .before .before .before .before .before .args .at) (c .before .before .before .before .before .before .before .before .before .before .before .before .before .before .before .before .before .before .args .k) (c .before .before .before .before .before .before .before .before .before .before .before .before .before .before .before .before .before .before .args .left) (c .before .before .before .before .before .before .before .before .before .before .before .before .count-run .result) (c .before .before .before .before .before .before .before .before .before .before .before .before .count-run .ensures) (c .before .before .before .before .before .before .before .before .before .before .if2 .taken) (c .before .before .before .before .before .before .before .before .before .if3 .left) (c .before .before .before .before .before .before .before .before .if4 .left)) (c .before .before .before .before .before .before .before .before .before .before .before .before .before .before .before .before .before .before .pre .1 .1) _ _ (c .before .before .before .before .before .before .write-run2 .ensures) _ _ (c .before .before .write-run3 .ensures)) .inside)
+    omega (arith, (wrote-both _ _ _ _ _ _ _ (loop-two (c .before .before .before .before .before .before .before .before .before .before .before .before .before .before .before .before .before .before .before .args .codes .now) (c .before .before .before .before .before .before .before .before .before .before .before .before .before .before .before .before .before .before .before .args .words .now) (c .before .before .before .before .before .before .before .before .before .before .before .before .before .before .before .before .before .before .before .args .marks .now) (c .before .before .before .before .before .before .before .before .before .before .before .before .before .before .before .before .before .before .before .args .seen) (c .before .before .before .before .before .before .before .before .before .before .before .before .before .before .before .before .before .before .before .args .at) (c .before .before .before .before .before .before .before .before .before .before .before .before .before .before .before .before .before .before .before .args .k) (c .before .before .before .before .before .before .before .before .before .before .before .before .before .before .before .before .before .before .before .args .left) (c .before .before .before .before .before .before .before .before .before .before .before .before .count-run .result) (c .before .before .before .before .before .before .before .before .before .before .before .before .count-run .ensures) (c .before .before .before .before .before .before .before .before .before .before .if2 .taken) (c .before .before .before .before .before .before .before .before .before .if3 .left) (c .before .before .before .before .before .before .before .before .if4 .left)) (c .before .before .before .before .before .before .before .before .before .before .before .before .before .before .before .before .before .before .before .pre .1 .1) _ _ (c .before .before .before .before .before .before .write-run2 .ensures) _ _ (c .before .before .write-run3 .ensures)) .inside, c .before .before .before .before .before .before .before .before .before .before .before .before .before .before .before .before .before .before .before .good .1 .1 .1 .1 .1 .1 .1 .0 .0)
 
--- src/lib.rt:176:9
+-- src/lib.rt:237:9
 write-block-same-length-3 : (t : ℕ) → write-block-lts.Need-same-length-3 (
-  wide-reads.Asked,
-  wide-reads.Learnt,
+  word-with-reads.Asked,
+  word-with-reads.Learnt,
   count-run-reads.Asked,
   count-run-reads.Learnt,
   write-run-below t,
@@ -429,10 +442,10 @@ write-block-same-length-3 : (t : ℕ) → write-block-lts.Need-same-length-3 (
 ) (write-block-at t) write-block.Post
 write-block-same-length-3 t c = search needs
 
--- src/lib.rt:176:9
+-- src/lib.rt:237:9
 write-block-returns-4 : (t : ℕ) → write-block-lts.Need-returns-4 (
-  wide-reads.Asked,
-  wide-reads.Learnt,
+  word-with-reads.Asked,
+  word-with-reads.Learnt,
   count-run-reads.Asked,
   count-run-reads.Learnt,
   write-run-below t,
@@ -441,12 +454,12 @@ write-block-returns-4 : (t : ℕ) → write-block-lts.Need-returns-4 (
   behind-reads.Learnt,
 ) (write-block-at t) write-block.Post
 write-block-returns-4 t c =
-    wrote-both _ _ _ _ _ _ (loop-two (c .before .before .before .before .before .before .before .before .before .before .before .before .before .before .before .before .before .before .args .codes .now) (c .before .before .before .before .before .before .before .before .before .before .before .before .before .before .before .before .before .before .args .ids .now) (c .before .before .before .before .before .before .before .before .before .before .before .before .before .before .before .before .before .before .args .at) (c .before .before .before .before .before .before .before .before .before .before .before .before .before .before .before .before .before .before .args .k) (c .before .before .before .before .before .before .before .before .before .before .before .before .before .before .before .before .before .before .args .left) (c .before .before .before .before .before .before .before .before .before .before .before .before .count-run .result) (c .before .before .before .before .before .before .before .before .before .before .before .before .count-run .ensures) (c .before .before .before .before .before .before .before .before .before .before .if2 .taken) (c .before .before .before .before .before .before .before .before .before .if3 .left) (c .before .before .before .before .before .before .before .before .if4 .left)) (c .before .before .before .before .before .before .before .before .before .before .before .before .before .before .before .before .before .before .pre .1 .1) _ _ (c .before .before .before .before .before .before .write-run2 .ensures) _ _ (c .before .before .write-run3 .ensures)
+    wrote-both _ _ _ _ _ _ _ (loop-two (c .before .before .before .before .before .before .before .before .before .before .before .before .before .before .before .before .before .before .before .args .codes .now) (c .before .before .before .before .before .before .before .before .before .before .before .before .before .before .before .before .before .before .before .args .words .now) (c .before .before .before .before .before .before .before .before .before .before .before .before .before .before .before .before .before .before .before .args .marks .now) (c .before .before .before .before .before .before .before .before .before .before .before .before .before .before .before .before .before .before .before .args .seen) (c .before .before .before .before .before .before .before .before .before .before .before .before .before .before .before .before .before .before .before .args .at) (c .before .before .before .before .before .before .before .before .before .before .before .before .before .before .before .before .before .before .before .args .k) (c .before .before .before .before .before .before .before .before .before .before .before .before .before .before .before .before .before .before .before .args .left) (c .before .before .before .before .before .before .before .before .before .before .before .before .count-run .result) (c .before .before .before .before .before .before .before .before .before .before .before .before .count-run .ensures) (c .before .before .before .before .before .before .before .before .before .before .if2 .taken) (c .before .before .before .before .before .before .before .before .before .if3 .left) (c .before .before .before .before .before .before .before .before .if4 .left)) (c .before .before .before .before .before .before .before .before .before .before .before .before .before .before .before .before .before .before .before .pre .1 .1) _ _ (c .before .before .before .before .before .before .write-run2 .ensures) _ _ (c .before .before .write-run3 .ensures)
 
--- src/lib.rt:179:38
+-- src/lib.rt:240:53
 write-block-add-write-run-4 : (t : ℕ) → write-block-lts.Need-add-write-run-4 (
-  wide-reads.Asked,
-  wide-reads.Learnt,
+  word-with-reads.Asked,
+  word-with-reads.Learnt,
   count-run-reads.Asked,
   count-run-reads.Learnt,
   write-run-below t,
@@ -456,10 +469,10 @@ write-block-add-write-run-4 : (t : ℕ) → write-block-lts.Need-add-write-run-4
 ) (write-block-at t) write-block.Post
 write-block-add-write-run-4 t c = search needs
 
--- src/lib.rt:179:9
+-- src/lib.rt:240:9
 write-block-write-run-requires-4 : (t : ℕ) → write-block-lts.Need-write-run-requires-4 (
-  wide-reads.Asked,
-  wide-reads.Learnt,
+  word-with-reads.Asked,
+  word-with-reads.Learnt,
   count-run-reads.Asked,
   count-run-reads.Learnt,
   write-run-below t,
@@ -468,12 +481,12 @@ write-block-write-run-requires-4 : (t : ℕ) → write-block-lts.Need-write-run-
   behind-reads.Learnt,
 ) (write-block-at t) write-block.Post
 write-block-write-run-requires-4 t c κs =
-    (search needs, (search needs, room-as _ _ _ _ _ (branch-one (c .before .before .before .before .before .before .before .before .before .before .args .codes .now) (c .before .before .before .before .before .before .before .before .before .before .args .ids .now) (c .before .before .before .before .before .before .before .before .before .before .args .at) (c .before .before .before .before .before .before .before .before .before .before .args .k) (c .before .before .before .before .before .before .before .before .before .before .args .left) (c .before .before .before .before .count-run .result) (c .before .before .before .before .count-run .ensures) (c .before .before .before .before .before .if1 .left) (c .before .before .if2 .left) (c .before .if5 .taken)) (c .before .before .before .before .before .before .before .before .before .before .pre .1 .1)))
+    (search needs, (search needs, room-as _ _ _ _ _ _ (branch-one (c .before .before .before .before .before .before .before .before .before .before .before .args .codes .now) (c .before .before .before .before .before .before .before .before .before .before .before .args .words .now) (c .before .before .before .before .before .before .before .before .before .before .before .args .marks .now) (c .before .before .before .before .before .before .before .before .before .before .before .args .seen) (c .before .before .before .before .before .before .before .before .before .before .before .args .at) (c .before .before .before .before .before .before .before .before .before .before .before .args .k) (c .before .before .before .before .before .before .before .before .before .before .before .args .left) (c .before .before .before .before .count-run .result) (c .before .before .before .before .count-run .ensures) (c .before .before .before .before .before .if1 .left) (c .before .before .if2 .left) (c .before .if5 .taken)) (c .before .before .before .before .before .before .before .before .before .before .before .pre .1 .1)))
 
--- src/lib.rt:179:9
+-- src/lib.rt:240:9
 write-block-same-length-4 : (t : ℕ) → write-block-lts.Need-same-length-4 (
-  wide-reads.Asked,
-  wide-reads.Learnt,
+  word-with-reads.Asked,
+  word-with-reads.Learnt,
   count-run-reads.Asked,
   count-run-reads.Learnt,
   write-run-below t,
@@ -483,10 +496,10 @@ write-block-same-length-4 : (t : ℕ) → write-block-lts.Need-same-length-4 (
 ) (write-block-at t) write-block.Post
 write-block-same-length-4 t c = search needs
 
--- src/lib.rt:179:9
+-- src/lib.rt:240:9
 write-block-returns-5 : (t : ℕ) → write-block-lts.Need-returns-5 (
-  wide-reads.Asked,
-  wide-reads.Learnt,
+  word-with-reads.Asked,
+  word-with-reads.Learnt,
   count-run-reads.Asked,
   count-run-reads.Learnt,
   write-run-below t,
@@ -495,12 +508,12 @@ write-block-returns-5 : (t : ℕ) → write-block-lts.Need-returns-5 (
   behind-reads.Learnt,
 ) (write-block-at t) write-block.Post
 write-block-returns-5 t c =
-    wrote-as _ _ _ _ _ (branch-one (c .before .before .before .before .before .before .before .before .before .before .before .before .before .args .codes .now) (c .before .before .before .before .before .before .before .before .before .before .before .before .before .args .ids .now) (c .before .before .before .before .before .before .before .before .before .before .before .before .before .args .at) (c .before .before .before .before .before .before .before .before .before .before .before .before .before .args .k) (c .before .before .before .before .before .before .before .before .before .before .before .before .before .args .left) (c .before .before .before .before .before .before .before .count-run .result) (c .before .before .before .before .before .before .before .count-run .ensures) (c .before .before .before .before .before .before .before .before .if1 .left) (c .before .before .before .before .before .if2 .left) (c .before .before .before .before .if5 .taken)) (c .before .before .write-run4 .ensures)
+    wrote-as _ _ _ _ _ (branch-one (c .before .before .before .before .before .before .before .before .before .before .before .before .before .before .args .codes .now) (c .before .before .before .before .before .before .before .before .before .before .before .before .before .before .args .words .now) (c .before .before .before .before .before .before .before .before .before .before .before .before .before .before .args .marks .now) (c .before .before .before .before .before .before .before .before .before .before .before .before .before .before .args .seen) (c .before .before .before .before .before .before .before .before .before .before .before .before .before .before .args .at) (c .before .before .before .before .before .before .before .before .before .before .before .before .before .before .args .k) (c .before .before .before .before .before .before .before .before .before .before .before .before .before .before .args .left) (c .before .before .before .before .before .before .before .count-run .result) (c .before .before .before .before .before .before .before .count-run .ensures) (c .before .before .before .before .before .before .before .before .if1 .left) (c .before .before .before .before .before .if2 .left) (c .before .before .before .before .if5 .taken)) (c .before .before .write-run4 .ensures)
 
--- src/lib.rt:181:27
+-- src/lib.rt:242:42
 write-block-behind-requires : (t : ℕ) → write-block-lts.Need-behind-requires (
-  wide-reads.Asked,
-  wide-reads.Learnt,
+  word-with-reads.Asked,
+  word-with-reads.Learnt,
   count-run-reads.Asked,
   count-run-reads.Learnt,
   write-run-below t,
@@ -510,10 +523,10 @@ write-block-behind-requires : (t : ℕ) → write-block-lts.Need-behind-requires
 ) (write-block-at t) write-block.Post
 write-block-behind-requires t c κs = search needs
 
--- src/lib.rt:181:5
+-- src/lib.rt:242:5
 write-block-write-run-requires-5 : (t : ℕ) → write-block-lts.Need-write-run-requires-5 (
-  wide-reads.Asked,
-  wide-reads.Learnt,
+  word-with-reads.Asked,
+  word-with-reads.Learnt,
   count-run-reads.Asked,
   count-run-reads.Learnt,
   write-run-below t,
@@ -522,12 +535,12 @@ write-block-write-run-requires-5 : (t : ℕ) → write-block-lts.Need-write-run-
   behind-reads.Learnt,
 ) (write-block-at t) write-block.Post
 write-block-write-run-requires-5 t c κs =
-    (search needs, (search needs, room-as _ _ _ _ _ (branch-two (c .before .before .before .before .before .before .before .before .before .before .before .args .codes .now) (c .before .before .before .before .before .before .before .before .before .before .before .args .ids .now) (c .before .before .before .before .before .before .before .before .before .before .before .args .at) (c .before .before .before .before .before .before .before .before .before .before .before .args .k) (c .before .before .before .before .before .before .before .before .before .before .before .args .left) (c .before .before .before .before .before .count-run .result) (c .before .before .before .before .before .count-run .ensures) (c .before .behind .result) (c .before .behind .ensures .same) (c .before .before .before .before .before .before .if1 .left) (c .before .before .before .if2 .left) (c .before .before .if5 .left)) (c .before .before .before .before .before .before .before .before .before .before .before .pre .1 .1)))
+    (search needs, (search needs, room-as _ _ _ _ _ _ (branch-two (c .before .before .before .before .before .before .before .before .before .before .before .before .args .codes .now) (c .before .before .before .before .before .before .before .before .before .before .before .before .args .words .now) (c .before .before .before .before .before .before .before .before .before .before .before .before .args .marks .now) (c .before .before .before .before .before .before .before .before .before .before .before .before .args .seen) (c .before .before .before .before .before .before .before .before .before .before .before .before .args .at) (c .before .before .before .before .before .before .before .before .before .before .before .before .args .k) (c .before .before .before .before .before .before .before .before .before .before .before .before .args .left) (c .before .before .before .before .before .count-run .result) (c .before .before .before .before .before .count-run .ensures) (c .before .behind .result) (c .before .behind .ensures .same) (c .before .before .before .before .before .before .if1 .left) (c .before .before .before .if2 .left) (c .before .before .if5 .left)) (c .before .before .before .before .before .before .before .before .before .before .before .before .pre .1 .1)))
 
--- src/lib.rt:156:1
+-- src/lib.rt:208:1
 write-block-same-length-5 : (t : ℕ) → write-block-lts.Need-same-length-5 (
-  wide-reads.Asked,
-  wide-reads.Learnt,
+  word-with-reads.Asked,
+  word-with-reads.Learnt,
   count-run-reads.Asked,
   count-run-reads.Learnt,
   write-run-below t,
@@ -537,10 +550,10 @@ write-block-same-length-5 : (t : ℕ) → write-block-lts.Need-same-length-5 (
 ) (write-block-at t) write-block.Post
 write-block-same-length-5 t c = search needs
 
--- src/lib.rt:156:1
+-- src/lib.rt:208:1
 write-block-returns-6 : (t : ℕ) → write-block-lts.Need-returns-6 (
-  wide-reads.Asked,
-  wide-reads.Learnt,
+  word-with-reads.Asked,
+  word-with-reads.Learnt,
   count-run-reads.Asked,
   count-run-reads.Learnt,
   write-run-below t,
@@ -549,9 +562,9 @@ write-block-returns-6 : (t : ℕ) → write-block-lts.Need-returns-6 (
   behind-reads.Learnt,
 ) (write-block-at t) write-block.Post
 write-block-returns-6 t c =
-    wrote-as _ _ _ _ _ (branch-two (c .before .before .before .before .before .before .before .before .before .before .before .before .before .before .args .codes .now) (c .before .before .before .before .before .before .before .before .before .before .before .before .before .before .args .ids .now) (c .before .before .before .before .before .before .before .before .before .before .before .before .before .before .args .at) (c .before .before .before .before .before .before .before .before .before .before .before .before .before .before .args .k) (c .before .before .before .before .before .before .before .before .before .before .before .before .before .before .args .left) (c .before .before .before .before .before .before .before .before .count-run .result) (c .before .before .before .before .before .before .before .before .count-run .ensures) (c .before .before .before .before .behind .result) (c .before .before .before .before .behind .ensures .same) (c .before .before .before .before .before .before .before .before .before .if1 .left) (c .before .before .before .before .before .before .if2 .left) (c .before .before .before .before .before .if5 .left)) (c .before .before .write-run5 .ensures)
+    wrote-as _ _ _ _ _ (branch-two (c .before .before .before .before .before .before .before .before .before .before .before .before .before .before .before .args .codes .now) (c .before .before .before .before .before .before .before .before .before .before .before .before .before .before .before .args .words .now) (c .before .before .before .before .before .before .before .before .before .before .before .before .before .before .before .args .marks .now) (c .before .before .before .before .before .before .before .before .before .before .before .before .before .before .before .args .seen) (c .before .before .before .before .before .before .before .before .before .before .before .before .before .before .before .args .at) (c .before .before .before .before .before .before .before .before .before .before .before .before .before .before .before .args .k) (c .before .before .before .before .before .before .before .before .before .before .before .before .before .before .before .args .left) (c .before .before .before .before .before .before .before .before .count-run .result) (c .before .before .before .before .before .before .before .before .count-run .ensures) (c .before .before .before .before .behind .result) (c .before .before .before .before .behind .ensures .same) (c .before .before .before .before .before .before .before .before .before .if1 .left) (c .before .before .before .before .before .before .if2 .left) (c .before .before .before .before .before .if5 .left)) (c .before .before .write-run5 .ensures)
 
--- src/lib.rt:139:9
+-- src/lib.rt:191:9
 write-run-returns : (t : ℕ) → write-run-lts.Need-returns (
   count-block-reads.Asked,
   count-block-reads.Learnt,
@@ -563,9 +576,9 @@ write-run-returns : (t : ℕ) → write-run-lts.Need-returns (
   write-run.Post,
 ) (write-run-at t) write-run.Post
 write-run-returns t c =
-    wrote-nothing _ _ (run-nothing (c .before .before .before .before .args .codes .now) (c .before .before .before .before .args .ids .now) (c .before .before .before .before .args .at) (c .before .before .before .before .args .k) (c .before .before .before .before .args .left) (c .if1 .taken))
+    wrote-nothing _ _ (run-nothing (c .before .before .before .before .before .args .codes .now) (c .before .before .before .before .before .args .words .now) (c .before .before .before .before .before .args .marks .now) (c .before .before .before .before .before .args .seen) (c .before .before .before .before .before .args .at) (c .before .before .before .before .before .args .k) (c .before .before .before .before .before .args .left) (c .if1 .taken))
 
--- src/lib.rt:142:9
+-- src/lib.rt:194:9
 write-run-returns-2 : (t : ℕ) → write-run-lts.Need-returns-2 (
   count-block-reads.Asked,
   count-block-reads.Learnt,
@@ -577,9 +590,9 @@ write-run-returns-2 : (t : ℕ) → write-run-lts.Need-returns-2 (
   write-run.Post,
 ) (write-run-at t) write-run.Post
 write-run-returns-2 t c =
-    wrote-nothing _ _ (write-past (c .before .before .before .before .before .args .codes .now) (c .before .before .before .before .before .args .ids .now) (c .before .before .before .before .before .args .at) (c .before .before .before .before .before .args .k) (c .before .before .before .before .before .args .left) (c .if2 .taken))
+    wrote-nothing _ _ (write-past (c .before .before .before .before .before .before .args .codes .now) (c .before .before .before .before .before .before .args .words .now) (c .before .before .before .before .before .before .args .marks .now) (c .before .before .before .before .before .before .args .seen) (c .before .before .before .before .before .before .args .at) (c .before .before .before .before .before .before .args .k) (c .before .before .before .before .before .before .args .left) (c .if2 .taken))
 
--- src/lib.rt:144:8
+-- src/lib.rt:196:8
 write-run-shared-slice-read-if3 : (t : ℕ) → write-run-lts.Need-shared-slice-read-if3 (
   count-block-reads.Asked,
   count-block-reads.Learnt,
@@ -592,7 +605,7 @@ write-run-shared-slice-read-if3 : (t : ℕ) → write-run-lts.Need-shared-slice-
 ) (write-run-at t) write-run.Post
 write-run-shared-slice-read-if3 t c = search needs
 
--- src/lib.rt:145:9
+-- src/lib.rt:197:9
 write-run-returns-3 : (t : ℕ) → write-run-lts.Need-returns-3 (
   count-block-reads.Asked,
   count-block-reads.Learnt,
@@ -604,9 +617,9 @@ write-run-returns-3 : (t : ℕ) → write-run-lts.Need-returns-3 (
   write-run.Post,
 ) (write-run-at t) write-run.Post
 write-run-returns-3 t c =
-    wrote-nothing _ _ (write-stop (c .before .before .before .before .before .before .before .args .codes .now) (c .before .before .before .before .before .before .before .args .ids .now) (c .before .before .before .before .before .before .before .args .at) (c .before .before .before .before .before .before .before .args .k) (c .before .before .before .before .before .before .before .args .left) (c .before .before .if2 .left) (c .if3 .taken))
+    wrote-nothing _ _ (write-stop (c .before .before .before .before .before .before .before .before .args .codes .now) (c .before .before .before .before .before .before .before .before .args .words .now) (c .before .before .before .before .before .before .before .before .args .marks .now) (c .before .before .before .before .before .before .before .before .args .seen) (c .before .before .before .before .before .before .before .before .args .at) (c .before .before .before .before .before .before .before .before .args .k) (c .before .before .before .before .before .before .before .before .args .left) (c .before .before .if2 .left) (c .if3 .taken))
 
--- src/lib.rt:147:36
+-- src/lib.rt:199:36
 write-run-sub-count-block : (t : ℕ) → write-run-lts.Need-sub-count-block (
   count-block-reads.Asked,
   count-block-reads.Learnt,
@@ -619,7 +632,7 @@ write-run-sub-count-block : (t : ℕ) → write-run-lts.Need-sub-count-block (
 ) (write-run-at t) write-run.Post
 write-run-sub-count-block t c = search needs
 
--- src/lib.rt:147:9
+-- src/lib.rt:199:9
 write-run-count-block-requires : (t : ℕ) → write-run-lts.Need-count-block-requires (
   count-block-reads.Asked,
   count-block-reads.Learnt,
@@ -632,7 +645,7 @@ write-run-count-block-requires : (t : ℕ) → write-run-lts.Need-count-block-re
 ) (write-run-at t) write-run.Post
 write-run-count-block-requires t c κs = search needs
 
--- src/lib.rt:148:40
+-- src/lib.rt:200:40
 write-run-sub-count-run : (t : ℕ) → write-run-lts.Need-sub-count-run (
   count-block-reads.Asked,
   count-block-reads.Learnt,
@@ -645,7 +658,7 @@ write-run-sub-count-run : (t : ℕ) → write-run-lts.Need-sub-count-run (
 ) (write-run-at t) write-run.Post
 write-run-sub-count-run t c = search needs
 
--- src/lib.rt:148:9
+-- src/lib.rt:200:9
 write-run-count-run-requires : (t : ℕ) → write-run-lts.Need-count-run-requires (
   count-block-reads.Asked,
   count-block-reads.Learnt,
@@ -658,7 +671,7 @@ write-run-count-run-requires : (t : ℕ) → write-run-lts.Need-count-run-requir
 ) (write-run-at t) write-run.Post
 write-run-count-run-requires t c κs = search needs
 
--- src/lib.rt:150:41
+-- src/lib.rt:202:56
 write-run-sub-write-block : (t : ℕ) → write-run-lts.Need-sub-write-block (
   count-block-reads.Asked,
   count-block-reads.Learnt,
@@ -671,7 +684,7 @@ write-run-sub-write-block : (t : ℕ) → write-run-lts.Need-sub-write-block (
 ) (write-run-at t) write-run.Post
 write-run-sub-write-block t c = search needs
 
--- src/lib.rt:150:51
+-- src/lib.rt:202:66
 write-run-div-write-block : (t : ℕ) → write-run-lts.Need-div-write-block (
   count-block-reads.Asked,
   count-block-reads.Learnt,
@@ -684,7 +697,7 @@ write-run-div-write-block : (t : ℕ) → write-run-lts.Need-div-write-block (
 ) (write-run-at t) write-run.Post
 write-run-div-write-block t c = search needs
 
--- src/lib.rt:150:9
+-- src/lib.rt:202:9
 write-run-write-block-requires : (t : ℕ) → write-run-lts.Need-write-block-requires (
   count-block-reads.Asked,
   count-block-reads.Learnt,
@@ -696,35 +709,9 @@ write-run-write-block-requires : (t : ℕ) → write-run-lts.Need-write-block-re
   write-run.Post,
 ) (write-run-at t) write-run.Post
 write-run-write-block-requires t c κs =
-    (search needs, (search needs, room-left _ _ _ _ _ _ (run-parts (c .before .before .before .before .before .before .before .before .before .before .args .codes .now) (c .before .before .before .before .before .before .before .before .before .before .args .ids .now) (c .before .before .before .before .before .before .before .before .before .before .args .at) (c .before .before .before .before .before .before .before .before .before .before .args .k) (c .before .before .before .before .before .before .before .before .before .before .args .left) (c .before .before .count-block .result) (c .before .count-run .result) (c .before .before .before .before .before .before .if1 .left) (c .before .before .before .before .before .if2 .left) (c .before .before .before .if3 .left) (c .before .before .count-block .ensures) (c .before .count-run .ensures)) (c .before .before .before .before .before .before .before .before .before .before .pre .1 .1)))
+    (search needs, (search needs, room-left _ _ _ _ _ _ _ (run-parts (c .before .before .before .before .before .before .before .before .before .before .before .args .codes .now) (c .before .before .before .before .before .before .before .before .before .before .before .args .words .now) (c .before .before .before .before .before .before .before .before .before .before .before .args .marks .now) (c .before .before .before .before .before .before .before .before .before .before .before .args .seen) (c .before .before .before .before .before .before .before .before .before .before .before .args .at) (c .before .before .before .before .before .before .before .before .before .before .before .args .k) (c .before .before .before .before .before .before .before .before .before .before .before .args .left) (c .before .before .count-block .result) (c .before .count-run .result) (c .before .before .before .before .before .before .if1 .left) (c .before .before .before .before .before .if2 .left) (c .before .before .before .if3 .left) (c .before .before .count-block .ensures) (c .before .count-run .ensures)) (c .before .before .before .before .before .before .before .before .before .before .before .pre .1 .1)))
 
--- src/lib.rt:151:38
-write-run-sub-write-run : (t : ℕ) → write-run-lts.Need-sub-write-run (
-  count-block-reads.Asked,
-  count-block-reads.Learnt,
-  count-run-reads.Asked,
-  count-run-reads.Learnt,
-  write-block-below t,
-  write-block.Post,
-  write-run-below t,
-  write-run.Post,
-) (write-run-at t) write-run.Post
-write-run-sub-write-run t c = search needs
-
--- src/lib.rt:151:48
-write-run-rem-write-run : (t : ℕ) → write-run-lts.Need-rem-write-run (
-  count-block-reads.Asked,
-  count-block-reads.Learnt,
-  count-run-reads.Asked,
-  count-run-reads.Learnt,
-  write-block-below t,
-  write-block.Post,
-  write-run-below t,
-  write-run.Post,
-) (write-run-at t) write-run.Post
-write-run-rem-write-run t c = search needs
-
--- src/lib.rt:151:55
+-- src/lib.rt:203:47
 write-run-mul-write-run : (t : ℕ) → write-run-lts.Need-mul-write-run (
   count-block-reads.Asked,
   count-block-reads.Learnt,
@@ -737,7 +724,60 @@ write-run-mul-write-run : (t : ℕ) → write-run-lts.Need-mul-write-run (
 ) (write-run-at t) write-run.Post
 write-run-mul-write-run t c = search needs
 
--- src/lib.rt:151:55
+-- src/lib.rt:203:47
+write-run-shared-slice-read-write-run : (t : ℕ) → write-run-lts.Need-shared-slice-read-write-run (
+  count-block-reads.Asked,
+  count-block-reads.Learnt,
+  count-run-reads.Asked,
+  count-run-reads.Learnt,
+  write-block-below t,
+  write-block.Post,
+  write-run-below t,
+  write-run.Post,
+) (write-run-at t) write-run.Post
+write-run-shared-slice-read-write-run t c = search needs
+
+-- src/lib.rt:203:65
+write-run-sub-write-run : (t : ℕ) → write-run-lts.Need-sub-write-run (
+  count-block-reads.Asked,
+  count-block-reads.Learnt,
+  count-run-reads.Asked,
+  count-run-reads.Learnt,
+  write-block-below t,
+  write-block.Post,
+  write-run-below t,
+  write-run.Post,
+) (write-run-at t) write-run.Post
+write-run-sub-write-run t c = search needs
+
+-- src/lib.rt:203:75
+write-run-rem-write-run : (t : ℕ) → write-run-lts.Need-rem-write-run (
+  count-block-reads.Asked,
+  count-block-reads.Learnt,
+  count-run-reads.Asked,
+  count-run-reads.Learnt,
+  write-block-below t,
+  write-block.Post,
+  write-run-below t,
+  write-run.Post,
+) (write-run-at t) write-run.Post
+write-run-rem-write-run t c = search needs
+
+-- src/lib.rt:203:82
+write-run-mul-write-run-2 : (t : ℕ) → write-run-lts.Need-mul-write-run-2 (
+  count-block-reads.Asked,
+  count-block-reads.Learnt,
+  count-run-reads.Asked,
+  count-run-reads.Learnt,
+  write-block-below t,
+  write-block.Post,
+  write-run-below t,
+  write-run.Post,
+) (write-run-at t) write-run.Post
+write-run-mul-write-run-2 t c =
+    omega (arith, c .before .before .before .write-block .ensures .inside, c .before .before .before .before .before .before .before .before .before .before .before .before .before .before .before .good .1 .1 .1 .1 .1 .1 .1 .0 .1)
+
+-- src/lib.rt:203:82
 write-run-sub-write-run-2 : (t : ℕ) → write-run-lts.Need-sub-write-run-2 (
   count-block-reads.Asked,
   count-block-reads.Learnt,
@@ -750,7 +790,7 @@ write-run-sub-write-run-2 : (t : ℕ) → write-run-lts.Need-sub-write-run-2 (
 ) (write-run-at t) write-run.Post
 write-run-sub-write-run-2 t c = search needs
 
--- src/lib.rt:151:55
+-- src/lib.rt:203:82
 write-run-part-write-run-start : (t : ℕ) → write-run-lts.Need-part-write-run-start (
   count-block-reads.Asked,
   count-block-reads.Learnt,
@@ -763,7 +803,7 @@ write-run-part-write-run-start : (t : ℕ) → write-run-lts.Need-part-write-run
 ) (write-run-at t) write-run.Post
 write-run-part-write-run-start t c = search needs
 
--- src/lib.rt:151:55
+-- src/lib.rt:203:82
 write-run-part-write-run-end : (t : ℕ) → write-run-lts.Need-part-write-run-end (
   count-block-reads.Asked,
   count-block-reads.Learnt,
@@ -776,7 +816,7 @@ write-run-part-write-run-end : (t : ℕ) → write-run-lts.Need-part-write-run-e
 ) (write-run-at t) write-run.Post
 write-run-part-write-run-end t c = search needs
 
--- src/lib.rt:151:9
+-- src/lib.rt:203:9
 write-run-write-run-requires : (t : ℕ) → write-run-lts.Need-write-run-requires (
   count-block-reads.Asked,
   count-block-reads.Learnt,
@@ -788,9 +828,9 @@ write-run-write-run-requires : (t : ℕ) → write-run-lts.Need-write-run-requir
   write-run.Post,
 ) (write-run-at t) write-run.Post
 write-run-write-run-requires t c κs =
-    (search needs, (search needs, room-right _ _ _ _ _ _ (run-parts (c .before .before .before .before .before .before .before .before .before .before .before .before .before .before .args .codes .now) (c .before .before .before .before .before .before .before .before .before .before .before .before .before .before .args .ids .now) (c .before .before .before .before .before .before .before .before .before .before .before .before .before .before .args .at) (c .before .before .before .before .before .before .before .before .before .before .before .before .before .before .args .k) (c .before .before .before .before .before .before .before .before .before .before .before .before .before .before .args .left) (c .before .before .before .before .before .before .count-block .result) (c .before .before .before .before .before .count-run .result) (c .before .before .before .before .before .before .before .before .before .before .if1 .left) (c .before .before .before .before .before .before .before .before .before .if2 .left) (c .before .before .before .before .before .before .before .if3 .left) (c .before .before .before .before .before .before .count-block .ensures) (c .before .before .before .before .before .count-run .ensures)) (c .before .before .before .before .before .before .before .before .before .before .before .before .before .before .pre .1 .1) _ _ (c .before .before .before .write-block .ensures)))
+    (search needs, (search needs, room-right _ _ _ _ _ _ _ (run-parts (c .before .before .before .before .before .before .before .before .before .before .before .before .before .before .before .before .args .codes .now) (c .before .before .before .before .before .before .before .before .before .before .before .before .before .before .before .before .args .words .now) (c .before .before .before .before .before .before .before .before .before .before .before .before .before .before .before .before .args .marks .now) (c .before .before .before .before .before .before .before .before .before .before .before .before .before .before .before .before .args .seen) (c .before .before .before .before .before .before .before .before .before .before .before .before .before .before .before .before .args .at) (c .before .before .before .before .before .before .before .before .before .before .before .before .before .before .before .before .args .k) (c .before .before .before .before .before .before .before .before .before .before .before .before .before .before .before .before .args .left) (c .before .before .before .before .before .before .before .count-block .result) (c .before .before .before .before .before .before .count-run .result) (c .before .before .before .before .before .before .before .before .before .before .before .if1 .left) (c .before .before .before .before .before .before .before .before .before .before .if2 .left) (c .before .before .before .before .before .before .before .before .if3 .left) (c .before .before .before .before .before .before .before .count-block .ensures) (c .before .before .before .before .before .before .count-run .ensures)) (c .before .before .before .before .before .before .before .before .before .before .before .before .before .before .before .before .pre .1 .1) _ _ (c .before .before .before .before .write-block .ensures)))
 
--- src/lib.rt:151:5
+-- src/lib.rt:203:5
 write-run-add-result : (t : ℕ) → write-run-lts.Need-add-result (
   count-block-reads.Asked,
   count-block-reads.Learnt,
@@ -802,9 +842,9 @@ write-run-add-result : (t : ℕ) → write-run-lts.Need-add-result (
   write-run.Post,
 ) (write-run-at t) write-run.Post
 write-run-add-result t c =
-    omega (arith, (wrote-both _ _ _ _ _ _ (run-parts (c .before .before .before .before .before .before .before .before .before .before .before .before .before .before .before .before .before .args .codes .now) (c .before .before .before .before .before .before .before .before .before .before .before .before .before .before .before .before .before .args .ids .now) (c .before .before .before .before .before .before .before .before .before .before .before .before .before .before .before .before .before .args .at) (c .before .before .before .before .before .before .before .before .before .before .before .before .before .before .before .before .before .args .k) (c .before .before .before .before .before .before .before .before .before .before .before .before .before .before .before .before .before .args .left) (c .before .before .before .before .before .before .before .before .before .count-block .result) (c .before .before .before .before .before .before .before .before .count-run .result) (c .before .before .before .before .before .before .before .before .before .before .before .before .before .if1 .left) (c .before .before .before .before .before .before .before .before .before .before .before .before .if2 .left) (c .before .before .before .before .before .before .before .before .before .before .if3 .left) (c .before .before .before .before .before .before .before .before .before .count-block .ensures) (c .before .before .before .before .before .before .before .before .count-run .ensures)) (c .before .before .before .before .before .before .before .before .before .before .before .before .before .before .before .before .before .pre .1 .1) _ _ (c .before .before .before .before .before .before .write-block .ensures) _ _ (c .before .before .write-run .ensures)) .inside, c .before .before .before .before .before .before .before .before .before .before .before .before .before .before .before .before .before .good .1 .1 .1 .1 .1 .0 .0)
+    omega (arith, (wrote-both _ _ _ _ _ _ _ (run-parts (c .before .before .before .before .before .before .before .before .before .before .before .before .before .before .before .before .before .before .before .args .codes .now) (c .before .before .before .before .before .before .before .before .before .before .before .before .before .before .before .before .before .before .before .args .words .now) (c .before .before .before .before .before .before .before .before .before .before .before .before .before .before .before .before .before .before .before .args .marks .now) (c .before .before .before .before .before .before .before .before .before .before .before .before .before .before .before .before .before .before .before .args .seen) (c .before .before .before .before .before .before .before .before .before .before .before .before .before .before .before .before .before .before .before .args .at) (c .before .before .before .before .before .before .before .before .before .before .before .before .before .before .before .before .before .before .before .args .k) (c .before .before .before .before .before .before .before .before .before .before .before .before .before .before .before .before .before .before .before .args .left) (c .before .before .before .before .before .before .before .before .before .before .count-block .result) (c .before .before .before .before .before .before .before .before .before .count-run .result) (c .before .before .before .before .before .before .before .before .before .before .before .before .before .before .if1 .left) (c .before .before .before .before .before .before .before .before .before .before .before .before .before .if2 .left) (c .before .before .before .before .before .before .before .before .before .before .before .if3 .left) (c .before .before .before .before .before .before .before .before .before .before .count-block .ensures) (c .before .before .before .before .before .before .before .before .before .count-run .ensures)) (c .before .before .before .before .before .before .before .before .before .before .before .before .before .before .before .before .before .before .before .pre .1 .1) _ _ (c .before .before .before .before .before .before .before .write-block .ensures) _ _ (c .before .before .write-run .ensures)) .inside, c .before .before .before .before .before .before .before .before .before .before .before .before .before .before .before .before .before .before .before .good .1 .1 .1 .1 .1 .1 .1 .0 .0)
 
--- src/lib.rt:133:1
+-- src/lib.rt:176:1
 write-run-same-length : (t : ℕ) → write-run-lts.Need-same-length (
   count-block-reads.Asked,
   count-block-reads.Learnt,
@@ -817,7 +857,7 @@ write-run-same-length : (t : ℕ) → write-run-lts.Need-same-length (
 ) (write-run-at t) write-run.Post
 write-run-same-length t c = search needs
 
--- src/lib.rt:133:1
+-- src/lib.rt:176:1
 write-run-returns-4 : (t : ℕ) → write-run-lts.Need-returns-4 (
   count-block-reads.Asked,
   count-block-reads.Learnt,
@@ -829,12 +869,12 @@ write-run-returns-4 : (t : ℕ) → write-run-lts.Need-returns-4 (
   write-run.Post,
 ) (write-run-at t) write-run.Post
 write-run-returns-4 t c =
-    wrote-both _ _ _ _ _ _ (run-parts (c .before .before .before .before .before .before .before .before .before .before .before .before .before .before .before .before .before .args .codes .now) (c .before .before .before .before .before .before .before .before .before .before .before .before .before .before .before .before .before .args .ids .now) (c .before .before .before .before .before .before .before .before .before .before .before .before .before .before .before .before .before .args .at) (c .before .before .before .before .before .before .before .before .before .before .before .before .before .before .before .before .before .args .k) (c .before .before .before .before .before .before .before .before .before .before .before .before .before .before .before .before .before .args .left) (c .before .before .before .before .before .before .before .before .before .count-block .result) (c .before .before .before .before .before .before .before .before .count-run .result) (c .before .before .before .before .before .before .before .before .before .before .before .before .before .if1 .left) (c .before .before .before .before .before .before .before .before .before .before .before .before .if2 .left) (c .before .before .before .before .before .before .before .before .before .before .if3 .left) (c .before .before .before .before .before .before .before .before .before .count-block .ensures) (c .before .before .before .before .before .before .before .before .count-run .ensures)) (c .before .before .before .before .before .before .before .before .before .before .before .before .before .before .before .before .before .pre .1 .1) _ _ (c .before .before .before .before .before .before .write-block .ensures) _ _ (c .before .before .write-run .ensures)
+    wrote-both _ _ _ _ _ _ _ (run-parts (c .before .before .before .before .before .before .before .before .before .before .before .before .before .before .before .before .before .before .before .args .codes .now) (c .before .before .before .before .before .before .before .before .before .before .before .before .before .before .before .before .before .before .before .args .words .now) (c .before .before .before .before .before .before .before .before .before .before .before .before .before .before .before .before .before .before .before .args .marks .now) (c .before .before .before .before .before .before .before .before .before .before .before .before .before .before .before .before .before .before .before .args .seen) (c .before .before .before .before .before .before .before .before .before .before .before .before .before .before .before .before .before .before .before .args .at) (c .before .before .before .before .before .before .before .before .before .before .before .before .before .before .before .before .before .before .before .args .k) (c .before .before .before .before .before .before .before .before .before .before .before .before .before .before .before .before .before .before .before .args .left) (c .before .before .before .before .before .before .before .before .before .before .count-block .result) (c .before .before .before .before .before .before .before .before .before .count-run .result) (c .before .before .before .before .before .before .before .before .before .before .before .before .before .before .if1 .left) (c .before .before .before .before .before .before .before .before .before .before .before .before .before .if2 .left) (c .before .before .before .before .before .before .before .before .before .before .before .if3 .left) (c .before .before .before .before .before .before .before .before .before .before .count-block .ensures) (c .before .before .before .before .before .before .before .before .before .count-run .ensures)) (c .before .before .before .before .before .before .before .before .before .before .before .before .before .before .before .before .before .before .before .pre .1 .1) _ _ (c .before .before .before .before .before .before .before .write-block .ensures) _ _ (c .before .before .write-run .ensures)
 
 pub +write-block+write-run-spec : {M : Type 1} → statement M
 +write-block+write-run-spec = close μ-write-block μ-write-run (λ t. write-block-lts.spec (
-  wide-reads.Asked,
-  wide-reads.Learnt,
+  word-with-reads.Asked,
+  word-with-reads.Learnt,
   count-run-reads.Asked,
   count-run-reads.Learnt,
   write-run-below t,
@@ -845,8 +885,9 @@ pub +write-block+write-run-spec : {M : Type 1} → statement M
     (write-block-at t)
     write-block.Post
     (write-block-shared-slice-read-if1 t)
-    (write-block-shared-slice-read-wide t)
-    (write-block-wide-requires t)
+    (write-block-mul-word-with t)
+    (write-block-shared-slice-read-word-with t)
+    (write-block-word-with-requires t)
     (write-block-slice-write-out t)
     (write-block-same-length t)
     (write-block-returns t)
@@ -905,9 +946,11 @@ pub +write-block+write-run-spec : {M : Type 1} → statement M
     (write-run-sub-write-block t)
     (write-run-div-write-block t)
     (write-run-write-block-requires t)
+    (write-run-mul-write-run t)
+    (write-run-shared-slice-read-write-run t)
     (write-run-sub-write-run t)
     (write-run-rem-write-run t)
-    (write-run-mul-write-run t)
+    (write-run-mul-write-run-2 t)
     (write-run-sub-write-run-2 t)
     (write-run-part-write-run-start t)
     (write-run-part-write-run-end t)

@@ -16,16 +16,16 @@ use Rattle.unfolder.proofs.write_run.Reads as write-run-reads
 use Rattle.unfolder.proofs.+write_rows.{statement}
 use Rattle.unfolder.proofs.+write_rows.Tie.{close}
 
-abbrev μ-write-rows : Measures 3 write-rows-kinds.ps ℕ
-μ-write-rows κs a = a .1 .1 .1 .1 .1 .0 - a .1 .1 .1 .1 .0
+abbrev μ-write-rows : Measures 4 write-rows-kinds.ps ℕ
+μ-write-rows κs a = a .1 .1 .1 .1 .1 .1 .0 - a .1 .1 .1 .1 .1 .0
 
-abbrev write-rows-at : ℕ → In 3 write-rows-kinds.ps
+abbrev write-rows-at : ℕ → In 4 write-rows-kinds.ps
 write-rows-at t =
-    and 3 write-rows-kinds.ps (is 3 write-rows-kinds.ps μ-write-rows t) write-rows.Pre
+    and 4 write-rows-kinds.ps (is 4 write-rows-kinds.ps μ-write-rows t) write-rows.Pre
 
-abbrev write-rows-below : ℕ → In 3 write-rows-kinds.ps
+abbrev write-rows-below : ℕ → In 4 write-rows-kinds.ps
 write-rows-below t =
-    and 3 write-rows-kinds.ps (falls 3 write-rows-kinds.ps _<_ μ-write-rows t) write-rows.Pre
+    and 4 write-rows-kinds.ps (falls 4 write-rows-kinds.ps _<_ μ-write-rows t) write-rows.Pre
 
 -- src/lib.rt:287:9
 write-rows-returns : (t : ℕ) → write-rows-lts.Need-returns (
@@ -37,7 +37,7 @@ write-rows-returns : (t : ℕ) → write-rows-lts.Need-returns (
   write-rows.Post,
 ) (write-rows-at t) write-rows.Post
 write-rows-returns t c =
-    rowed-nothing _ _ _ (rows-end (row (c .before .before .before .before .args .program) (c .before .before .before .before .args .codes .now) (c .before .before .before .before .args .ids .now) (c .before .before .before .before .args .at) (c .before .before .before .before .args .left)) (c .before .before .before .before .args .k) (c .before .before .before .before .args .n) (c .if1 .taken))
+    rowed-nothing _ _ _ (rows-end (row (c .before .before .before .before .before .args .program) (c .before .before .before .before .before .args .codes .now) (c .before .before .before .before .before .args .words .now) (c .before .before .before .before .before .args .marks .now) (c .before .before .before .before .before .args .at) (c .before .before .before .before .before .args .left)) (c .before .before .before .before .before .args .k) (c .before .before .before .before .before .args .n) (c .if1 .taken))
 
 -- src/lib.rt:289:9
 write-rows-write-run-requires : (t : ℕ) → write-rows-lts.Need-write-run-requires (
@@ -50,7 +50,7 @@ write-rows-write-run-requires : (t : ℕ) → write-rows-lts.Need-write-run-requ
 ) (write-rows-at t) write-rows.Post
 unfolding row
 write-rows-write-run-requires t c κs =
-    (search needs, row-room _ _ _ _ _ (rows-step (row (c .before .before .before .before .before .args .program) (c .before .before .before .before .before .args .codes .now) (c .before .before .before .before .before .args .ids .now) (c .before .before .before .before .before .args .at) (c .before .before .before .before .before .args .left)) (c .before .before .before .before .before .args .k) (c .before .before .before .before .before .args .n) (c .before .if1 .left)) (c .before .before .before .before .before .args .t) _ (c .before .before .before .before .before .pre .1 .1))
+    (search needs, row-room _ _ _ _ _ _ (rows-step (row (c .before .before .before .before .before .before .args .program) (c .before .before .before .before .before .before .args .codes .now) (c .before .before .before .before .before .before .args .words .now) (c .before .before .before .before .before .before .args .marks .now) (c .before .before .before .before .before .before .args .at) (c .before .before .before .before .before .before .args .left)) (c .before .before .before .before .before .before .args .k) (c .before .before .before .before .before .before .args .n) (c .before .if1 .left)) (c .before .before .before .before .before .before .args .t) _ (c .before .before .before .before .before .before .pre .1 .1))
 
 -- src/lib.rt:290:9
 write-rows-add-requires : (t : ℕ) → write-rows-lts.Need-add-requires (
@@ -63,7 +63,7 @@ write-rows-add-requires : (t : ℕ) → write-rows-lts.Need-add-requires (
 ) (write-rows-at t) write-rows.Post
 unfolding row
 write-rows-add-requires t c κs =
-    (row-cell _ _ _ _ _ (rows-step (row (c .before .before .before .before .before .before .before .before .args .program) (c .before .before .before .before .before .before .before .before .args .codes .now) (c .before .before .before .before .before .before .before .before .args .ids .now) (c .before .before .before .before .before .before .before .before .args .at) (c .before .before .before .before .before .before .before .before .args .left)) (c .before .before .before .before .before .before .before .before .args .k) (c .before .before .before .before .before .before .before .before .args .n) (c .before .before .before .before .if1 .left)) (c .before .before .before .before .before .before .before .before .args .t) _ (c .before .before .before .before .before .before .before .before .pre .1 .1), row-places _ _ _ _ _ (rows-step (row (c .before .before .before .before .before .before .before .before .args .program) (c .before .before .before .before .before .before .before .before .args .codes .now) (c .before .before .before .before .before .before .before .before .args .ids .now) (c .before .before .before .before .before .before .before .before .args .at) (c .before .before .before .before .before .before .before .before .args .left)) (c .before .before .before .before .before .before .before .before .args .k) (c .before .before .before .before .before .before .before .before .args .n) (c .before .before .before .before .if1 .left)) (c .before .before .before .before .before .before .before .before .args .t) _ (c .before .before .before .before .before .before .before .before .pre .1 .1) _ _ (c .before .before .write-run .ensures))
+    (row-cell _ _ _ _ _ _ (rows-step (row (c .before .before .before .before .before .before .before .before .before .args .program) (c .before .before .before .before .before .before .before .before .before .args .codes .now) (c .before .before .before .before .before .before .before .before .before .args .words .now) (c .before .before .before .before .before .before .before .before .before .args .marks .now) (c .before .before .before .before .before .before .before .before .before .args .at) (c .before .before .before .before .before .before .before .before .before .args .left)) (c .before .before .before .before .before .before .before .before .before .args .k) (c .before .before .before .before .before .before .before .before .before .args .n) (c .before .before .before .before .if1 .left)) (c .before .before .before .before .before .before .before .before .before .args .t) _ (c .before .before .before .before .before .before .before .before .before .pre .1 .1), row-places _ _ _ _ _ _ (rows-step (row (c .before .before .before .before .before .before .before .before .before .args .program) (c .before .before .before .before .before .before .before .before .before .args .codes .now) (c .before .before .before .before .before .before .before .before .before .args .words .now) (c .before .before .before .before .before .before .before .before .before .args .marks .now) (c .before .before .before .before .before .before .before .before .before .args .at) (c .before .before .before .before .before .before .before .before .before .args .left)) (c .before .before .before .before .before .before .before .before .before .args .k) (c .before .before .before .before .before .before .before .before .before .args .n) (c .before .before .before .before .if1 .left)) (c .before .before .before .before .before .before .before .before .before .args .t) _ (c .before .before .before .before .before .before .before .before .before .pre .1 .1) _ _ (c .before .before .write-run .ensures))
 
 -- src/lib.rt:291:38
 write-rows-add-write-rows : (t : ℕ) → write-rows-lts.Need-add-write-rows (
@@ -131,7 +131,7 @@ write-rows-write-rows-requires : (t : ℕ) → write-rows-lts.Need-write-rows-re
 ) (write-rows-at t) write-rows.Post
 unfolding row
 write-rows-write-rows-requires t c κs =
-    (search needs, (search needs, more-rows _ _ _ _ _ (rows-step (row (c .before .before .before .before .before .before .before .before .before .before .args .program) (c .before .before .before .before .before .before .before .before .before .before .args .codes .now) (c .before .before .before .before .before .before .before .before .before .before .args .ids .now) (c .before .before .before .before .before .before .before .before .before .before .args .at) (c .before .before .before .before .before .before .before .before .before .before .args .left)) (c .before .before .before .before .before .before .before .before .before .before .args .k) (c .before .before .before .before .before .before .before .before .before .before .args .n) (c .before .before .before .before .before .before .if1 .left)) (c .before .before .before .before .before .before .before .before .before .before .args .t) _ (c .before .before .before .before .before .before .before .before .before .before .pre .1 .1) _ _ (c .before .before .before .before .write-run .ensures) _ (c .before .add .ensures)))
+    (search needs, (search needs, more-rows _ _ _ _ _ _ (rows-step (row (c .before .before .before .before .before .before .before .before .before .before .before .args .program) (c .before .before .before .before .before .before .before .before .before .before .before .args .codes .now) (c .before .before .before .before .before .before .before .before .before .before .before .args .words .now) (c .before .before .before .before .before .before .before .before .before .before .before .args .marks .now) (c .before .before .before .before .before .before .before .before .before .before .before .args .at) (c .before .before .before .before .before .before .before .before .before .before .before .args .left)) (c .before .before .before .before .before .before .before .before .before .before .before .args .k) (c .before .before .before .before .before .before .before .before .before .before .before .args .n) (c .before .before .before .before .before .before .if1 .left)) (c .before .before .before .before .before .before .before .before .before .before .before .args .t) _ (c .before .before .before .before .before .before .before .before .before .before .before .pre .1 .1) _ _ (c .before .before .before .before .write-run .ensures) _ (c .before .add .ensures)))
 
 -- src/lib.rt:281:1
 write-rows-same-length : (t : ℕ) → write-rows-lts.Need-same-length (
@@ -155,7 +155,7 @@ write-rows-returns-2 : (t : ℕ) → write-rows-lts.Need-returns-2 (
 ) (write-rows-at t) write-rows.Post
 unfolding row
 write-rows-returns-2 t c =
-    rowed-next _ _ _ _ _ (rows-step (row (c .before .before .before .before .before .before .before .before .before .before .before .before .before .args .program) (c .before .before .before .before .before .before .before .before .before .before .before .before .before .args .codes .now) (c .before .before .before .before .before .before .before .before .before .before .before .before .before .args .ids .now) (c .before .before .before .before .before .before .before .before .before .before .before .before .before .args .at) (c .before .before .before .before .before .before .before .before .before .before .before .before .before .args .left)) (c .before .before .before .before .before .before .before .before .before .before .before .before .before .args .k) (c .before .before .before .before .before .before .before .before .before .before .before .before .before .args .n) (c .before .before .before .before .before .before .before .before .before .if1 .left)) (c .before .before .before .before .before .before .before .before .before .before .before .before .before .args .t) _ (c .before .before .before .before .before .before .before .before .before .before .before .before .before .pre .1 .1) _ _ (c .before .before .before .before .before .before .before .write-run .ensures) _ _ _ (c .before .before .before .before .add .ensures) (c .before .before .write-rows .ensures)
+    rowed-next _ _ _ _ _ _ (rows-step (row (c .before .before .before .before .before .before .before .before .before .before .before .before .before .before .args .program) (c .before .before .before .before .before .before .before .before .before .before .before .before .before .before .args .codes .now) (c .before .before .before .before .before .before .before .before .before .before .before .before .before .before .args .words .now) (c .before .before .before .before .before .before .before .before .before .before .before .before .before .before .args .marks .now) (c .before .before .before .before .before .before .before .before .before .before .before .before .before .before .args .at) (c .before .before .before .before .before .before .before .before .before .before .before .before .before .before .args .left)) (c .before .before .before .before .before .before .before .before .before .before .before .before .before .before .args .k) (c .before .before .before .before .before .before .before .before .before .before .before .before .before .before .args .n) (c .before .before .before .before .before .before .before .before .before .if1 .left)) (c .before .before .before .before .before .before .before .before .before .before .before .before .before .before .args .t) _ (c .before .before .before .before .before .before .before .before .before .before .before .before .before .before .pre .1 .1) _ _ (c .before .before .before .before .before .before .before .write-run .ensures) _ _ _ (c .before .before .before .before .add .ensures) (c .before .before .write-rows .ensures)
 
 pub +write-rows-spec : {M : Type 1} → statement M
 +write-rows-spec = close μ-write-rows λ t. write-rows-lts.spec (

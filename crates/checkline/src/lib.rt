@@ -1,0 +1,342 @@
+// The tests of a line over the state that words keep.
+use text::Line;
+use text::LineKind;
+use text::StatementKind;
+ghost use mathlib.Core.Path.{_≡_};
+ghost use mathlib.Core.Bool.{true, not, _&&_, _||_};
+ghost use Prim.Native.Nat.{_-_};
+ghost use lib.Dec.{eqb, ltb};
+ghost use Rattle.base.specs.Basic.{within as withinSet};
+ghost use Rattle.text.specs.Reading.{kindSets};
+ghost use Rattle.text.specs.declared.LineKind.the-variants.{Rl as Relation, Fk as Key, Pr as Program, St as Statement, Lo as Loop};
+ghost use Rattle.text.specs.declared.LineKind.the-variants.{Br as Branch, El as Second, En as Closing, Li as Link};
+ghost use Rattle.kept.specs.Kept.{inBodyOf, innermostOf, blocksWithinOf, linkFitsOf, checkBy, checkAs, checkOf};
+ghost use Rattle.kept.specs.Words.{stateIn, arrayIn};
+ghost use lib.ListN.{getD};
+
+// Whether all three hold.
+fn all_of(a: bool, b: bool, c: bool) -> bool
+    ensures { λ r. ⌜ r ≡ a && b && c ⌝ }
+{
+    if a {
+        if b {
+            return c;
+        }
+    }
+    false
+}
+
+// Whether the first holds, and the second or the third.
+fn one_of(a: bool, b: bool, c: bool) -> bool
+    ensures { λ r. ⌜ r ≡ a && (b || c) ⌝ }
+{
+    if a {
+        if b {
+            return true;
+        }
+        return c;
+    }
+    false
+}
+
+// A number is the sum of two.
+fn is_sum(n: u64, a: u64, b: u64) -> bool
+    ensures { λ r. ⌜ r ≡ (not (ltb n a) && eqb (n - a) b) ⌝ }
+{
+    if n < a {
+        return false;
+    }
+    n - a == b
+}
+
+// Room for a line of the program at hand; before the first program none is asked.
+fn room_own(programs: u64, a: u64, most: u64, b: u64, more: u64) -> bool
+    ensures { λ r. ⌜ r ≡ eqb programs 0 || (ltb a most && ltb b more) ⌝ }
+{
+    if programs == 0 {
+        return true;
+    }
+    if a < most {
+        return b < more;
+    }
+    false
+}
+
+// A program has begun, and its links have not.
+fn in_body(words: &[u64]) -> bool
+    ensures { λ r. ⌜ r ≡ inBodyOf (getD (now (words .entry)) 417 0) (getD (now (words .entry)) 419 0) ⌝ }
+{
+    if kept::word(words, kept::PROGRAMS) == 0 {
+        return false;
+    }
+    kept::word(words, kept::LINKS) == 0
+}
+
+// The innermost open block is of this part.
+fn innermost(words: &[u64], part: u64) -> bool
+    ensures { λ r. ⌜ r ≡ innermostOf (stateIn (now (words .entry)) .stack) part ⌝ }
+{
+    let d = kept::word(words, kept::DEPTH);
+    if d == 0 {
+        return false;
+    }
+    kept::cell(words, kept::OPEN_PARTS, d) == part
+}
+
+// The number of the first test that fails, in the order of document 01; 0 where none does.
+fn verdict(room: bool, ordered: bool, named: bool, sets: bool, link: bool, fits: bool) -> u8
+    ensures { λ r. ⌜ r ≡ checkBy room ordered named sets link fits ⌝ }
+{
+    if !room {
+        return 9;
+    }
+    if !ordered {
+        return 7;
+    }
+    if !named {
+        return 6;
+    }
+    if !sets {
+        return 5;
+    }
+    if link {
+        if !fits {
+            return 8;
+        }
+    }
+    0
+}
+
+fn check_relation(words: &[u64], l: Line) -> u8
+    ensures { λ r. ⌜ r ≡ checkAs (stateIn (now (words .entry))) l Relation ⌝ }
+{
+    let lines = kept::word(words, kept::LINES);
+    let relations = kept::word(words, kept::RELATIONS);
+    verdict(
+        relations < 32,
+        lines == relations,
+        l.id as u64 == relations,
+        l.reads != 0,
+        false,
+        true,
+    )
+}
+
+fn check_key(words: &[u64], l: Line) -> u8
+    ensures { λ r. ⌜ r ≡ checkAs (stateIn (now (words .entry))) l Key ⌝ }
+{
+    let lines = kept::word(words, kept::LINES);
+    let relations = kept::word(words, kept::RELATIONS);
+    let keys = kept::word(words, kept::KEYS);
+    let ordered = is_sum(lines, relations, keys);
+    let named = all_of(
+        l.id as u64 == keys,
+        (l.rel as u64) < relations,
+        (l.to as u64) < relations,
+    );
+    verdict(keys < 32, ordered, named, true, false, true)
+}
+
+fn check_program(words: &[u64], l: Line) -> u8
+    ensures { λ r. ⌜ r ≡ checkAs (stateIn (now (words .entry))) l Program ⌝ }
+{
+    let programs = kept::word(words, kept::PROGRAMS);
+    let depth = kept::word(words, kept::DEPTH);
+    verdict(
+        programs < 16,
+        depth == 0,
+        l.id as u64 == programs,
+        true,
+        false,
+        true,
+    )
+}
+
+fn within(x: u64, y: u64) -> bool
+    ensures { λ r. ⌜ r ≡ withinSet x y ⌝ }
+{
+    x & y == x
+}
+
+fn kind_sets(whole: u64, kind: StatementKind, l: Line) -> bool
+    ensures { λ r. ⌜ r ≡ kindSets whole kind l ⌝ }
+{
+    match kind {
+        StatementKind::Is => l.writes == whole,
+        StatementKind::Ks => l.reads != 0,
+        StatementKind::Ps => true,
+        StatementKind::Ku => l.writes != 0,
+        StatementKind::Pu => l.writes != 0,
+        StatementKind::Kd => l.writes == whole,
+        StatementKind::Pd => l.writes == whole,
+    }
+}
+
+// The sets of a statement over a relation with this set.
+fn sets_fit(whole: u64, kind: StatementKind, l: Line) -> bool
+    ensures { λ r. ⌜
+        r ≡ ((withinSet (l .reads) whole && withinSet (l .writes) whole && withinSet (l .tests) whole) && kindSets whole kind l && true)
+        ⌝ }
+{
+    let inside = all_of(
+        within(l.reads, whole),
+        within(l.writes, whole),
+        within(l.tests, whole),
+    );
+    all_of(inside, kind_sets(whole, kind, l), true)
+}
+
+fn check_statement(words: &[u64], kind: StatementKind, l: Line) -> u8
+    ensures { λ r. ⌜ r ≡ checkAs (stateIn (now (words .entry))) l (Statement kind) ⌝ }
+{
+    let programs = kept::word(words, kept::PROGRAMS);
+    let statements = kept::word(words, kept::STATEMENTS);
+    let body = kept::word(words, kept::BODY);
+    let relations = kept::word(words, kept::RELATIONS);
+    let whole = kept::cell(words, kept::SETS, l.rel as u64);
+    let room = room_own(programs, statements, 32, body, 64);
+    let named = all_of(l.id as u64 == statements, (l.rel as u64) < relations, true);
+    verdict(
+        room,
+        in_body(words),
+        named,
+        sets_fit(whole, kind, l),
+        false,
+        true,
+    )
+}
+
+// A loop or a branch begins.
+fn check_opening(words: &[u64], l: Line) -> u8
+    ensures { λ r. ⌜ (r ≡ checkAs (stateIn (now (words .entry))) l Loop) × (r ≡ checkAs (stateIn (now (words .entry))) l Branch) ⌝ }
+{
+    let programs = kept::word(words, kept::PROGRAMS);
+    let body = kept::word(words, kept::BODY);
+    let depth = kept::word(words, kept::DEPTH);
+    verdict(
+        room_own(programs, body, 64, depth, 8),
+        in_body(words),
+        true,
+        true,
+        false,
+        true,
+    )
+}
+
+fn check_second(words: &[u64], l: Line) -> u8
+    ensures { λ r. ⌜ r ≡ checkAs (stateIn (now (words .entry))) l Second ⌝ }
+{
+    let programs = kept::word(words, kept::PROGRAMS);
+    let body = kept::word(words, kept::BODY);
+    let ordered = all_of(in_body(words), innermost(words, 1), true);
+    verdict(
+        room_own(programs, 0, 1, body, 64),
+        ordered,
+        true,
+        true,
+        false,
+        true,
+    )
+}
+
+fn check_closing(words: &[u64], l: Line) -> u8
+    ensures { λ r. ⌜ r ≡ checkAs (stateIn (now (words .entry))) l Closing ⌝ }
+{
+    let programs = kept::word(words, kept::PROGRAMS);
+    let body = kept::word(words, kept::BODY);
+    let ordered = one_of(in_body(words), innermost(words, 0), innermost(words, 2));
+    verdict(
+        room_own(programs, 0, 1, body, 64),
+        ordered,
+        true,
+        true,
+        false,
+        true,
+    )
+}
+
+// Two cells of an array as sets: the first within the second.
+fn cell_within(words: &[u64], from: usize, parent: u64, child: u64) -> bool
+    ensures { λ r. ⌜
+        r ≡ withinSet (getD (arrayIn (now (words .entry)) from) parent 0) (getD (arrayIn (now (words .entry)) from) child 0)
+        ⌝ }
+{
+    within(
+        kept::cell(words, from, parent),
+        kept::cell(words, from, child),
+    )
+}
+
+// The blocks around the first statement are around the second.
+fn blocks_within(words: &[u64], parent: u64, child: u64) -> bool
+    ensures { λ r. ⌜ r ≡ blocksWithinOf (stateIn (now (words .entry)) .statements) parent child ⌝ }
+{
+    all_of(
+        cell_within(words, kept::AROUND_LOOPS, parent, child),
+        cell_within(words, kept::AROUND_FIRSTS, parent, child),
+        cell_within(words, kept::AROUND_SECONDS, parent, child),
+    )
+}
+
+// Two cells of two arrays are equal.
+fn same_cell(words: &[u64], a: usize, i: u64, b: usize, j: u64) -> bool
+    ensures { λ r. ⌜ r ≡ eqb (getD (arrayIn (now (words .entry)) a) i 0) (getD (arrayIn (now (words .entry)) b) j 0) ⌝ }
+{
+    kept::cell(words, a, i) == kept::cell(words, b, j)
+}
+
+fn link_fits(words: &[u64], l: Line) -> bool
+    ensures { λ r. ⌜ r ≡ linkFitsOf (stateIn (now (words .entry)) .tables) (stateIn (now (words .entry)) .statements) l ⌝ }
+{
+    let id = l.id as u64;
+    let child = l.rel as u64;
+    let parent = l.to as u64;
+    let relations = all_of(
+        same_cell(words, kept::STATEMENT_RELATIONS, child, kept::CHILDREN, id),
+        same_cell(words, kept::STATEMENT_RELATIONS, parent, kept::PARENTS, id),
+        kept::cell(words, kept::PARENTAL, parent) == 1,
+    );
+    all_of(relations, blocks_within(words, parent, child), true)
+}
+
+fn check_link(words: &[u64], l: Line) -> u8
+    ensures { λ r. ⌜ r ≡ checkAs (stateIn (now (words .entry))) l Link ⌝ }
+{
+    let programs = kept::word(words, kept::PROGRAMS);
+    let links = kept::word(words, kept::LINKS);
+    let depth = kept::word(words, kept::DEPTH);
+    let keys = kept::word(words, kept::KEYS);
+    let statements = kept::word(words, kept::STATEMENTS);
+    let ordered = all_of(programs != 0, depth == 0, true);
+    let named = all_of(
+        (l.id as u64) < keys,
+        (l.rel as u64) < statements,
+        (l.to as u64) < statements,
+    );
+    verdict(
+        room_own(programs, 0, 1, links, 32),
+        ordered,
+        named,
+        true,
+        true,
+        link_fits(words, l),
+    )
+}
+
+// The number of the first test that the line fails, 0 where it passes all.
+pub fn check(words: &[u64], l: Line) -> u8
+    ensures { λ r. ⌜ r ≡ checkOf (stateIn (now (words .entry))) l ⌝ }
+{
+    let kind = l.kind;
+    match kind {
+        LineKind::Rl => check_relation(words, l),
+        LineKind::Fk => check_key(words, l),
+        LineKind::Pr => check_program(words, l),
+        LineKind::St(j) => check_statement(words, j, l),
+        LineKind::Lo => check_opening(words, l),
+        LineKind::Br => check_opening(words, l),
+        LineKind::El => check_second(words, l),
+        LineKind::En => check_closing(words, l),
+        LineKind::Li => check_link(words, l),
+    }
+}

@@ -1,0 +1,156 @@
+-- From what the parts promise to what the verdict promises.
+use mathlib.Core.Bool.{Bool, true, false, cond, not}
+use mathlib.Core.List.{List, [], _∷_, _++_, flatMap}
+use mathlib.Core.Logic.{_⊎_, inl, inr}
+use mathlib.Core.Option.{Option, none, some, Option·none-ne-some}
+use mathlib.Core.Path.{_≡_, refl, sym, ap, subst, _∙_}
+use Prim.Native.Nat.{ℕ, zero, suc, _*_, _/_, _≤_, _<_}
+use native.Mathlib.Omega.{arith}
+use native.Mathlib.Numerals.{unary-clauses}
+use lib.Dec.{eqb, ltb}
+use lib.ListN.{length, take}
+use borrow.Author.Tests.{ltb-true, ltb-false, lt-ltb, le-ltb, eq-eqb, ne-eqb}
+use Rattle.base.specs.BoolLaws.{or-false, true-false}
+use Rattle.text.specs.declared.Line.{Line}
+use Rattle.text.specs.declared.Workload.{Workload}
+use Rattle.text.specs.Value.{Given, linesOf}
+use Rattle.graph.specs.Graph.{Graph}
+use Rattle.graph.specs.Unfolding.{nodesOf}
+use Rattle.graph.specs.Walk.{Step, isDangerous}
+use Rattle.soundness.specs.Theorem.{demand-3}
+use Rattle.report.specs.State.{StateRefusal, shortForWalk, statementsIn, tooMany, Counts, countsOf, summaryGraph, Danger, Robust}
+use Rattle.report.specs.State.StateRefusal.{not-given, too-many, too-short, taken}
+use Rattle.detector.specs.Table.{tableWalk, shownWalk, shownIn, Shown, Answered}
+use Rattle.unfolder.specs.Settled.{refusalOf}
+use Rattle.rows.specs.declared.Rows.{Rows}
+use Rattle.rows.specs.Rows.{RowsSettled}
+use Rattle.rows.specs.Whole.{Whole, whole-refused, whole-filled}
+use Rattle.picking.specs.declared.Picks.{Picks}
+use Rattle.picking.specs.Picks.{picksOf}
+use Rattle.deciding.specs.Verdict.{PickedVerdict, given-picked}
+use Rattle.detector.specs.declared.Found.{Found}
+use Rattle.judging.specs.declared.Verdict.{Verdict}
+use Rattle.judging.specs.Verdict.{refusedWith, robustWith, dangerWith, Word, Judged}
+use Rattle.judging.specs.Verdict.Word.{robust, danger}
+
+abbrev pub counted : ℕ → ℕ → ℕ → ℕ → Counts
+counted programs nodes edges back = record { programs = programs; nodes = nodes; edges = edges; back = back }
+
+-- the verdict's numbers as the code makes them: danger where the walk has a step
+unfoldable pub told : Counts → ℕ → Verdict
+told c steps =
+    record {
+      refusal = 0;
+      danger = not (eqb steps 0);
+      programs = c .programs;
+      nodes = c .nodes;
+      edges = c .edges;
+      back = c .back;
+      steps = steps;
+    }
+
+-- a refusal leaves the area
+pub judged-refused : (w : Workload) (before : List ℕ) (r : Verdict) (n : ℕ)
+    → StateRefusal w (shortForWalk (length before / 4)) (some (suc n)) → r ≡ refusedWith (suc n) → Judged w before r before
+unfolding refusedWith refusalOf
+judged-refused w before r n h e =
+    rw e (record {
+      refusal = h;
+      refused = λ m p. let d : suc n ≡ m = cc in (ap refusedWith d, refl);
+      judged = λ p. let z : _≡_ {A = ℕ} 0 1 = cc in absurd (omega arith);
+    })
+
+-- no refusal
+judged-taken : (w : Workload) (before : List ℕ) (r : Verdict) (after : List ℕ) → r .refusal ≡ 0
+    → StateRefusal w (shortForWalk (length before / 4)) none → Word (linesOf w) before r after → Judged w before r after
+unfolding refusalOf
+judged-taken w before r after z h word =
+    record {
+      refusal = rw z h;
+      refused = λ m p. let q : _≡_ {A = Option ℕ} none (some m) = rw z at p in let x : _≡_ {A = ℕ} 0 1 = cc in absurd (omega arith);
+      judged = λ p. word;
+    }
+
+-- no walk without a step is dangerous
+not-empty : (g : Graph) (walk : List Step) → isDangerous g walk ≡ true → (n : ℕ) → n ≡ length walk → eqb n 0 ≡ false
+unfolding isDangerous
+not-empty g [] d n e = let z : _≡_ {A = ℕ} 0 1 = cc in absurd (omega arith)
+not-empty g (s ∷ walk) d n e = ne-eqb n 0 (λ z. omega arith)
+
+-- no step leaves the area as it was
+nothing-shown : (before : List ℕ) → shownIn [] before ≡ before
+unfolding shownIn flatMap
+nothing-shown before = refl
+
+module _ (w : Workload) (given : Given w) (few : tooMany (linesOf w) ≡ false) (before : List ℕ) (ahead behind : List ℕ) where
+  -- what the detector's tables show is the verdict
+  pub judged-given : shortForWalk (length before / 4) ≡ false
+      → ((isDangerous (summaryGraph (linesOf w)) (tableWalk ahead behind) ≡ true) × (length (tableWalk ahead behind) ≤ 65))
+      ⊎ ((tableWalk ahead behind ≡ []) × Robust (linesOf w))
+      → (after : List ℕ) (steps : ℕ) → Shown (shownWalk ahead behind (length before)) before after steps
+      → Judged w before (told (countsOf (linesOf w)) steps) after
+  unfolding shortForWalk shownWalk told dangerWith robustWith
+  judged-given room shows after steps shown =
+      judged-taken w before (told (countsOf (linesOf w)) steps) after refl (taken given few room) (go shows)
+    where
+      long : 260 ≤ length before
+      long = let h = ltb-false (length before / 4) 65 room in omega arith
+
+      whole : shownWalk ahead behind (length before) ≡ tableWalk ahead behind
+      whole = rw (le-ltb (length before) 260 long) refl
+
+      many : steps ≡ length (tableWalk ahead behind)
+      many = shown .count ∙ ap length whole
+
+      area : after ≡ shownIn (tableWalk ahead behind) before
+      area = shown .area ∙ ap (λ (steps : List Step). shownIn steps before) whole
+
+      go : ((isDangerous (summaryGraph (linesOf w)) (tableWalk ahead behind) ≡ true) × (length (tableWalk ahead behind) ≤ 65))
+          ⊎ ((tableWalk ahead behind ≡ []) × Robust (linesOf w))
+          → Word (linesOf w) before (told (countsOf (linesOf w)) steps) after
+      go (inl (d, short)) =
+          let word = danger (tableWalk ahead behind) d short in
+          let some-step = not-empty (summaryGraph (linesOf w)) (tableWalk ahead behind) d steps many in
+          rw (area, some-step, many) word
+      go (inr (e, safe)) =
+          let word = robust safe (λ s. demand-3 w given safe s) in
+          let no-step : steps ≡ 0 = many ∙ ap length e in
+          let same : after ≡ before = area ∙ ap (λ (steps : List Step). shownIn steps before) e ∙ nothing-shown before in
+          rw (same, no-step) word
+
+-- a refusal of the table of places is the verdict's
+pub judged-rows : (w : Workload) (table : List ℕ) (f : Rows) (filled before : List ℕ) (r : Verdict) → RowsSettled w table f filled
+    → length table ≡ 4096 → (f .refusal ≡ 0 → ⊥) → r ≡ refusedWith (f .refusal) → Judged w before r before
+judged-rows w table f filled before r settled long ne e = go (f .refusal) refl
+  where
+    go : (n : ℕ) → f .refusal ≡ n → Judged w before r before
+    go zero z = absurd (ne z)
+    go (suc n) z =
+        judged-refused w before r n (whole-refused w table f filled settled long n (shortForWalk (length before / 4)) z) (e ∙ ap refusedWith z)
+
+-- S20: an area under 65 steps, which is tested behind 21 and 22
+pub judged-short : (w : Workload) (table : List ℕ) (f : Rows) (filled before : List ℕ) (r : Verdict) → RowsSettled w table f filled
+    → length table ≡ 4096 → f .refusal ≡ 0 → length before < 260 → r ≡ refusedWith 20 → Judged w before r before
+unfolding shortForWalk
+judged-short w table f filled before r settled long z short e =
+    let whole = whole-filled w table f filled settled long z in
+    judged-refused w before r 19 (too-short (whole .given) (whole .few) (lt-ltb (length before / 4) 65 (omega arith))) e
+
+-- the counts told are the workload's
+counts-same : (w : Workload) (f : Rows) (table : List ℕ) (p : Picks) → Whole w f table → PickedVerdict (linesOf w) p
+    → counted (f .programs) (f .nodes) (p .edges) (p .back) ≡ countsOf (linesOf w)
+unfolding countsOf
+counts-same w f table p whole picked = rw (whole .programs, whole .nodes, picked .edges, picked .back) refl
+
+-- what is picked from the table, and the walk that is found in it, are the verdict
+pub judged-picked : (w : Workload) (table : List ℕ) (f : Rows) (filled before after : List ℕ) (p : Picks) (walk : Found) (r : Verdict)
+    → RowsSettled w table f filled → length table ≡ 4096 → f .refusal ≡ 0 → 260 ≤ length before
+    → p ≡ picksOf (take (f .places * 8) filled) → Answered (p .ahead) (p .behind) before after walk
+    → r ≡ told (counted (f .programs) (f .nodes) (p .edges) (p .back)) (walk .steps) → Judged w before r after
+unfolding shortForWalk
+judged-picked w table f filled before after p walk r settled long z room picked answered e =
+    let whole = whole-filled w table f filled settled long z in
+    let verdict = given-picked w p (whole .given) (whole .few) (picked ∙ ap picksOf (whole .rows)) in
+    subst (λ (v : Verdict). Judged w before v after)
+    (sym (e ∙ ap (λ (c : Counts). told c (walk .steps)) (counts-same w f filled p whole verdict)))
+    (judged-given w (whole .given) (whole .few) before (p .ahead) (p .behind) (le-ltb (length before / 4) 65 (omega arith)) (verdict .verdict) after (walk .steps) (answered .shown))

@@ -1,0 +1,70 @@
+// The verdict on a workload value: robust or danger with its counts, and a dangerous walk in the lent area; or a refusal.
+
+use rows::Rows;
+use text::Workload;
+ghost use mathlib.Core.Path.{_≡_};
+ghost use Rattle.report.specs.State.{Counts};
+ghost use Rattle.judging.specs.Verdict.{refusedWith, Judged};
+ghost use Rattle.judging.specs.VerdictLaws.{told, counted};
+
+// The refusal's number, or 0 and the verdict: danger or robust, the counts, and how many steps the shown walk has.
+pub struct Verdict {
+    pub refusal: u8,
+    pub danger: bool,
+    pub programs: u64,
+    pub nodes: u64,
+    pub edges: u64,
+    pub back: u64,
+    pub steps: u64,
+}
+
+fn refused(number: u8) -> Verdict
+    ensures { λ r. ⌜ r ≡ refusedWith number ⌝ }
+{
+    Verdict {
+        refusal: number,
+        danger: false,
+        programs: 0,
+        nodes: 0,
+        edges: 0,
+        back: 0,
+        steps: 0,
+    }
+}
+
+// The verdict without a refusal: danger where the shown walk has a step.
+fn judged(f: Rows, edges: u64, back: u64, steps: usize) -> Verdict
+    ensures { λ r. ⌜ r ≡ told (counted (f .programs) (f .nodes) edges back) steps ⌝ }
+{
+    Verdict {
+        refusal: 0,
+        danger: steps != 0,
+        programs: f.programs,
+        nodes: f.nodes,
+        edges: edges,
+        back: back,
+        steps: steps as u64,
+    }
+}
+
+// The verdict on any workload value. A dangerous walk is shown at the front of the area, four words to a step: node, place left,
+// place entered, and 0 for forward or 1 for back.
+pub fn verdict_of(w: Workload, area: &mut [u64]) -> Verdict
+    ensures { λ r. ⌜ Judged w (now (area .entry)) r (now (area .exit)) ⌝ }
+{
+    let mut table = [0u64; 4096];
+    let f = rows::fill_rows(w, &mut table);
+    let refusal = f.refusal;
+    if refusal != 0 {
+        return refused(refusal);
+    }
+    if area.len() < 260 {
+        return refused(20);
+    }
+    let n = (f.places * 8) as usize;
+    let p = picking::pick_edges(&table[..n]);
+    let ahead = p.ahead;
+    let behind = p.behind;
+    let walk = detector::find_walk(&ahead, &behind, area);
+    judged(f, p.edges, p.back, walk.steps)
+}

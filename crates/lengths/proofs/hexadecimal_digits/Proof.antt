@@ -1,0 +1,27 @@
+use lib.Count.{leading-le}
+use Rattle.lengths.specs.SizeLaws.{hexadecimal-zero, hexadecimal-many}
+use native.Mathlib.Omega.{arith}
+use mathlib.Core.Path.{sym}
+use lib.ListN.{set}
+use Rattle.lengths.proofs.hexadecimal_digits.Statement.{statement}
+use Rattle.lengths.proofs.hexadecimal_digits.Tie as tie
+
+-- src/lib.rt:32:9
+returns : tie.Need-returns
+returns c = (rw (c .if1 .taken) (sym hexadecimal-zero), omega arith)
+
+-- src/lib.rt:34:17
+cast-zeros : tie.Need-cast-zeros
+cast-zeros c = record { fits = omega (arith, leading-le 64 (c .before .args .set)) }
+
+-- src/lib.rt:35:6
+sub-result : tie.Need-sub-result
+sub-result c = omega (arith, leading-le 64 (c .before .args .set))
+
+-- src/lib.rt:28:1
+returns-2 : tie.Need-returns-2
+returns-2 c =
+    (sym (hexadecimal-many _ (omega (arith, c .if1 .left)) (omega arith)), omega (arith, leading-le 64 (c .before .args .set)))
+
+pub hexadecimal-digits-spec : {M : Type 1} → statement M
+hexadecimal-digits-spec = tie.close (tie.spec returns cast-zeros sub-result returns-2)

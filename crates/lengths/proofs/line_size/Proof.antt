@@ -1,0 +1,90 @@
+use borrow.Author.Tests.{not-true, not-false}
+use Rattle.lengths.specs.SizeLaws.{size-fits, size-unfit}
+use native.Mathlib.Omega.{arith}
+use mathlib.Core.Path.{sym, _∙_}
+use borrow.Author.Needs.{needs}
+use Rattle.lengths.proofs.line_size.Statement.{statement}
+use Rattle.lengths.proofs.line_size.Tie as tie
+
+-- src/lib.rt:97:9
+line-fits-requires : tie.Need-line-fits-requires
+line-fits-requires c κs = search needs
+
+-- src/lib.rt:98:9
+returns : tie.Need-returns
+returns c = sym (size-unfit _ (sym (c .before .line-fits .ensures) ∙ not-true _ (c .if1 .taken)))
+
+-- src/lib.rt:100:19
+decimal-digits-requires : tie.Need-decimal-digits-requires
+decimal-digits-requires c κs = search needs
+
+-- src/lib.rt:100:42
+decimal-digits-requires-2 : tie.Need-decimal-digits-requires-2
+decimal-digits-requires-2 c κs = search needs
+
+-- src/lib.rt:100:19
+add-numbers : tie.Need-add-numbers
+add-numbers c = search needs
+
+-- src/lib.rt:100:66
+decimal-digits-requires-3 : tie.Need-decimal-digits-requires-3
+decimal-digits-requires-3 c κs = search needs
+
+-- src/lib.rt:100:19
+add-numbers-2 : tie.Need-add-numbers-2
+add-numbers-2 c = search needs
+
+-- src/lib.rt:101:16
+hexadecimal-digits-requires : tie.Need-hexadecimal-digits-requires
+hexadecimal-digits-requires c κs = search needs
+
+-- src/lib.rt:101:46
+hexadecimal-digits-requires-2 : tie.Need-hexadecimal-digits-requires-2
+hexadecimal-digits-requires-2 c κs = search needs
+
+-- src/lib.rt:101:16
+add-sets : tie.Need-add-sets
+add-sets c = search needs
+
+-- src/lib.rt:101:77
+hexadecimal-digits-requires-3 : tie.Need-hexadecimal-digits-requires-3
+hexadecimal-digits-requires-3 c κs = search needs
+
+-- src/lib.rt:101:16
+add-sets-2 : tie.Need-add-sets-2
+add-sets-2 c = search needs
+
+-- src/lib.rt:102:5
+add-result : tie.Need-add-result
+add-result c = search needs
+
+-- src/lib.rt:102:5
+add-result-2 : tie.Need-add-result-2
+add-result-2 c = search needs
+
+-- src/lib.rt:94:1
+returns-2 : tie.Need-returns-2
+returns-2 c =
+    let tested = c .before .before .before .before .before .before .before in
+    let fit = sym (tested .line-fits .ensures) ∙ not-false _ (c .before .before .before .before .before .before .if1 .left) in
+    omega (arith, size-fits (tested .before .args .l) fit .0)
+
+pub line-size-spec : {M : Type 1} → statement M
+line-size-spec =
+    tie.close
+    (tie.spec
+    line-fits-requires
+    returns
+    decimal-digits-requires
+    decimal-digits-requires-2
+    add-numbers
+    decimal-digits-requires-3
+    add-numbers-2
+    hexadecimal-digits-requires
+    hexadecimal-digits-requires-2
+    add-sets
+    hexadecimal-digits-requires-3
+    add-sets-2
+    add-result
+    add-result-2
+    returns-2)

@@ -1,0 +1,61 @@
+-- Where a line ends, byte by byte, and what stands behind it.
+use mathlib.Core.Path.{_≡_, sym, ap, _∙_}
+use mathlib.Core.Bool.{cond}
+use mathlib.Core.List.{List}
+use Prim.Native.Nat.{ℕ, suc, _+_, _≤_, _<_}
+use native.Mathlib.Omega.{arith}
+use native.Mathlib.Numerals.{add-one}
+use lib.ListN.{length, getD, drop, drop-of-length-le}
+use lib.Seq.{drop-cons}
+use borrow.Author.Tests.{eq-eqb, ne-eqb, lt-ltb, le-ltb}
+use Rattle.text.specs.Text.{newline}
+use Rattle.lines.specs.declared.Span.{Span}
+use Rattle.lines.specs.declared.Step.the-variants.{Line as AtLine, End as AtEnd}
+use Rattle.lines.specs.Span.{lineLength, spanAt, pickStep, lineAt}
+
+-- one byte further in a line
+pub line-more : (text : List ℕ) (i : ℕ) → i < length text → (getD text i 0 ≡ newline → ⊥)
+    → lineLength (drop i text) ≡ suc (lineLength (drop (i + 1) text))
+unfolding lineLength
+line-more text i h e =
+    ap lineLength (drop-cons text i 0 h)
+    ∙ ap (λ t. cond t 0 (suc (lineLength (drop (suc i) text)))) (ne-eqb (getD text i 0) newline e)
+    ∙ ap (λ j. suc (lineLength (drop j text))) (sym (add-one i))
+
+-- at the end of a line
+pub line-stop : (text : List ℕ) (i : ℕ) → i < length text → getD text i 0 ≡ newline → lineLength (drop i text) ≡ 0
+unfolding lineLength
+line-stop text i h e =
+    ap lineLength (drop-cons text i 0 h)
+    ∙ ap (λ t. cond t 0 (suc (lineLength (drop (suc i) text)))) (eq-eqb (getD text i 0) newline e)
+
+pub line-done : (text : List ℕ) (i : ℕ) → length text ≤ i → lineLength (drop i text) ≡ 0
+unfolding lineLength
+line-done text i h = ap lineLength (drop-of-length-le text h)
+
+pub line-found : (text : List ℕ) (place line : ℕ) {span : Span} → place < length text → span ≡ spanAt text place line
+    → AtLine span ≡ lineAt text place line
+unfolding lineAt
+line-found text place line h e =
+    ap AtLine e ∙ sym (ap (λ t. pickStep t (AtLine (spanAt text place line)) AtEnd) (lt-ltb place (length text) h))
+
+pub line-none : (text : List ℕ) (place line : ℕ) → length text ≤ place → AtEnd ≡ lineAt text place line
+unfolding lineAt
+line-none text place line h = sym (ap (λ t. pickStep t (AtLine (spanAt text place line)) AtEnd) (le-ltb place (length text) h))
+
+pub span-end : (text : List ℕ) (at line : ℕ) {span : Span} → span ≡ spanAt text at line → span .end ≡ at + lineLength (drop at text)
+unfolding spanAt
+span-end text at line e = ap (λ (x : Span). x .end) e
+
+pub span-past : (text : List ℕ) (at line : ℕ) {span : Span} → span ≡ spanAt text at line → span .end < length text → span .next ≡ span .end + 1
+unfolding spanAt
+span-past text at line {span} e h =
+    let end = span-end text at line e in
+    let here = at + lineLength (drop at text) in
+    ap (λ (x : Span). x .next) e
+    ∙ ap (λ t. cond t (here + 1) here) (lt-ltb here (length text) (omega arith))
+    ∙ ap (λ m. m + 1) (sym end)
+
+pub span-line : (text : List ℕ) (at line : ℕ) {span : Span} → span ≡ spanAt text at line → line < 65536 → span .line ≡ line + 1
+unfolding spanAt
+span-line text at line e n = ap (λ (x : Span). x .line) e ∙ ap (λ t. cond t (line + 1) line) (lt-ltb line 18446744073709551615 (omega arith))

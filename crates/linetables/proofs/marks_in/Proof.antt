@@ -1,0 +1,77 @@
+use Rattle.linetables.proofs.CellLaws.{cells-known, cell-next, cells-all, mark-at, many-marks}
+use Rattle.choosing.specs.Codes.{marksOf}
+use borrow.Author.Needs.{needs}
+use native.Mathlib.Omega.{arith}
+use mathlib.Core.Path.{_≡_, refl, ap, sym, _∙_}
+use Prim.Native.Nat.{ℕ, _+_, _-_, _*_, _≤_, _<_}
+use lib.ListN.{length, set, getD, length-set, take, drop}
+use Rattle.linetables.proofs.marks_in.Statement.{statement}
+use Rattle.linetables.proofs.marks_in.Tie as tie
+use Rattle.linetables.proofs.marks_in.Reads as reads
+use Rattle.linetables.proofs.marks_in.Lts as lts
+use Rattle.linetables.proofs.mark_of.Reads as mark-of-reads
+
+abbrev Inv-loop : tie.InvT-loop
+Inv-loop w marks₀ i₀ marks i = (i ≤ 1616) × (length marks ≡ 1616) × (take i marks ≡ take i (marksOf (w .lines)))
+
+abbrev μ-loop : tie.MeasureT-loop
+μ-loop w marks₀ i₀ marks i = 1616 - i
+
+-- src/lib.rt:240:5
+loop-holds : tie.Need-loop-holds Inv-loop μ-loop
+loop-holds c = search needs
+
+-- src/lib.rt:241:17
+mul-l : tie.Need-mul-l Inv-loop μ-loop
+mul-l c = search needs
+
+-- src/lib.rt:241:17
+element-copy-out-l : tie.Need-element-copy-out-l Inv-loop μ-loop
+element-copy-out-l c = search needs
+
+-- src/lib.rt:243:20
+mark-of-requires : tie.Need-mark-of-requires Inv-loop μ-loop
+mark-of-requires c κs = search needs
+
+-- src/lib.rt:243:9
+mul-marks : tie.Need-mul-marks Inv-loop μ-loop
+mul-marks c = search needs
+
+-- src/lib.rt:243:9
+array-write-marks : tie.Need-array-write-marks Inv-loop μ-loop
+array-write-marks c = search needs
+
+-- src/lib.rt:244:9
+add-i : tie.Need-add-i Inv-loop μ-loop
+add-i c = search needs
+
+-- src/lib.rt:240:5
+loop-less : tie.Need-loop-less Inv-loop μ-loop
+loop-less c = search needs
+
+-- src/lib.rt:240:5
+loop-again : tie.Need-loop-again Inv-loop μ-loop
+loop-again c =
+    (search needs, search needs, cell-next (c .before .before .before .loop .marks) (marksOf (c .before .before .before .before .args .t1 .lines)) (c .before .before .before .loop .i) _ (c .before .before .before .loop .inv .1) (many-marks (c .before .before .before .before .args .t1 .lines) (cells-known (c .before .before .before .before .args .t1) (c .before .before .before .before .good .0 .1 .1 .1 .0 .1 .0 .1))) (search needs) (c .before .before .before .loop .inv .2) (c .mark-of .ensures ∙ mark-at (c .before .before .before .before .args .t1 .lines) (c .before .before .before .loop .i) _ (omega (arith, cells-known (c .before .before .before .before .args .t1) (c .before .before .before .before .good .0 .1 .1 .1 .0 .1 .0 .1)))))
+
+-- src/lib.rt:235:1
+returns : tie.Need-returns Inv-loop μ-loop
+returns c =
+    cells-all (c .before .loop .marks) (marksOf (c .before .before .args .t1 .lines)) (c .before .loop .i) (c .before .loop .inv .1) (many-marks (c .before .before .args .t1 .lines) (cells-known (c .before .before .args .t1) (c .before .before .good .0 .1 .1 .1 .0 .1 .0 .1))) (search needs) (c .before .loop .inv .2)
+
+pub marks-in-spec : {M : Type 1} → statement M
+marks-in-spec =
+    tie.close
+    (tie.spec
+    Inv-loop
+    μ-loop
+    loop-holds
+    mul-l
+    element-copy-out-l
+    mark-of-requires
+    mul-marks
+    array-write-marks
+    add-i
+    loop-less
+    loop-again
+    returns)

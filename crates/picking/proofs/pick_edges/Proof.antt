@@ -1,0 +1,78 @@
+use Rattle.picking.specs.Kept.{RowsKept}
+use Rattle.picking.specs.PairLaws.{rows-first, rows-turn, rows-most, row-most, few-rows}
+use Rattle.picking.specs.KeptLaws.{all-picked}
+use borrow.Author.Needs.{needs}
+use native.Mathlib.Omega.{arith}
+use Prim.Native.Nat.{_-_, _≤_}
+use Rattle.picking.proofs.pick_edges.Statement.{statement}
+use Rattle.picking.proofs.pick_edges.Tie as tie
+
+abbrev Inv-loop : tie.InvT-loop
+Inv-loop table n ahead₀ behind₀ edges₀ back₀ i₀ ahead behind edges back i = (i ≤ n) × RowsKept table n i ahead behind edges back
+
+abbrev μ-loop : tie.MeasureT-loop
+μ-loop table n ahead₀ behind₀ edges₀ back₀ i₀ ahead behind edges back i = n - i
+
+-- src/lib.rt:153:9
+row-count-requires : tie.Need-row-count-requires Inv-loop μ-loop
+row-count-requires c κs = search needs
+
+-- src/lib.rt:159:5
+loop-holds : tie.Need-loop-holds Inv-loop μ-loop
+loop-holds c = (omega arith, rows-first _ _)
+
+-- src/lib.rt:160:13
+pick-row-requires : tie.Need-pick-row-requires Inv-loop μ-loop
+pick-row-requires c κs = few-rows _ (c .before .before .before .before .row-count .ensures)
+
+-- src/lib.rt:161:9
+add-edges : tie.Need-add-edges Inv-loop μ-loop
+add-edges c =
+    let few = few-rows _ (c .before .before .before .before .before .before .row-count .ensures) in
+    let h = rows-most few (c .before .before .before .before .before .loop .inv .1) in
+    let l = c .before .before .before .before .loop-test .taken in
+    let m = row-most (c .before .pick-row .ensures) in
+    record { fits = omega (arith, h .0, m .0) }
+
+-- src/lib.rt:162:9
+add-back : tie.Need-add-back Inv-loop μ-loop
+add-back c =
+    let few = few-rows _ (c .before .before .before .before .before .before .before .row-count .ensures) in
+    let h = rows-most few (c .before .before .before .before .before .before .loop .inv .1) in
+    let l = c .before .before .before .before .before .loop-test .taken in
+    let m = row-most (c .before .before .pick-row .ensures) in
+    record { fits = omega (arith, h .1, m .1) }
+
+-- src/lib.rt:163:9
+add-i : tie.Need-add-i Inv-loop μ-loop
+add-i c = search needs
+
+-- src/lib.rt:159:5
+loop-less : tie.Need-loop-less Inv-loop μ-loop
+loop-less c = search needs
+
+-- src/lib.rt:159:5
+loop-again : tie.Need-loop-again Inv-loop μ-loop
+loop-again c =
+    (omega arith, rows-turn _ _ _ (c .before .before .before .before .before .before .loop .inv .1) (c .before .before .pick-row .ensures))
+
+-- src/lib.rt:150:1
+returns : tie.Need-returns Inv-loop μ-loop
+returns c =
+    all-picked _ _ _ (c .before .before .row-count .ensures) (c .before .loop .inv .0) (c .loop-test .left) (c .before .loop .inv .1)
+
+pub pick-edges-spec : {M : Type 1} → statement M
+pick-edges-spec =
+    tie.close
+    (tie.spec
+    Inv-loop
+    μ-loop
+    row-count-requires
+    loop-holds
+    pick-row-requires
+    add-edges
+    add-back
+    add-i
+    loop-less
+    loop-again
+    returns)

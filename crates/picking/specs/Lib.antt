@@ -1,0 +1,4 @@
+pub mod Picks
+pub mod Kept
+pub mod PairLaws
+pub mod KeptLaws

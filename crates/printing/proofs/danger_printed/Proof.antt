@@ -1,0 +1,32 @@
+use Rattle.printing.specs.LineLaws.{danger-printed}
+use native.Mathlib.Omega.{arith}
+use mathlib.Core.Path.{_≡_, refl, ap, sym, _∙_}
+use Prim.Native.Nat.{ℕ, _+_, _-_, _*_, _≤_, _<_}
+use lib.ListN.{length, set, getD, length-set, take, drop}
+use borrow.Author.Needs.{needs}
+use Rattle.printing.proofs.danger_printed.Statement.{statement}
+use Rattle.printing.proofs.danger_printed.Tie as tie
+use Rattle.printing.proofs.danger_printed.Reads as reads
+use Rattle.printing.proofs.danger_printed.Lts as lts
+use Rattle.printing.proofs.at_most_65.Reads as at-most-65-reads
+use Rattle.printing.proofs.put_danger.Reads as put-danger-reads
+
+-- src/lib.rt:223:9
+at-most-65-requires : tie.Need-at-most-65-requires
+at-most-65-requires c κs = search needs
+
+-- src/lib.rt:224:29
+slice-aggregate-put-danger : tie.Need-slice-aggregate-put-danger
+slice-aggregate-put-danger c = search needs
+
+-- src/lib.rt:224:9
+put-danger-requires : tie.Need-put-danger-requires
+put-danger-requires c κs = search needs
+
+-- src/lib.rt:212:1
+returns : tie.Need-returns
+returns c = danger-printed _ _ _ (c .before .before .before .at-most-65 .ensures) (c .before .put-danger .ensures)
+
+pub danger-printed-spec : {M : Type 1} → statement M
+danger-printed-spec =
+    tie.close (tie.spec at-most-65-requires slice-aggregate-put-danger put-danger-requires returns)

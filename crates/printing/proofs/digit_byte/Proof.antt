@@ -1,0 +1,25 @@
+use Rattle.printing.specs.DecimalLaws.{digit-of}
+use native.Mathlib.Omega.{arith}
+use mathlib.Core.Path.{_≡_, refl, ap, sym, _∙_}
+use Prim.Native.Nat.{ℕ, _+_, _-_, _*_, _≤_, _<_}
+use lib.ListN.{length, set, getD, length-set, take, drop}
+use borrow.Author.Needs.{needs}
+use Rattle.printing.proofs.digit_byte.Statement.{statement}
+use Rattle.printing.proofs.digit_byte.Tie as tie
+use Rattle.printing.proofs.digit_byte.Reads as reads
+use Rattle.printing.proofs.digit_byte.Lts as lts
+
+-- src/lib.rt:44:6
+add-result : tie.Need-add-result
+add-result c = search needs
+
+-- src/lib.rt:44:5
+cast-result : tie.Need-cast-result
+cast-result c = search needs
+
+-- src/lib.rt:40:1
+returns : tie.Need-returns
+returns c = sym (digit-of _ (c .pre))
+
+pub digit-byte-spec : {M : Type 1} → statement M
+digit-byte-spec = tie.close (tie.spec add-result cast-result returns)

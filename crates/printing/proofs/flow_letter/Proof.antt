@@ -1,0 +1,21 @@
+use Rattle.printing.specs.StepLaws.{letter-forward, letter-back}
+use borrow.Author.Needs.{needs}
+use native.Mathlib.Omega.{arith}
+use mathlib.Core.Path.{_≡_, refl, ap, sym, _∙_}
+use Prim.Native.Nat.{ℕ, _+_, _-_, _*_, _≤_, _<_}
+use lib.ListN.{length, set, getD, length-set, take, drop}
+use Rattle.printing.proofs.flow_letter.Statement.{statement}
+use Rattle.printing.proofs.flow_letter.Tie as tie
+use Rattle.printing.proofs.flow_letter.Reads as reads
+use Rattle.printing.proofs.flow_letter.Lts as lts
+
+-- src/lib.rt:103:9
+returns : tie.Need-returns
+returns c = letter-forward _ (c .if1 .taken)
+
+-- src/lib.rt:99:1
+returns-2 : tie.Need-returns-2
+returns-2 c = letter-back _ (c .if1 .left)
+
+pub flow-letter-spec : {M : Type 1} → statement M
+flow-letter-spec = tie.close (tie.spec returns returns-2)

@@ -1,0 +1,74 @@
+use Rattle.printing.specs.Printed.{Copying}
+use Rattle.printing.specs.PutLaws.{copy-first, copy-turn, copy-end}
+use borrow.Author.Needs.{needs}
+use native.Mathlib.Omega.{arith}
+use mathlib.Core.Path.{_≡_, refl, ap, sym, _∙_}
+use Prim.Native.Nat.{ℕ, _+_, _-_, _*_, _≤_, _<_}
+use lib.ListN.{length, set, getD, length-set, take, drop}
+use Rattle.printing.proofs.put.Statement.{statement}
+use Rattle.printing.proofs.put.Tie as tie
+use Rattle.printing.proofs.put.Reads as reads
+use Rattle.printing.proofs.put.Lts as lts
+
+abbrev Inv-loop : tie.InvT-loop
+Inv-loop out₀ at bytes i₀ out i = Copying bytes at out₀ i out
+
+abbrev μ-loop : tie.MeasureT-loop
+μ-loop out₀ at bytes i₀ out i = length bytes - i
+
+-- src/lib.rt:25:5
+loop-holds : tie.Need-loop-holds Inv-loop μ-loop
+loop-holds c = copy-first _ _ _
+
+-- src/lib.rt:26:23
+shared-slice-read-out : tie.Need-shared-slice-read-out Inv-loop μ-loop
+shared-slice-read-out c = search needs
+
+-- src/lib.rt:26:13
+add-out : tie.Need-add-out Inv-loop μ-loop
+add-out c = search needs
+
+-- src/lib.rt:26:9
+slice-write-out : tie.Need-slice-write-out Inv-loop μ-loop
+slice-write-out c = search needs
+
+-- src/lib.rt:27:9
+add-i : tie.Need-add-i Inv-loop μ-loop
+add-i c = search needs
+
+-- src/lib.rt:25:5
+loop-less : tie.Need-loop-less Inv-loop μ-loop
+loop-less c = search needs
+
+-- src/lib.rt:25:5
+loop-again : tie.Need-loop-again Inv-loop μ-loop
+loop-again c = copy-turn (c .before .loop-test .taken) (c .before .before .loop .inv)
+
+-- src/lib.rt:29:5
+add-result : tie.Need-add-result Inv-loop μ-loop
+add-result c = search needs
+
+-- src/lib.rt:20:1
+same-length : tie.Need-same-length Inv-loop μ-loop
+same-length c = c .before .loop .inv .long
+
+-- src/lib.rt:20:1
+returns : tie.Need-returns Inv-loop μ-loop
+returns c = copy-end (c .loop-test .left) (c .before .loop .inv)
+
+pub put-spec : {M : Type 1} → statement M
+put-spec =
+    tie.close
+    (tie.spec
+    Inv-loop
+    μ-loop
+    loop-holds
+    shared-slice-read-out
+    add-out
+    slice-write-out
+    add-i
+    loop-less
+    loop-again
+    add-result
+    same-length
+    returns)

@@ -1,0 +1,56 @@
+use Rattle.report.specs.Report.{refusedNames}
+use Rattle.printing.specs.LineLaws.{refusal-put}
+use native.Mathlib.Omega.{arith}
+use mathlib.Core.Path.{_≡_, refl, ap, sym, _∙_}
+use Prim.Native.Nat.{ℕ, _+_, _-_, _*_, _≤_, _<_}
+use lib.ListN.{length, set, getD, length-set, take, drop}
+use borrow.Author.Needs.{needs}
+use Rattle.printing.proofs.put_refusal.Statement.{statement}
+use Rattle.printing.proofs.put_refusal.Tie as tie
+use Rattle.printing.proofs.put_refusal.Reads as reads
+use Rattle.printing.proofs.put_refusal.Lts as lts
+use Rattle.printing.proofs.put.Reads as put-reads
+use Rattle.printing.proofs.put_byte.Reads as put-byte-reads
+use Rattle.printing.proofs.put_decimal.Reads as put-decimal-reads
+use Rattle.printing.proofs.put_number.Reads as put-number-reads
+
+-- src/lib.rt:152:25
+slice-aggregate-put : tie.Need-slice-aggregate-put
+slice-aggregate-put c = search needs
+
+-- src/lib.rt:152:9
+put-requires : tie.Need-put-requires
+put-requires c κs = search needs
+
+-- src/lib.rt:153:9
+put-decimal-requires : tie.Need-put-decimal-requires
+put-decimal-requires c κs = search needs
+
+-- src/lib.rt:154:9
+put-number-requires : tie.Need-put-number-requires
+put-number-requires c κs = search needs
+
+-- src/lib.rt:155:5
+put-byte-requires : tie.Need-put-byte-requires
+put-byte-requires c κs = search needs
+
+-- src/lib.rt:148:1
+same-length : tie.Need-same-length
+same-length c = search needs
+
+-- src/lib.rt:148:1
+returns : tie.Need-returns
+unfolding refusedNames
+returns c = refusal-put _ _ (c .before .before .before .before .before .before .before .before .before .before .before .before .before .before .put .ensures) (c .before .before .before .before .before .before .before .before .before .before .put-decimal .ensures) (c .before .before .before .before .before .before .put-number .ensures) (c .before .before .put-byte .ensures)
+
+pub put-refusal-spec : {M : Type 1} → statement M
+put-refusal-spec =
+    tie.close
+    (tie.spec
+    slice-aggregate-put
+    put-requires
+    put-decimal-requires
+    put-number-requires
+    put-byte-requires
+    same-length
+    returns)

@@ -1,0 +1,60 @@
+use Rattle.printing.specs.Printed.{Stepping}
+use Rattle.printing.specs.StepLaws.{steps-first, steps-turn, steps-end}
+use borrow.Author.Needs.{needs}
+use native.Mathlib.Omega.{arith}
+use mathlib.Core.Path.{_≡_, refl, ap, sym, _∙_}
+use Prim.Native.Nat.{ℕ, _+_, _-_, _*_, _≤_, _<_}
+use lib.ListN.{length, set, getD, length-set, take, drop}
+use Rattle.printing.proofs.put_steps.Statement.{statement}
+use Rattle.printing.proofs.put_steps.Tie as tie
+use Rattle.printing.proofs.put_steps.Reads as reads
+use Rattle.printing.proofs.put_steps.Lts as lts
+use Rattle.printing.proofs.put_step.Reads as put-step-reads
+
+abbrev Inv-loop : tie.InvT-loop
+Inv-loop out₀ at walk steps place₀ k₀ out place k = Stepping walk at out₀ steps k place out
+
+abbrev μ-loop : tie.MeasureT-loop
+μ-loop out₀ at walk steps place₀ k₀ out place k = steps - k
+
+-- src/lib.rt:141:5
+loop-holds : tie.Need-loop-holds Inv-loop μ-loop
+loop-holds c = steps-first _ _ _ _
+
+-- src/lib.rt:142:9
+put-step-requires : tie.Need-put-step-requires Inv-loop μ-loop
+put-step-requires c κs = search needs
+
+-- src/lib.rt:143:9
+add-k : tie.Need-add-k Inv-loop μ-loop
+add-k c = search needs
+
+-- src/lib.rt:141:5
+loop-less : tie.Need-loop-less Inv-loop μ-loop
+loop-less c = search needs
+
+-- src/lib.rt:141:5
+loop-again : tie.Need-loop-again Inv-loop μ-loop
+loop-again c = steps-turn (c .before .before .before .before .loop-test .taken) (search needs) (c .before .before .before .before .before .loop .inv) (c .before .before .put-step .ensures)
+
+-- src/lib.rt:135:1
+same-length : tie.Need-same-length Inv-loop μ-loop
+same-length c = c .before .loop .inv .long
+
+-- src/lib.rt:135:1
+returns : tie.Need-returns Inv-loop μ-loop
+returns c = steps-end (c .loop-test .left) (c .before .loop .inv)
+
+pub put-steps-spec : {M : Type 1} → statement M
+put-steps-spec =
+    tie.close
+    (tie.spec
+    Inv-loop
+    μ-loop
+    loop-holds
+    put-step-requires
+    add-k
+    loop-less
+    loop-again
+    same-length
+    returns)

@@ -1,0 +1,40 @@
+use Rattle.reader.specs.ParseLaws.{saw-wrong}
+use mathlib.Core.Path.{refl}
+use borrow.Author.Needs.{needs}
+use Rattle.reader.proofs.see_bytes.Statement.{statement}
+use Rattle.reader.proofs.see_bytes.Tie as tie
+use Rattle.reader.proofs.see_bytes.Reads as reads
+use Rattle.reader.proofs.see_bytes.Lts as lts
+
+line-of-requires : tie.Need-line-of-requires
+line-of-requires c κs = search needs
+
+enum-known-r : tie.Need-enum-known-r
+enum-known-r c = search needs
+
+see-value-requires : tie.Need-see-value-requires
+see-value-requires c κs = search needs
+
+enum-told : tie.Need-enum-told
+enum-told c = search needs
+
+same-length : tie.Need-same-length
+same-length c = search needs
+
+returns : tie.Need-returns
+returns c = rw (← c .before .before .before .before .before .before .before .line-of .ensures, c .before .before .before .before .before .r .given .1) (c .before .before .see-value .ensures)
+
+returns-2 : tie.Need-returns-2
+returns-2 c = rw (← c .before .before .line-of .ensures, c .enum-told .given .1) (saw-wrong _ refl)
+
+pub see-bytes-spec : {M : Type 1} → statement M
+see-bytes-spec =
+    tie.close
+    (tie.spec
+    line-of-requires
+    enum-known-r
+    see-value-requires
+    enum-told
+    same-length
+    returns
+    returns-2)

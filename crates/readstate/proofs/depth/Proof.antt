@@ -1,0 +1,17 @@
+use Rattle.readstate.specs.WordsLaws.{words-depth}
+use Rattle.kept.specs.Words.{stateIn}
+use borrow.Author.Needs.{needs}
+use Rattle.readstate.proofs.depth.Statement.{statement}
+use Rattle.readstate.proofs.depth.Tie as tie
+use Rattle.readstate.proofs.depth.Reads as reads
+use Rattle.readstate.proofs.depth.Lts as lts
+
+word-requires : tie.Need-word-requires
+word-requires c κs = search needs
+
+returns : tie.Need-returns
+unfolding stateIn
+returns c = (c .word .ensures, words-depth (c .word .ensures))
+
+pub depth-spec : {M : Type 1} → statement M
+depth-spec = tie.close (tie.spec word-requires returns)

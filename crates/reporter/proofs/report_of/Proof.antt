@@ -1,0 +1,48 @@
+use Rattle.reporter.specs.ReportedLaws.{reported-refusal, reported-value}
+use native.Mathlib.Omega.{arith}
+use mathlib.Core.Path.{_≡_, refl, ap, sym, _∙_}
+use Prim.Native.Nat.{ℕ, _+_, _-_, _*_, _≤_, _<_}
+use lib.ListN.{length, set, getD, length-set, take, drop}
+use borrow.Author.Needs.{needs}
+use Rattle.reporter.proofs.report_of.Statement.{statement}
+use Rattle.reporter.proofs.report_of.Tie as tie
+use Rattle.reporter.proofs.report_of.Reads as reads
+use Rattle.reporter.proofs.report_of.Lts as lts
+use Rattle.printing.proofs.refusal_printed.Reads as refusal-printed-reads
+use Rattle.reader.proofs.read_text.Reads as read-text-reads
+use Rattle.reporter.proofs.value_report.Reads as value-report-reads
+
+-- src/lib.rt:29:9
+read-text-requires : tie.Need-read-text-requires
+read-text-requires c κs = search needs
+
+-- src/lib.rt:32:42
+cast-refusal-printed : tie.Need-cast-refusal-printed
+cast-refusal-printed c = search needs
+
+-- src/lib.rt:32:9
+refusal-printed-requires : tie.Need-refusal-printed-requires
+refusal-printed-requires c κs = search needs
+
+-- src/lib.rt:32:9
+returns : tie.Need-returns
+returns c = reported-refusal _ (c .before .before .read-text .ensures) (c .before .if1 .taken) (c .refusal-printed .ensures)
+
+-- src/lib.rt:35:5
+value-report-requires : tie.Need-value-report-requires
+value-report-requires c κs = search needs
+
+-- src/lib.rt:25:1
+returns-2 : tie.Need-returns-2
+returns-2 c = reported-value _ (c .before .before .before .read-text .ensures) (c .before .before .if1 .left) (c .value-report .ensures)
+
+pub report-of-spec : {M : Type 1} → statement M
+report-of-spec =
+    tie.close
+    (tie.spec
+    read-text-requires
+    cast-refusal-printed
+    refusal-printed-requires
+    returns
+    value-report-requires
+    returns-2)

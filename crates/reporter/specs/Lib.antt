@@ -1,0 +1,4 @@
+pub mod Reported
+pub mod NumberLaws
+pub mod ReportedLaws
+pub mod Crown

@@ -1,0 +1,22 @@
+-- What the printed report of a text is.
+use mathlib.Core.List.{List}
+use mathlib.Core.Path.{_≡_}
+use Prim.Native.Nat.{ℕ, _-_, _≤_}
+use lib.ListN.{length, take, drop, replicate}
+use Rattle.text.specs.declared.Workload.{Workload}
+use Rattle.text.specs.Value.{Given, linesOf}
+use Rattle.text.specs.Reading.{read}
+use Rattle.text.specs.Reading.Outcome.{accepted}
+use Rattle.report.specs.Report.{Report}
+use Rattle.printing.specs.declared.Printed.{Printed}
+
+-- P: the bytes up to the length are a report of the text, and the others are 0; which dangerous walk is shown is free
+pub record Reported (text : List ℕ) (r : Printed) : Type 0 where
+  pub size : length (r .bytes) ≡ 8192
+  pub fits : r .length ≤ 8192
+  pub report : Report text (take (r .length) (r .bytes))
+  pub others : drop (r .length) (r .bytes) ≡ replicate (8192 - r .length) 0
+
+-- the same for a workload value, whatever text gives it
+abbrev pub ValueReported : Workload → Printed → Type 0
+ValueReported w r = (text : List ℕ) → read text ≡ accepted (linesOf w) → Given w → Reported text r

@@ -1,0 +1,210 @@
+-- The paths through the filling of a table for a workload value.
+use mathlib.Core.Bool.{Bool, true, false, true≢false}
+use mathlib.Core.List.{List, [], _∷_, _++_, map}
+use mathlib.Core.Option.{Option, none, some}
+use mathlib.Core.Path.{_≡_, refl, sym, ap, subst, _∙_}
+use Prim.Native.Nat.{ℕ, zero, suc, _+_, _*_, _-_, _/_, _≤_, _<_}
+use native.Mathlib.Omega.{arith}
+use lib.Dec.{ltb}
+use lib.ListN.{length, getD, getElem?, take, drop, replicate, length-take, length-map, List·getD-append}
+use borrow.Author.Tests.{ltb-true, ltb-false, lt-ltb, le-ltb}
+use Rattle.base.specs.BoolLaws.{or-false}
+use Rattle.base.specs.ListLaws.{getElem?-lt, getElem?-member, getElem?-map-some}
+use Rattle.text.specs.declared.Line.{Line}
+use Rattle.text.specs.declared.Workload.{Workload}
+use Rattle.text.specs.Value.{Given, linesOf}
+use Rattle.graph.specs.Program.{programsOf}
+use Rattle.graph.specs.Unfolding.{Node, nodesOf}
+use Rattle.report.specs.State.{StateRefusal, statementsIn, tooMany, shortForUnfoldings}
+use Rattle.report.specs.State.StateRefusal.{not-given, too-many, too-short, taken}
+use Rattle.tables.specs.Table.{rowsOf, tableOf}
+use Rattle.choosing.specs.Table.{cells}
+use Rattle.unfolder.specs.declared.Unfolded.{Unfolded}
+use Rattle.unfolder.specs.Result.{refusedWith, nodesTold}
+use Rattle.unfolder.specs.Settled.{refusalOf, PlacesStand, PlacesSettled}
+use Rattle.rows.specs.Edges.{taken-given}
+use Rattle.rows.specs.declared.Begun.{Begun}
+use Rattle.rows.specs.declared.Rows.{Rows}
+use Rattle.rows.specs.Lines.{lineTable}
+use Rattle.rows.specs.Words.{putAt, totalOf, allRows, begunBefore, begunIn, rowsTold, FilledBy}
+use Rattle.rows.specs.Rows.{rowsRefused, RowsSettled}
+use Rattle.rows.proofs.LineLaws.{lineTable-length}
+use Rattle.rows.proofs.PutLaws.{all-length}
+use Rattle.rows.proofs.RowLaws.{element-default}
+use Rattle.rows.proofs.NodeLaws.{Told, table-filled, places-told}
+use Rattle.rows.proofs.ProgramLaws.{programs-counted, node-begins}
+
+-- ---- filling by the parts
+
+-- the lines' part of the cells
+pub lines-part : (w : Workload) (words : List ℕ) → length words ≡ 12928 → w .count ≤ 1616 → w .count * 8 ≡ length (take (w .count * 8) words)
+lines-part w words many fits = omega (arith, length-take (w .count * 8) words)
+
+pub filled-by : (w : Workload) (words : List ℕ) → take (w .count * 8) words ≡ lineTable (linesOf w) → (programs lengths places : List ℕ) (n : ℕ)
+    (before : List ℕ) (b : Begun) → b ≡ begunBefore (take (w .count * 8) words) (length (take (w .count * 8) words) / 8)
+    → (total : ℕ) → total ≡ totalOf lengths n → (after : List ℕ)
+    → after ≡ putAt before 0 (allRows (take (w .count * 8) words) (b .firsts) programs lengths places n)
+    → FilledBy (lineTable (linesOf w)) programs lengths places n before (record { refusal = 0; programs = b .programs; nodes = n; places = total })
+    after
+unfolding rowsTold begunIn
+filled-by w words e programs lengths places n before b h total t after s =
+    subst
+    (λ (l : List ℕ). FilledBy l programs lengths places n before (record { refusal = 0; programs = b .programs; nodes = n; places = total }) after)
+    e
+    (record { tells = rw (h, t) refl; stands = s ∙ rw h refl })
+
+-- ---- refusals
+
+no-refusal : (m : ℕ) → (refusalOf m ≡ none → ⊥) → (n : ℕ) → refusalOf m ≡ some n → n ≡ m
+unfolding refusalOf
+no-refusal zero d n e = absurd (d refl)
+no-refusal (suc m) d n e = cc
+
+module _ (w : Workload) where
+  -- S22 leaves at most 512 statements
+  few : tooMany (linesOf w) ≡ false → statementsIn (nodesOf (linesOf w)) ≤ 512
+  unfolding tooMany
+  few h =
+      let nodes = nodesOf (linesOf w) in
+      ltb-false 512 (statementsIn nodes) (or-false (ltb 64 (length nodes)) (ltb 512 (statementsIn nodes)) h .1)
+
+  -- 512 words are never too few, so a refusal is for another reason
+  other-area : (room : ℕ) → room ≡ 512 → (short : Bool) (o : Option ℕ) → StateRefusal w (shortForUnfoldings (linesOf w) room) o
+      → (o ≡ none → ⊥) → StateRefusal w short o
+  unfolding shortForUnfoldings
+  other-area room e short o (not-given h) d = not-given h
+  other-area room e short o (too-many g t) d = too-many g t
+  other-area room e short o (too-short g t s) d =
+      let most = few t in
+      let less = ltb-true room (statementsIn (nodesOf (linesOf w))) s in
+      absurd (omega arith)
+  other-area room e short o (taken g t s) d = absurd (d refl)
+
+refused-none : (m : ℕ) → (m ≡ 0 → ⊥) → refusalOf m ≡ none → ⊥
+unfolding refusalOf
+refused-none zero d e = d refl
+refused-none (suc m) d e = let z : _≡_ {A = ℕ} 0 1 = cc in absurd (omega arith)
+
+none-refused : (m : ℕ) → m ≡ 0 → refusalOf m ≡ none
+unfolding refusalOf
+none-refused m e = rw e refl
+
+refused-at : (w : Workload) (before : List ℕ) (m : ℕ) (r : Rows)
+    → StateRefusal w (ltb (length before) (8 * statementsIn (nodesOf (linesOf w)))) (refusalOf m) → (m ≡ 0 → ⊥) → r ≡ rowsRefused m
+    → RowsSettled w before r before
+unfolding rowsRefused
+refused-at w before m r h d e =
+    rw e (record {
+      refusal = h;
+      refused = λ n p. (ap rowsRefused (sym (no-refusal m (refused-none m d) n p)), refl);
+      filled = λ p. absurd (refused-none m d p);
+    })
+
+module _ (w : Workload) (zeros : List ℕ) (size : length zeros ≡ 512) (told : Unfolded) (area : List ℕ) (settled : PlacesSettled w zeros told area)
+    (before : List ℕ) where
+  -- S21, S22
+  pub refused-number : (told .refusal ≡ 0 → ⊥) → (r : Rows) → r ≡ rowsRefused (told .refusal) → RowsSettled w before r before
+  refused-number d r e =
+      refused-at w before (told .refusal) r
+      (other-area w (length zeros) size (ltb (length before) (8 * statementsIn (nodesOf (linesOf w)))) (refusalOf (told .refusal)) (settled .refusal)
+      (refused-none (told .refusal) d)) d e
+
+  module _ (none-told : told .refusal ≡ 0) where
+    abbrev lines : List Line
+    lines = linesOf w
+
+    abbrev nodes : List Node
+    nodes = nodesOf (linesOf w)
+
+    both : Given w × (tooMany (linesOf w) ≡ false)
+    both =
+        taken-given w (shortForUnfoldings (linesOf w) (length zeros)) (refusalOf (told .refusal)) (settled .refusal)
+        (none-refused (told .refusal) none-told)
+
+    is-told : told ≡ nodesTold nodes
+    is-told = settled .unfolded (none-refused (told .refusal) none-told) .0
+
+    stand : PlacesStand lines zeros area
+    stand = settled .unfolded (none-refused (told .refusal) none-told) .1
+
+    -- a cell of a table of nodes
+    cell-of : (f : Node → ℕ) (j : ℕ) (n : Node) → getElem? nodes j ≡ some n → getD (cells (map f nodes)) j 0 ≡ f n
+    unfolding cells
+    cell-of f j n e =
+        let less = getElem?-lt nodes j e in
+        let many = length-map nodes f in
+        List·getD-append (map f nodes) (replicate (64 - length (map f nodes)) 0) 0 j (omega arith)
+        ∙ element-default (map f nodes) j (getElem?-map-some f nodes j e) 0
+
+    all-told : (j : ℕ) (n : Node) → getElem? nodes j ≡ some n
+        → Told lines nodes (begunIn (lineTable lines) .firsts) (told .program) (told .length) j n
+    unfolding nodesTold
+    all-told j n e =
+        let begins = node-begins (both .0 .text) lines (both .0 .isRead) n (getElem?-member nodes j e) in
+        record {
+          program = ap (λ (u : Unfolded). getD (u .program) j 0) is-told ∙ cell-of (λ x. x .program) j n e;
+          places = ap (λ (u : Unfolded). getD (u .length) j 0) is-told ∙ cell-of (λ x. length (x .places)) j n e;
+          inside = begins .inside;
+          links = begins .links;
+        }
+
+    count-told : told .count ≡ length nodes
+    unfolding nodesTold
+    count-told = ap (λ (u : Unfolded). u .count) is-told
+
+    pub total-told : totalOf (told .length) (told .count) ≡ statementsIn nodes
+    total-told =
+        ap (totalOf (told .length)) count-told
+        ∙ places-told (both .0 .text) lines (both .0 .isRead) nodes (stand .words) (drop (length (stand .words)) zeros)
+        (begunIn (lineTable lines) .firsts) (told .program) (told .length) (stand .fits) all-told
+
+    pub total-few : totalOf (told .length) (told .count) ≤ 512
+    total-few = let a = total-told in let b = few w (both .1) in omega arith
+
+    pub workload-cells : length (w .lines) ≡ 1616
+    workload-cells = both .0 .cells
+
+    pub workload-count : w .count ≤ 1616
+    workload-count = both .0 .fits
+
+    -- S20
+    pub refused-short : (places : ℕ) → places ≡ totalOf (told .length) (told .count) → length before < places * 8 → (r : Rows) → r ≡ rowsRefused 20
+        → RowsSettled w before r before
+    unfolding refusalOf
+    refused-short places p h r e =
+        let a = total-told in
+        refused-at w before 20 r (too-short (both .0) (both .1) (lt-ltb (length before) (8 * statementsIn nodes) (omega arith))) (λ d. omega arith) e
+
+    abbrev firsts : List ℕ
+    firsts = begunIn (lineTable lines) .firsts
+
+    abbrev rows : List ℕ
+    rows = allRows (lineTable lines) firsts (told .program) (told .length) area (told .count)
+
+    rows-same : rows ≡ tableOf (rowsOf nodes)
+    rows-same =
+        let rest = drop (length (stand .words)) zeros in
+        ap (λ (a : List ℕ). allRows (lineTable lines) firsts (told .program) (told .length) a (told .count)) (stand .stands)
+        ∙ ap (allRows (lineTable lines) firsts (told .program) (told .length) (stand .words ++ rest)) count-told
+        ∙ table-filled (both .0 .text) lines (both .0 .isRead) nodes (stand .words) rest firsts (told .program) (told .length) (stand .fits) all-told
+
+    -- the table is filled
+    pub filled-table : (places : ℕ) → places ≡ totalOf (told .length) (told .count) → places * 8 ≤ length before → (r : Rows) (after : List ℕ)
+        → FilledBy (lineTable lines) (told .program) (told .length) area (told .count) before r after → RowsSettled w before r after
+    unfolding rowsTold putAt refusalOf
+    filled-table places p room r after f =
+        let total = total-told in
+        let size = all-length (lineTable lines) firsts (told .program) (told .length) area (told .count) in
+        let long : 0 + length rows ≡ 8 * totalOf (told .length) (told .count) = omega arith in
+        rw (f .tells) (record {
+          refusal = taken (both .0) (both .1) (le-ltb (length before) (8 * statementsIn nodes) (omega arith));
+          refused = λ n e. let z : _≡_ {A = ℕ} 0 1 = cc in absurd (omega arith);
+          filled = λ e. (
+            programs-counted lines,
+            count-told,
+            total,
+            f .stands
+                ∙ ap (λ (k : ℕ). rows ++ drop k before) long
+                ∙ ap (λ (l : List ℕ). l ++ drop (8 * totalOf (told .length) (told .count)) before) rows-same,
+          );
+        })

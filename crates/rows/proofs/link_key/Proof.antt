@@ -1,0 +1,40 @@
+use Rattle.rows.proofs.Laws.{no-child, not-seen, no-key, one-key}
+use native.Mathlib.Omega.{arith}
+use mathlib.Core.Path.{_≡_, refl, ap, sym, _∙_}
+use Prim.Native.Nat.{ℕ, _+_, _-_, _*_, _≤_, _<_}
+use lib.ListN.{length, set, getD, length-set, take, drop}
+use borrow.Author.Needs.{needs}
+use Rattle.rows.proofs.link_key.Statement.{statement}
+use Rattle.rows.proofs.link_key.Tie as tie
+use Rattle.rows.proofs.link_key.Reads as reads
+use Rattle.rows.proofs.link_key.Lts as lts
+use Rattle.rows.proofs.has_bit.Reads as has-bit-reads
+use Rattle.rows.proofs.with_bit.Reads as with-bit-reads
+
+-- src/lib.rt:264:9
+returns : tie.Need-returns
+returns c = no-child _ _ _ _ _ _ (c .if1 .taken)
+
+-- src/lib.rt:266:9
+has-bit-requires : tie.Need-has-bit-requires
+has-bit-requires c κs = search needs
+
+-- src/lib.rt:267:9
+returns-2 : tie.Need-returns-2
+returns-2 c = not-seen _ _ _ _ _ _ (c .before .before .if1 .left) _ (c .before .has-bit .ensures) (c .if2 .taken)
+
+-- src/lib.rt:270:9
+returns-3 : tie.Need-returns-3
+returns-3 c = no-key _ _ _ _ _ _ (c .before .before .before .if1 .left) _ (c .before .before .has-bit .ensures) (c .before .if2 .left) (c .if3 .taken)
+
+-- src/lib.rt:272:5
+with-bit-requires : tie.Need-with-bit-requires
+with-bit-requires c κs = search needs
+
+-- src/lib.rt:260:1
+returns-4 : tie.Need-returns-4
+returns-4 c = one-key _ _ _ _ _ _ (c .before .before .before .before .if1 .left) _ (c .before .before .before .has-bit .ensures) (c .before .before .if2 .left) (c .before .if3 .left) _ (c .with-bit .ensures)
+
+pub link-key-spec : {M : Type 1} → statement M
+link-key-spec =
+    tie.close (tie.spec returns has-bit-requires returns-2 returns-3 with-bit-requires returns-4)

@@ -1,0 +1,34 @@
+use Rattle.rows.specs.Lines.{testsBy}
+use borrow.Author.Tests.{eq-eqb, ne-eqb}
+use borrow.Author.Needs.{needs}
+use native.Mathlib.Omega.{arith}
+use mathlib.Core.Path.{_≡_, refl, ap, sym, _∙_}
+use Prim.Native.Nat.{ℕ, _+_, _-_, _*_, _≤_, _<_}
+use lib.ListN.{length, set, getD, length-set, take, drop}
+use Rattle.rows.proofs.tests_of.Statement.{statement}
+use Rattle.rows.proofs.tests_of.Tie as tie
+use Rattle.rows.proofs.tests_of.Reads as reads
+use Rattle.rows.proofs.tests_of.Lts as lts
+
+-- src/lib.rt:160:9
+returns : tie.Need-returns
+unfolding testsBy
+returns c = sym (simp (eq-eqb _ 2 (c .if1 .taken)))
+
+-- src/lib.rt:163:9
+returns-2 : tie.Need-returns-2
+unfolding testsBy
+returns-2 c = sym (simp (ne-eqb _ 2 (c .before .if1 .left), eq-eqb _ 4 (c .if2 .taken)))
+
+-- src/lib.rt:166:9
+returns-3 : tie.Need-returns-3
+unfolding testsBy
+returns-3 c = sym (simp (ne-eqb _ 2 (c .before .before .if1 .left), ne-eqb _ 4 (c .before .if2 .left), eq-eqb _ 6 (c .if3 .taken)))
+
+-- src/lib.rt:156:1
+returns-4 : tie.Need-returns-4
+unfolding testsBy
+returns-4 c = sym (simp (ne-eqb _ 2 (c .before .before .if1 .left), ne-eqb _ 4 (c .before .if2 .left), ne-eqb _ 6 (c .if3 .left)))
+
+pub tests-of-spec : {M : Type 1} → statement M
+tests-of-spec = tie.close (tie.spec returns returns-2 returns-3 returns-4)

@@ -1,0 +1,21 @@
+use Rattle.rows.proofs.Laws.{shifted-bit}
+use native.Mathlib.Omega.{arith}
+use mathlib.Core.Path.{_≡_, refl, ap, sym, _∙_}
+use Prim.Native.Nat.{ℕ, _+_, _-_, _*_, _≤_, _<_}
+use lib.ListN.{length, set, getD, length-set, take, drop}
+use borrow.Author.Needs.{needs}
+use Rattle.rows.proofs.with_bit.Statement.{statement}
+use Rattle.rows.proofs.with_bit.Tie as tie
+use Rattle.rows.proofs.with_bit.Reads as reads
+use Rattle.rows.proofs.with_bit.Lts as lts
+
+-- src/lib.rt:66:11
+shl-result : tie.Need-shl-result
+shl-result c = search needs
+
+-- src/lib.rt:62:1
+returns : tie.Need-returns
+returns c = shifted-bit (c .args .set) (c .args .k) (c .pre)
+
+pub with-bit-spec : {M : Type 1} → statement M
+with-bit-spec = tie.close (tie.spec shl-result returns)

@@ -1,0 +1,110 @@
+use borrow.Author.Tests.{eq-eqb, ne-eqb}
+use Rattle.tables.specs.Table.{rowForward}
+use borrow.Author.Needs.{needs}
+use Rattle.standing.proofs.forward_stands.Statement.{statement}
+use Rattle.standing.proofs.forward_stands.Tie as tie
+
+-- src/lib.rt:236:9
+returns : tie.Need-returns
+unfolding rowForward
+returns c = simp (ne-eqb _ _ (c .if1 .taken))
+
+-- src/lib.rt:238:8
+holds-a-requires : tie.Need-holds-a-requires
+holds-a-requires c κs = search needs
+
+-- src/lib.rt:239:9
+returns-2 : tie.Need-returns-2
+unfolding rowForward
+returns-2 c = simp (c .if2 .taken, ← c .before .holds-a .ensures, eq-eqb _ _ (c .before .before .if1 .left))
+
+-- src/lib.rt:241:8
+holds-b-requires : tie.Need-holds-b-requires
+holds-b-requires c κs = search needs
+
+-- src/lib.rt:242:9
+returns-3 : tie.Need-returns-3
+unfolding rowForward
+returns-3 c =
+    simp (
+      c .if3 .taken,
+      ← c .before .holds-b .ensures,
+      c .before .before .if2 .left,
+      ← c .before .before .before .holds-a .ensures,
+      eq-eqb _ _ (c .before .before .before .before .if1 .left),
+    )
+
+-- src/lib.rt:244:8
+holds-c-requires : tie.Need-holds-c-requires
+holds-c-requires c κs = search needs
+
+-- src/lib.rt:245:9
+returns-4 : tie.Need-returns-4
+unfolding rowForward
+returns-4 c =
+    simp (
+      c .if4 .taken,
+      ← c .before .holds-c .ensures,
+      c .before .before .if3 .left,
+      ← c .before .before .before .holds-b .ensures,
+      c .before .before .before .before .if2 .left,
+      ← c .before .before .before .before .before .holds-a .ensures,
+      eq-eqb _ _ (c .before .before .before .before .before .before .if1 .left),
+    )
+
+-- src/lib.rt:247:8
+holds-d-requires : tie.Need-holds-d-requires
+holds-d-requires c κs = search needs
+
+-- src/lib.rt:248:9
+returns-5 : tie.Need-returns-5
+unfolding rowForward
+returns-5 c =
+    simp (
+      c .if5 .taken,
+      ← c .before .holds-d .ensures,
+      c .before .before .if4 .left,
+      ← c .before .before .before .holds-c .ensures,
+      c .before .before .before .before .if3 .left,
+      ← c .before .before .before .before .before .holds-b .ensures,
+      c .before .before .before .before .before .before .if2 .left,
+      ← c .before .before .before .before .before .before .before .holds-a .ensures,
+      eq-eqb _ _ (c .before .before .before .before .before .before .before .before .if1 .left),
+    )
+
+-- src/lib.rt:250:5
+holds-e-requires : tie.Need-holds-e-requires
+holds-e-requires c κs = search needs
+
+-- src/lib.rt:232:1
+returns-6 : tie.Need-returns-6
+unfolding rowForward
+returns-6 c =
+    simp (
+      ← c .holds-e .ensures,
+      c .before .if5 .left,
+      ← c .before .before .holds-d .ensures,
+      c .before .before .before .if4 .left,
+      ← c .before .before .before .before .holds-c .ensures,
+      c .before .before .before .before .before .if3 .left,
+      ← c .before .before .before .before .before .before .holds-b .ensures,
+      c .before .before .before .before .before .before .before .if2 .left,
+      ← c .before .before .before .before .before .before .before .before .holds-a .ensures,
+      eq-eqb _ _ (c .before .before .before .before .before .before .before .before .before .if1 .left),
+    )
+
+pub forward-stands-spec : {M : Type 1} → statement M
+forward-stands-spec =
+    tie.close
+    (tie.spec
+    returns
+    holds-a-requires
+    returns-2
+    holds-b-requires
+    returns-3
+    holds-c-requires
+    returns-4
+    holds-d-requires
+    returns-5
+    holds-e-requires
+    returns-6)

@@ -1,0 +1,49 @@
+-- Words and rows of a table.
+use mathlib.Core.Path.{_≡_, refl, ap, _∙_}
+use mathlib.Core.List.{List, [], _∷_}
+use Prim.Native.Nat.{ℕ, zero, suc, _+_, _-_, _*_, _/_, _≤_, _<_}
+use native.Mathlib.Nat.{not-suc-le-zero, le-of-suc-le-suc, add-zero}
+use native.Mathlib.Omega.{arith}
+use lib.ListN.{length, getD}
+use Rattle.tables.specs.declared.Row.{Row}
+use Rattle.text.specs.declared.StatementKind.{StatementKind}
+use Rattle.tables.specs.Table.{kindOf, rowAt}
+
+-- past its end a list has only the default
+getD-past : (l : List ℕ) (i : ℕ) → length l ≤ i → 0 ≡ getD l i 0
+getD-past [] i h = refl
+getD-past (x ∷ l) zero h = absurd (not-suc-le-zero h)
+getD-past (x ∷ l) (suc i) h = getD-past l i (le-of-suc-le-suc h)
+
+-- no word of a row past the last one that begins in the table
+pub word-past : (table : List ℕ) (i k : ℕ) → length table / 8 < i → 0 ≡ getD table (i * 8 + k) 0
+word-past table i k h = getD-past table (i * 8 + k) (omega arith)
+
+-- nor one past the table's end in the row that it cuts
+pub word-short : (table : List ℕ) (i k : ℕ) → length table - i * 8 ≤ k → 0 ≡ getD table (i * 8 + k) 0
+word-short table i k h = getD-past table (i * 8 + k) (omega arith)
+
+-- a row put together from its eight words
+pub row-made : (table : List ℕ) (i : ℕ) {a b r d w t k : ℕ} {kind : StatementKind}
+    → a ≡ getD table (i * 8 + 0) 0
+    → b ≡ getD table (i * 8 + 1) 0
+    → kind ≡ kindOf (getD table (i * 8 + 2) 0)
+    → r ≡ getD table (i * 8 + 3) 0
+    → d ≡ getD table (i * 8 + 4) 0
+    → w ≡ getD table (i * 8 + 5) 0
+    → t ≡ getD table (i * 8 + 6) 0
+    → k ≡ getD table (i * 8 + 7) 0
+    → _≡_ {A = Row}
+    (record { node = a; place = b; kind = kind; relation = r; reads = d; writes = w; tests = t; keys = k })
+    (rowAt table i)
+unfolding rowAt
+row-made table i ea eb ek er ed ew et ef = λ j. record {
+  node = (ea ∙ ap (λ (x : ℕ). getD table x 0) (add-zero (i * 8))) j;
+  place = eb j;
+  kind = ek j;
+  relation = er j;
+  reads = ed j;
+  writes = ew j;
+  tests = et j;
+  keys = ef j;
+}

@@ -1,0 +1,28 @@
+use borrow.Author.Tests.{lt-ltb, le-ltb, eq-eqb, ne-eqb}
+use Rattle.kept.specs.Kept.{nextOf}
+use native.Mathlib.Omega.{arith}
+use mathlib.Core.Path.{_≡_, refl, ap, sym, _∙_}
+use Prim.Native.Nat.{ℕ, _+_, _-_, _*_, _≤_, _<_}
+use lib.ListN.{length, set, getD, length-set, take, drop}
+use borrow.Author.Needs.{needs}
+use Rattle.takeline.proofs.next.Statement.{statement}
+use Rattle.takeline.proofs.next.Tie as tie
+use Rattle.takeline.proofs.next.Reads as reads
+use Rattle.takeline.proofs.next.Lts as lts
+
+-- src/lib.rt:20:16
+add-result : tie.Need-add-result
+add-result c = search needs
+
+-- src/lib.rt:20:9
+returns : tie.Need-returns
+unfolding nextOf
+returns c = simp (lt-ltb _ _ (c .if1 .taken))
+
+-- src/lib.rt:16:1
+returns-2 : tie.Need-returns-2
+unfolding nextOf
+returns-2 c = simp (le-ltb _ _ (c .if1 .left))
+
+pub next-spec : {M : Type 1} → statement M
+next-spec = tie.close (tie.spec add-result returns returns-2)

@@ -1,0 +1,39 @@
+use Rattle.takeline.specs.StoreLaws.{put-in, put-out}
+use borrow.Author.Tests.{lt-ltb, le-ltb, eq-eqb, ne-eqb}
+use Rattle.takeline.specs.Stores.{putIn}
+use native.Mathlib.Omega.{arith}
+use mathlib.Core.Path.{_≡_, refl, ap, sym, _∙_}
+use Prim.Native.Nat.{ℕ, _+_, _-_, _*_, _≤_, _<_}
+use lib.ListN.{length, set, getD, length-set, take, drop}
+use borrow.Author.Needs.{needs}
+use Rattle.takeline.proofs.put.Statement.{statement}
+use Rattle.takeline.proofs.put.Tie as tie
+use Rattle.takeline.proofs.put.Reads as reads
+use Rattle.takeline.proofs.put.Lts as lts
+
+-- src/lib.rt:69:15
+add-words : tie.Need-add-words
+add-words c = search needs
+
+-- src/lib.rt:69:9
+mul-words : tie.Need-mul-words
+mul-words c = search needs
+
+-- src/lib.rt:69:9
+slice-write-words : tie.Need-slice-write-words
+slice-write-words c = search needs
+
+-- src/lib.rt:64:1
+same-length : tie.Need-same-length
+same-length c = search needs
+
+-- src/lib.rt:64:1
+returns : tie.Need-returns
+returns c = put-in _ _ _ _ (c .if1 .taken)
+
+-- src/lib.rt:64:1
+returns-2 : tie.Need-returns-2
+returns-2 c = put-out _ _ _ _ (c .if1 .left)
+
+pub put-spec : {M : Type 1} → statement M
+put-spec = tie.close (tie.spec add-words mul-words slice-write-words same-length returns returns-2)

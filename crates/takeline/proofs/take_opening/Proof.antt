@@ -1,0 +1,25 @@
+use Rattle.takeline.specs.TakeLaws.{took-opening}
+use borrow.Author.Needs.{needs}
+use Rattle.takeline.proofs.take_opening.Statement.{statement}
+use Rattle.takeline.proofs.take_opening.Tie as tie
+use Rattle.takeline.proofs.take_opening.Reads as reads
+use Rattle.takeline.proofs.take_opening.Lts as lts
+
+word-requires : tie.Need-word-requires
+word-requires c κs = search needs
+
+word-requires-2 : tie.Need-word-requires-2
+word-requires-2 c κs = search needs
+
+push-requires : tie.Need-push-requires
+push-requires c κs = search needs
+
+same-length : tie.Need-same-length
+same-length c = search needs
+
+returns : tie.Need-returns
+returns c = took-opening (c .before .before .before .before .before .before .before .before .before .args .part) (c .before .before .before .before .before .before .word .ensures) (c .before .before .before .before .word2 .ensures) (c .before .before .push .ensures)
+
+pub take-opening-spec : {M : Type 1} → statement M
+take-opening-spec =
+    tie.close (tie.spec word-requires word-requires-2 push-requires same-length returns)

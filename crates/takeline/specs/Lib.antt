@@ -1,0 +1,4 @@
+pub mod Stores
+pub mod StoreLaws
+pub mod ClearLaws
+pub mod TakeLaws

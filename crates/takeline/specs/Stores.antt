@@ -1,0 +1,124 @@
+-- Stores into the words that keep a state, and what they leave of each array and each count.
+use mathlib.Core.Bool.{Bool, true, false}
+use mathlib.Core.List.{List, [], _∷_}
+use mathlib.Core.Path.{_≡_}
+use Prim.Native.Nat.{ℕ, _+_, _*_, _≤_, _<_}
+use lib.Dec.{eqb, ltb}
+use lib.ListN.{length, getD, set, drop}
+use Rattle.kept.specs.Records.{Stack, State}
+use Rattle.kept.specs.Kept.{nextOf}
+use Rattle.kept.specs.Words.{stateIn}
+
+-- a cell of an array set; past the array's end nothing changes
+unfoldable pub putIn : List ℕ → ℕ → ℕ → ℕ → List ℕ
+putIn words from i v = elim (ltb i 32) [ true ↦ set words (from + i) v | false ↦ words ]
+
+-- three cells at one place of neighbouring arrays set
+abbrev pub marksIn : List ℕ → ℕ → ℕ → ℕ → ℕ → ℕ → List ℕ
+marksIn words from i x y z = putIn (putIn (putIn words from i x) (from + 32) i y) (from + 64) i z
+
+-- a word becomes one more
+unfoldable pub stepIn : List ℕ → ℕ → List ℕ
+stepIn words at = set words at (nextOf (getD words at 0))
+
+-- a store: array, cell and value; count and value; a count that becomes one more
+pub data Store : Type 0 where
+  cell : ℕ → ℕ → ℕ → Store
+  count : ℕ → ℕ → Store
+  step : ℕ → Store
+
+-- one of the thirteen arrays, one of the eight counts
+unfoldable pub fits : Store → Bool
+fits (cell k i v) = ltb k 13
+fits (count c v) = ltb c 8
+fits (step c) = ltb c 8
+
+unfoldable pub storeIn : List ℕ → Store → List ℕ
+storeIn words (cell k i v) = putIn words (32 * k) i v
+storeIn words (count c v) = set words (416 + c) v
+storeIn words (step c) = stepIn words (416 + c)
+
+unfoldable pub storesIn : List ℕ → List Store → List ℕ
+storesIn words [] = words
+storesIn words (x ∷ stores) = storesIn (storeIn words x) stores
+
+-- an array behind stores
+unfoldable pub arrayBehind : ℕ → List ℕ → Store → List ℕ
+arrayBehind j a (cell k i v) = elim (eqb k j) [ true ↦ set a i v | false ↦ a ]
+arrayBehind j a (count c v) = a
+arrayBehind j a (step c) = a
+
+unfoldable pub arraysBehind : ℕ → List ℕ → List Store → List ℕ
+arraysBehind j a [] = a
+arraysBehind j a (x ∷ stores) = arraysBehind j (arrayBehind j a x) stores
+
+-- a count behind stores
+unfoldable pub countBehind : ℕ → ℕ → Store → ℕ
+countBehind c n (cell k i v) = n
+countBehind c n (count b v) = elim (eqb b c) [ true ↦ v | false ↦ n ]
+countBehind c n (step b) = elim (eqb b c) [ true ↦ nextOf n | false ↦ n ]
+
+unfoldable pub countsBehind : ℕ → ℕ → List Store → ℕ
+countsBehind c n [] = n
+countsBehind c n (x ∷ stores) = countsBehind c (countBehind c n x) stores
+
+-- a state behind stores
+unfoldable pub stateBehind : State → List Store → State
+stateBehind s stores =
+    record {
+      lines = countsBehind 0 (s .lines) stores;
+      programs = countsBehind 1 (s .programs) stores;
+      body = countsBehind 2 (s .body) stores;
+      links = countsBehind 3 (s .links) stores;
+      tables =
+          record {
+            relations = countsBehind 4 (s .tables .relations) stores;
+            sets = arraysBehind 0 (s .tables .sets) stores;
+            keys = countsBehind 5 (s .tables .keys) stores;
+            children = arraysBehind 1 (s .tables .children) stores;
+            parents = arraysBehind 2 (s .tables .parents) stores;
+          };
+      stack =
+          record {
+            depth = countsBehind 6 (s .stack .depth) stores;
+            places = arraysBehind 3 (s .stack .places) stores;
+            parts = arraysBehind 4 (s .stack .parts) stores;
+            loops = arraysBehind 5 (s .stack .loops) stores;
+            firsts = arraysBehind 6 (s .stack .firsts) stores;
+            seconds = arraysBehind 7 (s .stack .seconds) stores;
+          };
+      statements =
+          record {
+            count = countsBehind 7 (s .statements .count) stores;
+            relations = arraysBehind 8 (s .statements .relations) stores;
+            parental = arraysBehind 9 (s .statements .parental) stores;
+            loops = arraysBehind 10 (s .statements .loops) stores;
+            firsts = arraysBehind 11 (s .statements .firsts) stores;
+            seconds = arraysBehind 12 (s .statements .seconds) stores;
+          };
+    }
+
+-- words that keep a state now, and are as before past it
+pub record Took (before after : List ℕ) (s : State) : Type 0 where
+  pub size : length after ≡ length before
+  pub state : stateIn after ≡ s
+  pub rest : drop 424 after ≡ drop 424 before
+
+-- open blocks down to a depth
+abbrev pub atDepth : Stack → ℕ → Stack
+atDepth k depth =
+    record {
+      depth = depth;
+      places = k .places;
+      parts = k .parts;
+      loops = k .loops;
+      firsts = k .firsts;
+      seconds = k .seconds;
+    }
+
+-- the words from one to another are 0, the others as before
+pub record Cleared (from to : ℕ) (before after : List ℕ) : Type 0 where
+  pub size : length after ≡ length before
+  pub inside : (p : ℕ) → from ≤ p → p < to → getD after p 0 ≡ 0
+  pub below : (p : ℕ) → p < from → getD after p 0 ≡ getD before p 0
+  pub above : (p : ℕ) → to ≤ p → getD after p 0 ≡ getD before p 0

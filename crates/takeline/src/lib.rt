@@ -1,0 +1,276 @@
+// The state that words keep: the first one, and the one behind a line.
+use text::Line;
+use text::LineKind;
+use text::StatementKind;
+ghost use mathlib.Core.Path.{_≡_};
+ghost use mathlib.Core.Bool.{cond};
+ghost use Prim.Native.Nat.{_-_, _≤_, _<_};
+ghost use lib.Bits.{bitOr};
+ghost use lib.ListN.{length, getD, set};
+ghost use Rattle.text.specs.Reading.{canBeParent};
+ghost use Rattle.kept.specs.Kept.{nextOf, markOf, pushedOf, poppedOf, secondOf, takeOf};
+ghost use Rattle.kept.specs.Kept.{takenRelation, takenKey, takenProgram, takenStatement, takenFlow, takenLink};
+ghost use Rattle.kept.specs.Words.{arrayIn, stateIn, startedIn, Taken};
+ghost use Rattle.takeline.specs.Stores.{putIn, marksIn, stepIn, atDepth, Took, Cleared};
+
+// One more; no count that is kept comes near the end.
+fn next(n: u64) -> u64
+    ensures { λ r. ⌜ r ≡ nextOf n ⌝ }
+{
+    if n < 65535 {
+        return n + 1;
+    }
+    n
+}
+
+// One less, 0 at 0.
+fn previous(n: u64) -> u64
+    ensures { λ r. ⌜ r ≡ n - 1 ⌝ }
+{
+    if n == 0 {
+        return 0;
+    }
+    n - 1
+}
+
+// The set of a block's place where it is of the part asked for.
+fn mark(part: u64, which: u64, place: u64) -> u64
+    ensures { λ r. ⌜ r ≡ markOf part which place ⌝ }
+{
+    if part != which {
+        return 0;
+    }
+    if place < 64 {
+        return 1u64 << place;
+    }
+    0
+}
+
+// 1 where a statement of the kind may be a link's parent.
+fn parental(kind: StatementKind) -> u64
+    ensures { λ r. ⌜ r ≡ cond (canBeParent kind) 1 0 ⌝ }
+{
+    match kind {
+        StatementKind::Is => 1,
+        StatementKind::Ks => 1,
+        StatementKind::Ps => 0,
+        StatementKind::Ku => 1,
+        StatementKind::Pu => 0,
+        StatementKind::Kd => 1,
+        StatementKind::Pd => 0,
+    }
+}
+
+// Sets a cell of the array that begins at a word; past its end nothing changes.
+fn put(words: &mut [u64], from: usize, i: u64, v: u64)
+    requires { ⌜ (from ≤ 392) × (424 ≤ length (now words)) ⌝ }
+    ensures { λ _. ⌜ now (words .exit) ≡ putIn (now (words .entry)) from i v ⌝ }
+{
+    if i < 32 {
+        words[from + i as usize] = v;
+    }
+}
+
+// Sets the words from one to another to 0.
+fn clear(words: &mut [u64], from: usize, to: usize)
+    requires { ⌜ (from ≤ to) × (to ≤ length (now words)) ⌝ }
+    ensures { λ _. ⌜ Cleared from to (now (words .entry)) (now (words .exit)) ⌝ }
+{
+    let mut i = from;
+    while i < to {
+        words[i] = 0;
+        i += 1;
+    }
+}
+
+// Sets three cells at one place of neighbouring arrays.
+fn put_marks(words: &mut [u64], from: usize, i: u64, x: u64, y: u64, z: u64)
+    requires { ⌜ (from ≤ 328) × (424 ≤ length (now words)) ⌝ }
+    ensures { λ _. ⌜ now (words .exit) ≡ marksIn (now (words .entry)) from i x y z ⌝ }
+{
+    put(words, from, i, x);
+    put(words, from + 32, i, y);
+    put(words, from + 64, i, z);
+}
+
+// Sets a word.
+fn set_word(words: &mut [u64], at: usize, v: u64)
+    requires { ⌜ at < length (now words) ⌝ }
+    ensures { λ _. ⌜ now (words .exit) ≡ set (now (words .entry)) at v ⌝ }
+{
+    words[at] = v;
+}
+
+// Makes a word one more.
+fn advance(words: &mut [u64], at: usize)
+    requires { ⌜ at < length (now words) ⌝ }
+    ensures { λ _. ⌜ now (words .exit) ≡ stepIn (now (words .entry)) at ⌝ }
+{
+    let n = words[at];
+    words[at] = next(n);
+}
+
+fn take_relation(words: &mut [u64], reads: u64)
+    requires { ⌜ 424 ≤ length (now words) ⌝ }
+    ensures { λ _. ⌜ Took (now (words .entry)) (now (words .exit)) (takenRelation (stateIn (now (words .entry))) reads) ⌝ }
+{
+    let at = kept::word(words, kept::RELATIONS);
+    put(words, kept::SETS, at, reads);
+    advance(words, kept::RELATIONS);
+    advance(words, kept::LINES);
+}
+
+fn take_key(words: &mut [u64], child: u8, parent: u8)
+    requires { ⌜ 424 ≤ length (now words) ⌝ }
+    ensures { λ _. ⌜ Took (now (words .entry)) (now (words .exit)) (takenKey (stateIn (now (words .entry))) child parent) ⌝ }
+{
+    let at = kept::word(words, kept::KEYS);
+    put(words, kept::CHILDREN, at, child as u64);
+    put(words, kept::PARENTS, at, parent as u64);
+    advance(words, kept::KEYS);
+    advance(words, kept::LINES);
+}
+
+// A new program: no block is open, and it has no statement yet.
+fn take_program(words: &mut [u64])
+    requires { ⌜ 424 ≤ length (now words) ⌝ }
+    ensures { λ _. ⌜ Took (now (words .entry)) (now (words .exit)) (takenProgram (stateIn (now (words .entry)))) ⌝ }
+{
+    clear(words, kept::OPEN_PLACES, kept::LINES);
+    set_word(words, kept::BODY, 0);
+    set_word(words, kept::LINKS, 0);
+    set_word(words, kept::DEPTH, 0);
+    set_word(words, kept::STATEMENTS, 0);
+    advance(words, kept::PROGRAMS);
+    advance(words, kept::LINES);
+}
+
+// One statement more, within the open blocks.
+fn take_statement(words: &mut [u64], rel: u8, fit: u64)
+    requires { ⌜ 424 ≤ length (now words) ⌝ }
+    ensures { λ _. ⌜ Took (now (words .entry)) (now (words .exit)) (takenStatement (stateIn (now (words .entry))) rel fit) ⌝ }
+{
+    let at = kept::word(words, kept::STATEMENTS);
+    let depth = kept::word(words, kept::DEPTH);
+    let loops = kept::cell(words, kept::OPEN_LOOPS, depth);
+    let firsts = kept::cell(words, kept::OPEN_FIRSTS, depth);
+    let seconds = kept::cell(words, kept::OPEN_SECONDS, depth);
+    put(words, kept::STATEMENT_RELATIONS, at, rel as u64);
+    put(words, kept::PARENTAL, at, fit);
+    put_marks(words, kept::AROUND_LOOPS, at, loops, firsts, seconds);
+    advance(words, kept::STATEMENTS);
+    advance(words, kept::BODY);
+    advance(words, kept::LINES);
+}
+
+// The places of one part above a depth: those below and the block's own.
+fn marked(words: &[u64], from: usize, below: u64, m: u64) -> u64
+    ensures { λ r. ⌜ r ≡ bitOr m (getD (arrayIn (now (words .entry)) from) below 0) ⌝ }
+{
+    let v = kept::cell(words, from, below);
+    m | v
+}
+
+// One block more above a depth.
+fn push(words: &mut [u64], below: u64, place: u64, part: u64)
+    requires { ⌜ 424 ≤ length (now words) ⌝ }
+    ensures { λ _. ⌜
+        Took (now (words .entry)) (now (words .exit))
+        (takenFlow (stateIn (now (words .entry))) (pushedOf (atDepth (stateIn (now (words .entry)) .stack) below) place part))
+        ⌝ }
+{
+    let loops = marked(words, kept::OPEN_LOOPS, below, mark(part, 0, place));
+    let firsts = marked(words, kept::OPEN_FIRSTS, below, mark(part, 1, place));
+    let seconds = marked(words, kept::OPEN_SECONDS, below, mark(part, 2, place));
+    let at = next(below);
+    put(words, kept::OPEN_PLACES, at, place);
+    put(words, kept::OPEN_PARTS, at, part);
+    put_marks(words, kept::OPEN_LOOPS, at, loops, firsts, seconds);
+    set_word(words, kept::DEPTH, at);
+    advance(words, kept::BODY);
+    advance(words, kept::LINES);
+}
+
+// A loop or the first arm of a branch begins.
+fn take_opening(words: &mut [u64], part: u64)
+    requires { ⌜ 424 ≤ length (now words) ⌝ }
+    ensures { λ _. ⌜
+        Took (now (words .entry)) (now (words .exit))
+        (takenFlow (stateIn (now (words .entry))) (pushedOf (stateIn (now (words .entry)) .stack) (stateIn (now (words .entry)) .body) part))
+        ⌝ }
+{
+    let depth = kept::word(words, kept::DEPTH);
+    let body = kept::word(words, kept::BODY);
+    push(words, depth, body, part);
+}
+
+// The innermost block goes on with its second arm.
+fn take_second(words: &mut [u64])
+    requires { ⌜ 424 ≤ length (now words) ⌝ }
+    ensures { λ _. ⌜
+        Took (now (words .entry)) (now (words .exit)) (takenFlow (stateIn (now (words .entry))) (secondOf (stateIn (now (words .entry)) .stack)))
+        ⌝ }
+{
+    let depth = kept::word(words, kept::DEPTH);
+    let place = kept::cell(words, kept::OPEN_PLACES, depth);
+    push(words, previous(depth), place, 2);
+}
+
+// The innermost block closed.
+fn take_closing(words: &mut [u64])
+    requires { ⌜ 424 ≤ length (now words) ⌝ }
+    ensures { λ _. ⌜
+        Took (now (words .entry)) (now (words .exit)) (takenFlow (stateIn (now (words .entry))) (poppedOf (stateIn (now (words .entry)) .stack)))
+        ⌝ }
+{
+    let depth = kept::word(words, kept::DEPTH);
+    set_word(words, kept::DEPTH, previous(depth));
+    advance(words, kept::BODY);
+    advance(words, kept::LINES);
+}
+
+fn take_link(words: &mut [u64])
+    requires { ⌜ 424 ≤ length (now words) ⌝ }
+    ensures { λ _. ⌜ Took (now (words .entry)) (now (words .exit)) (takenLink (stateIn (now (words .entry)))) ⌝ }
+{
+    advance(words, kept::LINKS);
+    advance(words, kept::LINES);
+}
+
+fn take_kind(words: &mut [u64], l: Line)
+    requires { ⌜ 424 ≤ length (now words) ⌝ }
+    ensures { λ _. ⌜ Took (now (words .entry)) (now (words .exit)) (takeOf (stateIn (now (words .entry))) l) ⌝ }
+{
+    let kind = l.kind;
+    match kind {
+        LineKind::Rl => take_relation(words, l.reads),
+        LineKind::Fk => take_key(words, l.rel, l.to),
+        LineKind::Pr => take_program(words),
+        LineKind::St(j) => take_statement(words, l.rel, parental(j)),
+        LineKind::Lo => take_opening(words, 0),
+        LineKind::Br => take_opening(words, 1),
+        LineKind::El => take_second(words),
+        LineKind::En => take_closing(words),
+        LineKind::Li => take_link(words),
+    }
+}
+
+// No line taken yet; too few words stay as they are.
+pub fn start(words: &mut [u64])
+    ensures { λ _. ⌜ now (words .exit) ≡ startedIn (now (words .entry)) ⌝ }
+{
+    if words.len() < 424 {
+        return;
+    }
+    clear(words, 0, 424);
+}
+
+// A line taken; too few words stay as they are.
+pub fn take(words: &mut [u64], l: Line)
+    ensures { λ _. ⌜ Taken (now (words .entry)) l (now (words .exit)) ⌝ }
+{
+    if words.len() < 424 {
+        return;
+    }
+    take_kind(words, l);
+}

@@ -1,0 +1,257 @@
+-- What is written over the tables of a given workload value settles the open functions' promises.
+use mathlib.Core.Bool.{Bool, true, false, cond, _||_}
+use mathlib.Core.List.{List, [], _∷_, _++_, map}
+use mathlib.Core.Option.{Option, none, some}
+use mathlib.Core.Path.{_≡_, refl, sym, ap, _∙_}
+use Prim.Native.Nat.{ℕ, zero, suc, _+_, _≤_, _<_}
+use native.Mathlib.Omega.{arith}
+use lib.ListN.{length, getD, take, drop, replicate, length-map, length-take, length-replicate}
+use lib.Seq.{getD-take}
+use lib.Dec.{ltb}
+use borrow.Author.Tests.{ltb-true, ltb-false}
+use Rattle.base.specs.Basic.{numbers}
+use Rattle.base.specs.BoolLaws.{or-left, or-right, or-of, or-false}
+use Rattle.base.specs.ListLaws.{length-numbersFrom}
+use Rattle.text.specs.declared.Line.{Line}
+use Rattle.text.specs.declared.Workload.{Workload}
+use Rattle.text.specs.Value.{Given, linesOf}
+use Rattle.graph.specs.Program.{Statement}
+use Rattle.graph.specs.Unfolding.{Node, nodesOf}
+use Rattle.report.specs.State.{StateRefusal, statementsIn, tooMany, shortForUnfoldings}
+use Rattle.report.specs.State.StateRefusal.{not-given, too-many, too-short, taken}
+use Rattle.choosing.specs.Cap.{Alike, cap}
+use Rattle.choosing.specs.Codes.{codeOf, codesOf, idsOf, markIn, marksOf}
+use Rattle.choosing.specs.CodesLaws.{length-codes}
+use Rattle.choosing.specs.Seen.{markOf, WordsFor}
+use Rattle.choosing.specs.Writing.{placeIds}
+use Rattle.choosing.specs.WritingLaws.{Tables}
+use Rattle.choosing.specs.Pieces.{Piece, flat, totalsBefore, piecesBefore}
+use Rattle.choosing.specs.PiecesLaws.{PieceFor, PiecesFor, length-words, total-count, total-statements, all-pieces, over-alike, length-pieces, flat-length, piece-programs, piece-lengths}
+use Rattle.choosing.specs.PlacesLaws.{IdWord, noMark, id-tables, id-words, LineWord, place-tables, words-for}
+use Rattle.choosing.specs.Table.{starts, cells, table}
+use Rattle.unfolder.specs.declared.Unfolded.{Unfolded}
+use Rattle.unfolder.specs.Result.{refusedWith, idsIn, startsIn, nodesTold, tableTold, overMany, tooShort, piecesOver, Ready, Tabled}
+use Rattle.unfolder.specs.Settled.{refusalOf, Settled, PlacesStand, PlacesSettled}
+use Rattle.linetables.proofs.CellLaws.{number-at}
+
+-- the promise, whatever stands in the area where nothing is refused
+record SettledAs (Full : List ℕ → Type 0) (w : Workload) (before : List ℕ) (r : Unfolded) (area : List ℕ) : Type 0 where
+  refusal : StateRefusal w (shortForUnfoldings (linesOf w) (length before)) (refusalOf (r .refusal))
+  refused : (n : ℕ) → refusalOf (r .refusal) ≡ some n → (r ≡ refusedWith n) × (area ≡ before)
+  unfolded : refusalOf (r .refusal) ≡ none → (r ≡ nodesTold (nodesOf (linesOf w))) × Full area
+
+-- the same number
+same-some : (m n : ℕ) → _≡_ {A = Option ℕ} (some m) (some n) → refusedWith m ≡ refusedWith n
+same-some m n e = let d : m ≡ n = cc in ap refusedWith d
+
+module _ (Full : List ℕ → Type 0) (w : Workload) (before : List ℕ) where
+  settled-refused : (r : Unfolded) (area : List ℕ) (n : ℕ)
+      → StateRefusal w (shortForUnfoldings (linesOf w) (length before)) (some (suc n)) → r ≡ refusedWith (suc n) → area ≡ before
+      → SettledAs Full w before r area
+  unfolding refusedWith refusalOf
+  settled-refused r area n h e d =
+      rw (e, d) (record {
+        refusal = h;
+        refused = λ m p. (same-some (suc n) m p, refl);
+        unfolded = λ p. let z : _≡_ {A = ℕ} 0 1 = cc in absurd (omega arith);
+      })
+
+  settled-taken : (r : Unfolded) (area : List ℕ) → StateRefusal w (shortForUnfoldings (linesOf w) (length before)) none
+      → r ≡ nodesTold (nodesOf (linesOf w)) → Full area → SettledAs Full w before r area
+  unfolding nodesTold refusalOf
+  settled-taken r area h e f =
+      rw e (record {
+        refusal = h;
+        refused = λ m p. let z : _≡_ {A = ℕ} 0 1 = cc in absurd (omega arith);
+        unfolded = λ p. (refl, f);
+      })
+
+-- where each piece starts, and the table of the nodes' pieces
+module _ (Word : Statement → ℕ → Type 0) (mark : Statement → ℕ) where
+  starts-nodes : (s : ℕ) (nodes : List Node) (pieces : List Piece) → PiecesFor Word mark nodes pieces → starts s pieces ≡ startsIn s nodes
+  unfolding PiecesFor starts startsIn
+  starts-nodes s [] [] h = refl
+  starts-nodes s [] (p ∷ pieces) h = absurd h
+  starts-nodes s (n ∷ nodes) [] h = absurd h
+  starts-nodes s (n ∷ nodes) (p ∷ pieces) h =
+      ap (λ (l : List ℕ). s ∷ l) (rw (length-words Word mark n p (h .0)) (starts-nodes (s + length (n .places)) nodes pieces (h .1)))
+
+  table-nodes : (nodes : List Node) (pieces : List Piece) → PiecesFor Word mark nodes pieces → tableTold (table pieces) ≡ nodesTold nodes
+  unfolding tableTold table nodesTold
+  table-nodes nodes pieces h =
+      rw (length-pieces Word mark nodes pieces h, starts-nodes 0 nodes pieces h, piece-programs Word mark nodes pieces h, piece-lengths Word mark nodes pieces h)
+
+module _ (Word : Statement → ℕ → Type 0) (mark : Statement → ℕ) (lines : List Line) (words marks : List ℕ) (fit : Tables Word mark lines words marks) where
+  over-nodes : overMany (codesOf lines) ≡ tooMany lines
+  unfolding overMany tooMany
+  over-nodes =
+      rw (length-codes lines, over-alike _ _ 64 (omega arith) (total-count lines), over-alike _ _ 512 (omega arith) (total-statements lines))
+
+  few-nodes : tooMany lines ≡ false → (length (nodesOf lines) ≤ 64) × (statementsIn (nodesOf lines) ≤ 512)
+  unfolding tooMany
+  few-nodes h =
+      let both = or-false (ltb 64 (length (nodesOf lines))) (ltb 512 (statementsIn (nodesOf lines))) h in
+      (ltb-false 64 (length (nodesOf lines)) (both .0), ltb-false 512 (statementsIn (nodesOf lines)) (both .1))
+
+  exact-statements : tooMany lines ≡ false → totalsBefore (codesOf lines) (length (codesOf lines)) .statements ≡ statementsIn (nodesOf lines)
+  unfolding cap
+  exact-statements h = rw (length-codes lines) (omega (arith, total-statements lines .same, few-nodes h .1))
+
+  pieces-for : tooMany lines ≡ false → PiecesFor Word mark (nodesOf lines) (piecesOver (codesOf lines) words marks)
+  pieces-for h = rw (length-codes lines) (all-pieces Word mark lines words marks fit (omega (arith, few-nodes h .0)))
+
+  ready : length words ≡ length lines → length marks ≡ length lines → Ready (codesOf lines) words marks
+  ready p q =
+      record {
+        paired = p ∙ sym (length-codes lines);
+        marked = q ∙ sym (length-codes lines);
+        few = λ o. let u : tooMany lines ≡ false = sym over-nodes ∙ o in
+            omega (arith, length-pieces Word mark (nodesOf lines) _ (pieces-for u), few-nodes u .0);
+        short = λ o. let u : tooMany lines ≡ false = sym over-nodes ∙ o in
+            omega (arith, flat-length Word mark (nodesOf lines) _ (pieces-for u), exact-statements u);
+      }
+
+-- a given workload value: over its tables the promise holds
+module _ (Word : Statement → ℕ → Type 0) (mark : Statement → ℕ) (w : Workload) (g : Given w) (words marks : List ℕ)
+    (fit : Tables Word mark (linesOf w) words marks) (before : List ℕ) (Full : List ℕ → Type 0)
+    (full : (pieces : List Piece) → PiecesFor Word mark (nodesOf (linesOf w)) pieces → Full (flat pieces ++ drop (length (flat pieces)) before)) where
+  settled-tables : (r : Unfolded) (area : List ℕ) → Tabled (codesOf (linesOf w)) words marks before r area → SettledAs Full w before r area
+  unfolding tooShort shortForUnfoldings
+  settled-tables r area u = go (tooMany (linesOf w)) refl (shortForUnfoldings (linesOf w) (length before)) refl
+    where
+      lines : List Line
+      lines = linesOf w
+
+      over : overMany (codesOf (linesOf w)) ≡ tooMany (linesOf w)
+      over = over-nodes Word mark (linesOf w) words marks fit
+
+      short : tooMany (linesOf w) ≡ false → tooShort (codesOf (linesOf w)) (length before) ≡ shortForUnfoldings (linesOf w) (length before)
+      short h = rw (exact-statements Word mark (linesOf w) words marks fit h)
+
+      go : (a : Bool) → tooMany (linesOf w) ≡ a → (b : Bool) → shortForUnfoldings (linesOf w) (length before) ≡ b → SettledAs Full w before r area
+      go true p b q = settled-refused Full w before r area 21 (too-many g p) (u .tells ∙ rw (over, p)) (u .stands ∙ rw (over, p))
+      go false p true q =
+          settled-refused Full w before r area 19 (too-short g p q) (u .tells ∙ rw (over, p, short p, q)) (u .stands ∙ rw (over, p, short p, q))
+      go false p false q =
+          let pieces = piecesOver (codesOf (linesOf w)) words marks in
+          let for = pieces-for Word mark (linesOf w) words marks fit p in
+          let written : area ≡ flat pieces ++ drop (length (flat pieces)) before = u .stands ∙ rw (over, p, short p, q) in
+          settled-taken Full w before r area (taken g p q)
+          (u .tells ∙ rw (over, p, short p, q) (table-nodes Word mark (nodesOf (linesOf w)) pieces for)) (rw written (full pieces for))
+
+-- a workload value that no text gives
+pub not-given-ids : (w : Workload) (before : List ℕ) (r : Unfolded) → (Given w → ⊥) → r ≡ refusedWith 21 → Settled w before r before
+not-given-ids w before r h e =
+    let s = settled-refused (λ area. area ≡ idsIn (nodesOf (linesOf w)) ++ drop (length (idsIn (nodesOf (linesOf w)))) before) w before r before 20 (not-given h) e refl in
+    record { refusal = s .refusal; refused = s .refused; unfolded = s .unfolded }
+
+pub not-given-places : (w : Workload) (before : List ℕ) (r : Unfolded) → (Given w → ⊥) → r ≡ refusedWith 21 → PlacesSettled w before r before
+not-given-places w before r h e =
+    let s = settled-refused (PlacesStand (linesOf w) before) w before r before 20 (not-given h) e refl in
+    record { refusal = s .refusal; refused = s .refused; unfolded = s .unfolded }
+
+-- a part of what a function makes of a list
+take-map : {A : Type 0} (f : A → ℕ) (n : ℕ) (l : List A) → take n (map f l) ≡ map f (take n l)
+take-map f zero l = refl
+take-map f (suc n) [] = refl
+take-map f (suc n) (x ∷ l) = ap (λ (r : List ℕ). f x ∷ r) (take-map f n l)
+
+no-marks : (n m i : ℕ) → _≡_ {A = ℕ} (getD (take n (replicate m 0)) i 0) 0
+no-marks zero m i = refl
+no-marks (suc n) zero i = refl
+no-marks (suc n) (suc m) zero = refl
+no-marks (suc n) (suc m) (suc i) = no-marks n m i
+
+flat-ids : (nodes : List Node) (pieces : List Piece) → PiecesFor IdWord noMark nodes pieces → flat pieces ≡ idsIn nodes
+unfolding PiecesFor flat idsIn
+flat-ids [] [] h = refl
+flat-ids [] (p ∷ pieces) h = absurd h
+flat-ids (n ∷ nodes) [] h = absurd h
+flat-ids (n ∷ nodes) (p ∷ pieces) h = rw (id-words [] (n .places) (p .words) (h .0 .words), flat-ids nodes pieces (h .1))
+
+-- the tables of a given workload value, cut to its lines
+module _ (w : Workload) (g : Given w) where
+  pub part-length : (l : List ℕ) → length l ≡ 1616 → w .count ≡ length (take (w .count) l)
+  part-length l h = omega (arith, length-take (w .count) l, g .fits)
+
+  pub part-fits : (l : List ℕ) → length l ≡ 1616 → w .count ≤ length l
+  part-fits l h = omega (arith, g .fits)
+
+  lines-length : length (linesOf w) ≡ w .count
+  unfolding linesOf
+  lines-length = omega (arith, length-take (w .count) (w .lines), g .fits, g .cells)
+
+  part-codes : (codes : List ℕ) → codes ≡ codesOf (w .lines) → take (w .count) codes ≡ codesOf (linesOf w)
+  unfolding codesOf linesOf
+  part-codes codes e = rw e (take-map (λ l. codeOf (l .kind)) (w .count) (w .lines))
+
+  part-ids : (ids : List ℕ) → ids ≡ idsOf (w .lines) → take (w .count) ids ≡ idsOf (linesOf w)
+  unfolding idsOf linesOf
+  part-ids ids e = rw e (take-map (λ l. l .id) (w .count) (w .lines))
+
+  part-marks : (marks : List ℕ) → marks ≡ marksOf (w .lines) → take (w .count) marks ≡ marksOf (linesOf w)
+  unfolding marksOf linesOf
+  part-marks marks e = rw e (take-map (λ l. markIn (l .kind) (l .id)) (w .count) (w .lines))
+
+  pub codes-length : (codes : List ℕ) → codes ≡ codesOf (w .lines) → length codes ≡ 1616
+  codes-length codes e = ap length e ∙ length-codes (w .lines) ∙ g .cells
+
+  pub ids-length : (ids : List ℕ) → ids ≡ idsOf (w .lines) → length ids ≡ 1616
+  unfolding idsOf
+  ids-length ids e = ap length e ∙ length-map (w .lines) (λ l. l .id) ∙ g .cells
+
+  pub marks-length : (marks : List ℕ) → marks ≡ marksOf (w .lines) → length marks ≡ 1616
+  unfolding marksOf
+  marks-length marks e = ap length e ∙ length-map (w .lines) (λ l. markIn (l .kind) (l .id)) ∙ g .cells
+
+  pub numbers-length : (words : List ℕ) → words ≡ numbers 1616 → length words ≡ 1616
+  numbers-length words e = ap length e ∙ length-numbersFrom 0 1616
+
+  -- ids, with nothing marked
+  module _ (codes ids : List ℕ) (c : codes ≡ codesOf (w .lines)) (i : ids ≡ idsOf (w .lines)) where
+    zeros : List ℕ
+    zeros = take (w .count) (replicate 1616 0)
+
+    id-fit : Tables IdWord noMark (linesOf w) (take (w .count) ids) zeros
+    unfolding zeros
+    id-fit = rw (part-ids ids i) (id-tables (linesOf w) zeros (no-marks (w .count) 1616))
+
+    pub ready-ids : Ready (take (w .count) codes) (take (w .count) ids) (take (w .count) (replicate 1616 0))
+    unfolding zeros
+    ready-ids = rw (part-codes codes c) (ready IdWord noMark (linesOf w) (take (w .count) ids) zeros id-fit
+        (sym (part-length ids (ids-length ids i)) ∙ sym lines-length)
+        (sym (part-length (replicate 1616 0) (length-replicate {A = ℕ} 1616 0)) ∙ sym lines-length))
+
+    pub settled-ids : (before : List ℕ) (r : Unfolded) (area : List ℕ)
+        → Tabled (take (w .count) codes) (take (w .count) ids) (take (w .count) (replicate 1616 0)) before r area → Settled w before r area
+    unfolding zeros
+    settled-ids before r area u =
+        let s = settled-tables IdWord noMark w g (take (w .count) ids) zeros id-fit before
+        (λ end. end ≡ idsIn (nodesOf (linesOf w)) ++ drop (length (idsIn (nodesOf (linesOf w)))) before)
+        (λ pieces h. rw (flat-ids (nodesOf (linesOf w)) pieces h) refl) r area (rw (part-codes codes c) at u) in
+        record { refusal = s .refusal; refused = s .refused; unfolded = s .unfolded }
+
+  -- line numbers, with the kinds marked that shield
+  module _ (codes words marks : List ℕ) (c : codes ≡ codesOf (w .lines)) (n : words ≡ numbers 1616) (m : marks ≡ marksOf (w .lines)) where
+    own-number : (i : ℕ) → i < length (linesOf w) → getD (take (w .count) words) i 0 ≡ i
+    own-number i h = getD-take (w .count) words i 0 (omega (arith, lines-length)) ∙ rw n (sym (number-at 1616 i (omega (arith, lines-length, g .fits))))
+
+    place-fit : Tables (LineWord (linesOf w)) markOf (linesOf w) (take (w .count) words) (take (w .count) marks)
+    place-fit = rw (part-marks marks m) (place-tables (linesOf w) (take (w .count) words) (omega (arith, lines-length, g .fits)) own-number)
+
+    pub ready-places : Ready (take (w .count) codes) (take (w .count) words) (take (w .count) marks)
+    ready-places = rw (part-codes codes c) (ready (LineWord (linesOf w)) markOf (linesOf w) (take (w .count) words) (take (w .count) marks) place-fit
+        (sym (part-length words (numbers-length words n)) ∙ sym lines-length)
+        (sym (part-length marks (marks-length marks m)) ∙ sym lines-length))
+
+    pub settled-places : (before : List ℕ) (r : Unfolded) (area : List ℕ)
+        → Tabled (take (w .count) codes) (take (w .count) words) (take (w .count) marks) before r area → PlacesSettled w before r area
+    settled-places before r area u =
+        let s = settled-tables (LineWord (linesOf w)) markOf w g (take (w .count) words) (take (w .count) marks) place-fit before (PlacesStand (linesOf w) before)
+        (λ pieces h. record {
+          words = flat pieces;
+          many = flat-length (LineWord (linesOf w)) markOf (nodesOf (linesOf w)) pieces h;
+          fits = words-for (linesOf w) (nodesOf (linesOf w)) pieces h;
+          stands = refl;
+        }) r area (rw (part-codes codes c) at u) in
+        record { refusal = s .refusal; refused = s .refused; unfolded = s .unfolded }

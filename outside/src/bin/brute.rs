@@ -1,0 +1,190 @@
+//! `brute SEED COUNT [TEXT]`: brute force against demand 3, independent of any proof. COUNT robust and COUNT dangerous
+//! random small workloads (or the workload of a text file, COUNT schedules); for each, random schedules that obey document 01; for each schedule
+//! all orders of its transactions are tried in the serial run. Robust ones must never fail; how often dangerous
+//! ones do is printed, so that a check which cannot fail is noticed.
+
+use outside::generator::*;
+use outside::lines::text_of;
+use outside::random::Random;
+use outside::reader::*;
+use outside::schedule::*;
+use outside::serial::*;
+use outside::special::linked;
+use outside::verdict::*;
+use outside::workload::*;
+
+const SCHEDULES: usize = 40;
+
+/// What was found for workloads of one verdict.
+#[derive(Default)]
+struct Tally {
+    workloads: usize,
+    with_back_edges: usize,
+    by_links: usize,
+    schedules: usize,
+    given_up: usize,
+    overlapping: usize,
+    failed: usize,
+    failing_workloads: usize,
+}
+
+fn main() {
+    let words: Vec<String> = std::env::args().collect();
+    let number = |at: usize| words.get(at).and_then(|word| word.parse::<u64>().ok()).expect("usage: brute SEED COUNT [TEXT]");
+    let (mut random, count) = (Random::new(number(1)), number(2) as usize);
+    let (mut robust, mut danger) = (Tally::default(), Tally::default());
+    if let Some(path) = words.get(3) {
+        let text = std::fs::read(path).expect("a text");
+        try_workload(&mut random, &text, count, &mut robust, &mut danger, usize::MAX);
+    }
+    while words.len() < 4 && (robust.workloads < count || danger.workloads < count) {
+        let lines = if random.chance(1, 2) { valid(&mut random, Size::Tiny) } else { linked(&mut random) };
+        let text = text_of(&lines);
+        try_workload(&mut random, &text, SCHEDULES, &mut robust, &mut danger, count);
+    }
+    show("robust", &robust);
+    show("danger", &danger);
+    if robust.failed > 0 {
+        println!("DEMAND 3 FAILS: {} schedules of robust workloads have no serial order", robust.failed);
+        std::process::exit(1);
+    }
+}
+
+/// Tries schedules of one workload, unless enough of its verdict were tried.
+fn try_workload(random: &mut Random, text: &[u8], schedules: usize, robust: &mut Tally, danger: &mut Tally, enough: usize) {
+    let Ok(workload) = read(text) else { return };
+    let Some(verdict) = judge(&workload, &mut [EMPTY_STEP; MAX_STEPS]) else { return };
+    let tally = if verdict.steps == 0 { robust } else { danger };
+    // Robust workloads without back edges are many and dull: one in six is kept.
+    if tally.workloads >= enough || verdict.edges == 0 || (verdict.back == 0 && !by_links(text) && !random.chance(1, 6)) {
+        return;
+    }
+    tally.workloads += 1;
+    tally.with_back_edges += (verdict.back > 0) as usize;
+    tally.by_links += (verdict.steps == 0 && by_links(text)) as usize;
+    let before = tally.failed;
+    for _ in 0..schedules {
+        try_schedule(random, text, &workload, verdict.steps == 0, tally);
+    }
+    tally.failing_workloads += (tally.failed > before) as usize;
+}
+
+/// Whether the verdict would be danger without the links.
+fn by_links(text: &[u8]) -> bool {
+    let lines = text.split_inclusive(|&byte| byte == b'\n').filter(|line| !line.starts_with(b"li"));
+    let Ok(workload) = read(&lines.collect::<Vec<_>>().concat()) else { return false };
+    judge(&workload, &mut [EMPTY_STEP; MAX_STEPS]).is_some_and(|verdict| verdict.steps > 0)
+}
+
+fn try_schedule(random: &mut Random, text: &[u8], workload: &Workload, robust: bool, tally: &mut Tally) {
+    let count = *random.pick(&[2, 2, 3, 3, 4, 5]);
+    let Some(schedule) = draw(random, workload, count) else {
+        tally.given_up += 1;
+        return;
+    };
+    tally.schedules += 1;
+    tally.overlapping += schedule.order.windows(2).any(|pair| is_cut(&schedule, pair)) as usize;
+    if let Some(broken) = broken_rule(&schedule) {
+        println!("A SCHEDULE BREAKS A RULE ({broken}):\n{}", String::from_utf8_lossy(text));
+        show_schedule(&schedule);
+        std::process::exit(1);
+    }
+    if serial_order(&schedule).is_none() {
+        tally.failed += 1;
+        if robust && tally.failed == 1 {
+            println!("NO SERIAL ORDER, though robust:\n{}", String::from_utf8_lossy(text));
+            show_schedule(&schedule);
+        }
+    }
+}
+
+/// Whether another transaction goes on before this one's commit.
+fn is_cut(schedule: &Schedule, pair: &[(usize, usize)]) -> bool {
+    pair[0].0 != pair[1].0 && !matches!(schedule.transactions[pair[0].0][pair[0].1], Operation::Commit)
+}
+
+// ---- the rules once more, over the finished list
+
+/// A rule on versions that the finished schedule breaks, if any: first and last writes, the ban on writing between
+/// another's write and its commit, and what reads see.
+fn broken_rule(schedule: &Schedule) -> Option<&'static str> {
+    let time = |by: (usize, usize)| schedule.order.iter().position(|&other| other == by).expect("performed");
+    let commit = |own: usize| time((own, schedule.transactions[own].len() - 1));
+    for (tuple, writes) in schedule.versions.iter().enumerate() {
+        let starts = schedule.ground.starts_visible[tuple];
+        for (at, write) in writes.iter().enumerate() {
+            if (write.sort == Sort::Insert) != (at == 0 && !starts) {
+                return Some("an insert is the first write of a tuple that started unborn, and of no other");
+            }
+            if write.sort == Sort::Delete && at + 1 < writes.len() {
+                return Some("a delete is a tuple's last write");
+            }
+            let dirty = |later: &Written| later.by.0 != write.by.0 && time(later.by) < commit(write.by.0);
+            if writes[at + 1..].iter().any(dirty) {
+                return Some("no write between another's write and its commit");
+            }
+        }
+    }
+    let seen = |own: usize, now: usize, tuple: usize| {
+        let before: Vec<Written> = schedule.versions[tuple].iter().copied().filter(|write| time(write.by) < now).collect();
+        let own_latest = before.iter().rposition(|write| write.by.0 == own);
+        let last = own_latest.or(before.iter().rposition(|write| commit(write.by.0) < now));
+        before[..last.map_or(0, |at| at + 1)].to_vec()
+    };
+    (0..schedule.order.len()).find_map(|now| broken_read(schedule, now, &seen))
+}
+
+/// Whether the operation at this time reads an invisible version, or took other sources than the version that it sees has.
+fn broken_read(schedule: &Schedule, now: usize, seen: &dyn Fn(usize, usize, usize) -> Vec<Written>) -> Option<&'static str> {
+    let (own, number) = schedule.order[now];
+    let mut sees = Vec::new();
+    let took = match &schedule.transactions[own][number] {
+        Operation::Read { tuple, reads, took } => {
+            let version = seen(own, now, *tuple);
+            if !visible(schedule.ground.starts_visible[*tuple], &version) {
+                return Some("reads meet visible versions");
+            }
+            sources(&version, *reads, &mut sees);
+            took
+        }
+        Operation::Predicate { rel, tests, took } => {
+            for tuple in (0..schedule.versions.len()).filter(|&tuple| schedule.ground.rel[tuple] == *rel) {
+                let version = seen(own, now, tuple);
+                sees.push(existence(&version));
+                sources(&version, *tests, &mut sees);
+            }
+            took
+        }
+        _ => return None,
+    };
+    if sees == *took { None } else { Some("a read sees its own latest version, else the last committed one, else the first") }
+}
+
+// ---- printing
+
+fn show(word: &str, tally: &Tally) {
+    let share = |part: usize, whole: usize| 100.0 * part as f64 / whole.max(1) as f64;
+    println!(
+        "{word}: {} workloads ({} with back edges, {} robust by their links alone), {} schedules ({} with overlap, {} given up): \
+         {} without a serial order ({:.1} %), in {} workloads ({:.1} %)",
+        tally.workloads,
+        tally.with_back_edges,
+        tally.by_links,
+        tally.schedules,
+        tally.overlapping,
+        tally.given_up,
+        tally.failed,
+        share(tally.failed, tally.schedules),
+        tally.failing_workloads,
+        share(tally.failing_workloads, tally.workloads)
+    );
+}
+
+fn show_schedule(schedule: &Schedule) {
+    for (tuple, rel) in schedule.ground.rel.iter().enumerate() {
+        println!("tuple {tuple} of relation {rel} starts {}", if schedule.ground.starts_visible[tuple] { "visible" } else { "unborn" });
+    }
+    for &(own, number) in &schedule.order {
+        println!("transaction {own}: {:?}", schedule.transactions[own][number]);
+    }
+}

@@ -1,0 +1,69 @@
+//! `check MODE PROGRAM FOLDER`: runs a program on every FOLDER/NAME.txt and compares with FOLDER/NAME.out.
+//! MODE report: the names and the verdict line, or the refusal, exactly; the walk by the checker; the rest of the shape too.
+//! MODE reader: PROGRAM prints reports; a refusal's number and line are compared, or that the text is accepted.
+//! MODE same: the whole output is compared (listings of unfoldings and edges).
+
+use outside::outcome::*;
+use outside::report::*;
+use std::path::{Path, PathBuf};
+
+fn main() {
+    let words: Vec<String> = std::env::args().collect();
+    let [_, mode, program, folder] = &words[..] else {
+        eprintln!("usage: check report|reader|same PROGRAM FOLDER");
+        std::process::exit(2);
+    };
+    let (mut passed, mut failed) = (0, 0);
+    for path in texts(Path::new(folder)) {
+        match judged(mode, program, &path) {
+            Ok(()) => passed += 1,
+            Err(fault) => {
+                failed += 1;
+                println!("{}: {fault}", path.display());
+            }
+        }
+    }
+    println!("{folder}: {passed} passed, {failed} failed");
+    if failed > 0 || passed == 0 {
+        std::process::exit(1);
+    }
+}
+
+fn texts(folder: &Path) -> Vec<PathBuf> {
+    let entries = std::fs::read_dir(folder).expect("a folder");
+    let mut paths: Vec<PathBuf> = entries.map(|entry| entry.expect("an entry").path()).collect();
+    paths.retain(|path| path.extension().is_some_and(|end| end == "txt"));
+    paths.sort();
+    paths
+}
+
+fn judged(mode: &str, program: &str, path: &Path) -> Result<(), String> {
+    let text = std::fs::read(path).map_err(|error| error.to_string())?;
+    let expected = std::fs::read_to_string(path.with_extension("out")).map_err(|error| format!("no expected output: {error}"))?;
+    let ran = run(program, &text).map_err(|error| format!("cannot run: {error}"))?;
+    match mode {
+        "report" => as_report(&text, &expected, &ran),
+        "reader" => as_reading(&expected, &ran),
+        _ => check_same(&expected, &ran),
+    }
+}
+
+fn as_report(text: &[u8], expected: &str, ran: &Ran) -> Result<(), String> {
+    check_report(text, ran)?;
+    let output = String::from_utf8_lossy(&ran.output).to_string();
+    if first_two_lines(&output) == expected { Ok(()) } else { Err(format!("expected\n{expected}but got\n{output}")) }
+}
+
+fn as_reading(expected: &str, ran: &Ran) -> Result<(), String> {
+    let output = String::from_utf8_lossy(&ran.output).to_string();
+    let refusal = output.strip_prefix(REFUSED_NAMES);
+    let same = match expected.strip_prefix("accepted ") {
+        None => refusal == Some(expected),
+        Some(counts) if output.starts_with(VERDICT_NAMES) => {
+            let programs = output.split_whitespace().nth(6);
+            programs.is_some() && programs == counts.split_whitespace().nth(5)
+        }
+        Some(_) => refusal == Some("22 0\n"),
+    };
+    if ran.status == Some(0) && same { Ok(()) } else { Err(format!("expected {expected:?} but got {output:?}")) }
+}

@@ -1,0 +1,101 @@
+//! `compare PROGRAM SEED COUNT [report|edges|unfoldings]`: runs a program on COUNT generated texts, standard input to
+//! standard output, and compares with this implementation. PROGRAM may have arguments ("target/outside report").
+//! The first difference is printed, its text saved under found/; then the histogram and the count of checks.
+
+use outside::generator::any_text;
+use outside::outcome::*;
+use outside::random::Random;
+use outside::report::*;
+use std::collections::BTreeMap;
+use std::sync::atomic::{AtomicUsize, Ordering};
+use std::sync::Mutex;
+
+/// What the workers share: the next text, the first difference, and the outcomes so far.
+struct Shared {
+    program: String,
+    mode: String,
+    seed: u64,
+    next: AtomicUsize,
+    end: AtomicUsize,
+    difference: Mutex<Option<(usize, String)>>,
+    outcomes: Mutex<BTreeMap<String, usize>>,
+}
+
+fn main() {
+    let words: Vec<String> = std::env::args().collect();
+    let (Some(program), Some(Ok(seed)), Some(Ok(count))) =
+        (words.get(1), words.get(2).map(|w| w.parse()), words.get(3).map(|w| w.parse()))
+    else {
+        eprintln!("usage: compare PROGRAM SEED COUNT [report|edges|unfoldings]");
+        std::process::exit(2);
+    };
+    let shared = Shared {
+        program: program.clone(),
+        mode: words.get(4).cloned().unwrap_or("report".to_string()),
+        seed,
+        next: AtomicUsize::new(0),
+        end: AtomicUsize::new(count),
+        difference: Mutex::new(None),
+        outcomes: Mutex::new(BTreeMap::new()),
+    };
+    std::thread::scope(|scope| {
+        for _ in 0..2 {
+            scope.spawn(|| work(&shared));
+        }
+    });
+    finish(&shared);
+}
+
+/// Each text has a seed of its own, so that it can be made again without those before it.
+fn text_number(seed: u64, number: usize) -> Vec<u8> {
+    any_text(&mut Random::new(seed.wrapping_mul(1_000_003).wrapping_add(number as u64)))
+}
+
+fn work(shared: &Shared) {
+    loop {
+        let number = shared.next.fetch_add(1, Ordering::Relaxed);
+        if number >= shared.end.load(Ordering::Relaxed) {
+            return;
+        }
+        let text = text_number(shared.seed, number);
+        match judged(shared, &text) {
+            Ok(outcome) => *shared.outcomes.lock().unwrap().entry(outcome).or_insert(0) += 1,
+            Err(difference) => {
+                shared.end.fetch_min(number, Ordering::Relaxed);
+                let mut first = shared.difference.lock().unwrap();
+                if first.as_ref().is_none_or(|(other, _)| number < *other) {
+                    *first = Some((number, difference));
+                }
+            }
+        }
+    }
+}
+
+fn judged(shared: &Shared, text: &[u8]) -> Result<String, String> {
+    let ran = run(&shared.program, text).map_err(|error| format!("cannot run: {error}"))?;
+    let expected = match shared.mode.as_str() {
+        "edges" => list_edges(text),
+        "unfoldings" => list_unfoldings(text),
+        _ => return check_report(text, &ran),
+    };
+    check_same(&expected, &ran)?;
+    let refused = expected.strip_prefix(REFUSED_NAMES).and_then(|rest| rest.split(' ').next());
+    Ok(refused.map_or("listed".to_string(), |number| format!("refused {number}")))
+}
+
+fn finish(shared: &Shared) {
+    let outcomes = shared.outcomes.lock().unwrap();
+    let total: usize = outcomes.values().sum();
+    println!("outcome          texts");
+    for (outcome, count) in outcomes.iter() {
+        println!("{outcome:<12} {count:>9}");
+    }
+    println!("{total} texts compared alike (seed {}): status, bytes, outcome, counts, lines, walks", shared.seed);
+    if let Some((number, difference)) = &*shared.difference.lock().unwrap() {
+        let path = format!("found/{}-{number}.txt", shared.seed);
+        let saved = std::fs::create_dir_all("found").and_then(|_| std::fs::write(&path, text_number(shared.seed, *number)));
+        let place = saved.map_or_else(|error| format!("not saved: {error}"), |_| path);
+        println!("DIFFERENT: text {number} ({place}): {difference}");
+        std::process::exit(1);
+    }
+}

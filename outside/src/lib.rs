@@ -1,0 +1,21 @@
+//! The independent implementation of document 01 in plain Rust: it shares nothing with the Rattle code.
+//! Text -> workload -> unfoldings -> edges -> verdict with a walk -> report, a checker for walks,
+//! and a generator of texts. The programs under `bin/` are thin.
+
+pub mod damage;
+pub mod edges;
+pub mod generator;
+pub mod lines;
+pub mod outcome;
+pub mod random;
+pub mod reader;
+pub mod report;
+pub mod schedule;
+pub mod serial;
+pub mod sizes;
+pub mod special;
+pub mod stages;
+pub mod unfolding;
+pub mod verdict;
+pub mod walk;
+pub mod workload;

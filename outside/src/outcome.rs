@@ -1,0 +1,152 @@
+//! Judges another program's output on a text: shape, outcome, counts and refusal line exactly, the walk by the checker.
+
+use crate::reader::read;
+use crate::report::*;
+use crate::verdict::*;
+use crate::walk::fault_of_walk;
+use std::io::{Read, Write};
+use std::process::{Command, Stdio};
+
+/// What a program gave on a text.
+pub struct Ran {
+    pub output: Vec<u8>,
+    pub errors: Vec<u8>,
+    pub status: Option<i32>,
+}
+
+/// Runs a program (with arguments, parted by spaces) on a text.
+pub fn run(program: &str, text: &[u8]) -> std::io::Result<Ran> {
+    let mut words = program.split_whitespace();
+    let mut child = Command::new(words.next().unwrap_or(""))
+        .args(words)
+        .stdin(Stdio::piped())
+        .stdout(Stdio::piped())
+        .stderr(Stdio::piped())
+        .spawn()?;
+    // A program may stop reading past 32,768 bytes: a broken pipe is no fault. Output is small for reports, but
+    // listings are large, so the text is fed from its own thread where pipes might fill.
+    let mut input = child.stdin.take().expect("piped");
+    let mut output = Vec::new();
+    let mut errors = Vec::new();
+    if text.len() <= 60_000 {
+        let _ = input.write_all(text);
+        drop(input);
+        child.stdout.take().expect("piped").read_to_end(&mut output)?;
+    } else {
+        let text = text.to_vec();
+        let feeder = std::thread::spawn(move || {
+            let _ = input.write_all(&text);
+        });
+        child.stdout.take().expect("piped").read_to_end(&mut output)?;
+        let _ = feeder.join();
+    }
+    child.stderr.take().expect("piped").read_to_end(&mut errors)?;
+    Ok(Ran { output, errors, status: child.wait()?.code() })
+}
+
+/// The outcome by name (`robust`, `danger`, `refused N`), or what is wrong with the report.
+pub fn check_report(text: &[u8], ran: &Ran) -> Result<String, String> {
+    check_ended(ran)?;
+    let expected = report(text);
+    let output = std::str::from_utf8(&ran.output).map_err(|_| "the output is no text".to_string())?;
+    if first_two_lines(output) != first_two_lines(&expected) {
+        return Err(format!("expected\n{}but got\n{output}", first_two_lines(&expected)));
+    }
+    let rest = &output[first_two_lines(output).len()..];
+    let values = expected.lines().nth(1).unwrap_or("");
+    let word = values.split(' ').next().unwrap_or("");
+    if word == "danger" {
+        check_walk(text, rest)?;
+        return Ok("danger".to_string());
+    }
+    if !rest.is_empty() {
+        return Err(format!("extra bytes behind the report: {rest:?}"));
+    }
+    Ok(if word == "robust" { "robust".to_string() } else { format!("refused {word}") })
+}
+
+/// The whole output compared, for listings of edges and unfoldings.
+pub fn check_same(expected: &str, ran: &Ran) -> Result<(), String> {
+    check_ended(ran)?;
+    if ran.output == expected.as_bytes() {
+        return Ok(());
+    }
+    let output = String::from_utf8_lossy(&ran.output);
+    let differs = expected.lines().zip(output.lines()).position(|(a, b)| a != b);
+    let line = differs.unwrap_or(expected.lines().count().min(output.lines().count()));
+    let at = |text: &str| text.lines().nth(line).unwrap_or("(nothing)").to_string();
+    Err(format!("line {}: expected {:?} but got {:?}", line + 1, at(expected), at(&output)))
+}
+
+fn check_ended(ran: &Ran) -> Result<(), String> {
+    if ran.status != Some(0) {
+        return Err(format!("ended with status {:?}, errors {:?}", ran.status, String::from_utf8_lossy(&ran.errors)));
+    }
+    if !ran.errors.is_empty() {
+        return Err(format!("wrote errors: {:?}", String::from_utf8_lossy(&ran.errors)));
+    }
+    Ok(())
+}
+
+/// The first two lines with their 0A, or all there is.
+pub fn first_two_lines(text: &str) -> &str {
+    match text.match_indices('\n').nth(1) {
+        Some((at, _)) => &text[..at + 1],
+        None => text,
+    }
+}
+
+fn check_walk(text: &[u8], rest: &str) -> Result<(), String> {
+    let steps = rest.strip_prefix(STEP_NAMES).ok_or("no line of names for the steps")?;
+    let walk = parse_walk(steps)?;
+    let unfolded = unfolded(text).map_err(|_| "the text is refused".to_string())?;
+    match fault_of_walk(&unfolded.unfoldings, &unfolded.spots, &walk) {
+        None => Ok(()),
+        Some(fault) => Err(format!("the walk is not lawful: {fault}\n{rest}")),
+    }
+}
+
+/// The steps of a report. Written again they must give the same bytes, so no other form passes.
+pub fn parse_walk(steps: &str) -> Result<Vec<Step>, String> {
+    let mut walk = Vec::new();
+    let mut again = String::new();
+    for (number, line) in steps.lines().enumerate() {
+        let step = parse_step(number, line).ok_or_else(|| format!("not a step: {line:?}"))?;
+        again.push_str(&format!("{number} {} {} {} {}\n", step.node, step.leaves, step.enters, step.flow as char));
+        walk.push(step);
+    }
+    if again == steps { Ok(walk) } else { Err(format!("steps not in the report's form: {steps:?}")) }
+}
+
+fn parse_step(number: usize, line: &str) -> Option<Step> {
+    let fields: Vec<&str> = line.split(' ').collect();
+    if fields.len() != 5 || fields[0].parse() != Ok(number) || fields[4].len() != 1 {
+        return None;
+    }
+    Some(Step {
+        node: fields[1].parse().ok()?,
+        leaves: fields[2].parse().ok()?,
+        enters: fields[3].parse().ok()?,
+        flow: fields[4].as_bytes()[0],
+    })
+}
+
+/// One line for the reader's vectors: number and line, or `accepted` with the counts of lines by sort.
+pub fn reading(text: &[u8]) -> String {
+    use crate::workload::*;
+    match read(text) {
+        Err(refusal) => format!("{} {}\n", refusal.number, refusal.line),
+        Ok(workload) => {
+            let count = |test: &dyn Fn(u8) -> bool| workload.taken().iter().filter(|line| test(line.kind)).count();
+            format!(
+                "accepted relations {} keys {} programs {} statements {} flow {} links {}\n",
+                count(&|kind| kind == RL),
+                count(&|kind| kind == FK),
+                count(&|kind| kind == PR),
+                count(&is_statement),
+                count(&is_flow),
+                count(&|kind| kind == LI)
+            )
+        }
+    }
+}

@@ -1,0 +1,63 @@
+//! This side's stages from the text on, with results as one number, as `rattle.rs` has them for the proved code.
+
+use crate::edges::*;
+use crate::reader::*;
+use crate::unfolding::*;
+use crate::verdict::*;
+use crate::workload::*;
+use std::hint::black_box;
+
+/// The most edges that a workload has.
+pub const MOST_EDGES: usize = 2 * MAX_PLACES * MAX_PLACES;
+
+pub fn refused(number: u8, line: usize) -> u32 {
+    1 << 31 | (number as u32) << 16 | line as u32
+}
+
+/// Lines read.
+pub fn read_stage(text: &[u8], _: &mut [Edge]) -> u32 {
+    let mut workload = Workload::empty();
+    match read_into(text, &mut workload) {
+        Ok(()) => black_box(&workload).count as u32,
+        Err(refusal) => refused(refusal.number, refusal.line),
+    }
+}
+
+/// Nodes and places.
+pub fn unfold_stage(text: &[u8], _: &mut [Edge]) -> u32 {
+    let mut workload = Workload::empty();
+    if let Err(refusal) = read_into(text, &mut workload) {
+        return refused(refusal.number, refusal.line);
+    }
+    let mut unfoldings = Unfoldings::empty();
+    if !unfold(&workload, &mut unfoldings) {
+        return refused(22, 0);
+    }
+    (black_box(&unfoldings).nodes as u32) << 16 | unfoldings.places as u32
+}
+
+/// How many edges were put into the area.
+pub fn edges_stage(text: &[u8], area: &mut [Edge]) -> u32 {
+    let mut workload = Workload::empty();
+    if let Err(refusal) = read_into(text, &mut workload) {
+        return refused(refusal.number, refusal.line);
+    }
+    let mut unfoldings = Unfoldings::empty();
+    if !unfold(&workload, &mut unfoldings) {
+        return refused(22, 0);
+    }
+    fill(&unfoldings, &spots(&workload, &unfoldings), area).map_or(refused(20, 0), |edges| edges as u32)
+}
+
+/// The number of edges, with bit 30 for danger.
+pub fn verdict_stage(text: &[u8], _: &mut [Edge]) -> u32 {
+    let mut workload = Workload::empty();
+    if let Err(refusal) = read_into(text, &mut workload) {
+        return refused(refusal.number, refusal.line);
+    }
+    let mut walk = [EMPTY_STEP; MAX_STEPS];
+    match judge(&workload, &mut walk) {
+        None => refused(22, 0),
+        Some(verdict) => ((verdict.steps > 0) as u32) << 30 | verdict.edges as u32,
+    }
+}
