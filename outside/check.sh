@@ -1,15 +1,18 @@
 #!/bin/sh
 # check.sh PROGRAM [UNFOLDINGS EDGES]: runs a verdict program over all examples and over the vectors of verdict and reader; and
 # programs that print listings, as `outside unfoldings` and `outside edges` do, over the other vectors. All folders are run.
+# The vectors of reader, unfoldings and edges live in crates/inspect, where the gate runs them; here they are spread into folders.
 here="$(cd "$(dirname "$0")" && pwd)"
 root="$(cd "$here/.." && pwd)"
 check="$here/target/check"
 [ -x "$check" ] || "$here/build.sh" || exit 1
 program="${1:-$here/target/outside report}"
+vectors="$here/target/vectors"
+"$here/spread-vectors.sh" "$root/crates/inspect" "$vectors" || exit 1
 failed=0
 "$check" report "$program" "$root/examples" || failed=1
 "$check" report "$program" "$root/vectors/verdict" || failed=1
-"$check" reader "$program" "$root/vectors/reader" || failed=1
-[ -z "$2" ] || "$check" same "$2" "$root/vectors/unfoldings" || failed=1
-[ -z "$3" ] || "$check" same "$3" "$root/vectors/edges" || failed=1
+"$check" reader "$program" "$vectors/reader" || failed=1
+[ -z "$2" ] || "$check" same "$2" "$vectors/unfoldings" || failed=1
+[ -z "$3" ] || "$check" same "$3" "$vectors/edges" || failed=1
 exit $failed

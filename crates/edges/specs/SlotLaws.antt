@@ -20,7 +20,8 @@ use Rattle.tables.specs.TableLaws.{onesIn-ones}
 use Rattle.edges.specs.declared.Letter.{Letter}
 use Rattle.edges.specs.declared.Edge.{Edge}
 use Rattle.edges.specs.declared.Counts.{Counts}
-use Rattle.edges.specs.Slots.{flowByte, letterByte, letterCode, letterMeant, coded}
+use Rattle.edges.specs.declared.EdgeStep.{EdgeStep}
+use Rattle.edges.specs.Slots.{flowByte, letterByte, letterCode, letterMeant, coded, noEdge, edgeFrom}
 use Rattle.edges.specs.Slots.{tableEdges, tableCounts, fittingIn, slots, leftRow, rightRow}
 use Rattle.edges.specs.Slots.{standsAt, slotEdge, edgeAt, following, nextFrom, nextSlot, one, backOne, edgesBelow, backBelow, countsBelow}
 
@@ -349,3 +350,30 @@ unfolding fittingIn tableCounts
 fitting-none table room counts e h =
     let same : counts .edges ≡ length (tableEdges table) = ap (λ (c : Counts). c .edges) e in
     simp (lt-leb (length (tableEdges table)) room (rw same at h))
+
+-- the first edge from a slot on, where there is one and where there is none
+pub from-found : (table : List ℕ) (n x slot : ℕ) (edge : Edge) → n ≡ rowCount table → slot ≡ nextSlot table x → slot < n * 1024
+    → edge ≡ edgeAt table slot
+    → _≡_ {A = EdgeStep} (record { found = true; slot = slot; edge = edge }) (edgeFrom table x)
+unfolding edgeFrom slots
+from-found table n x slot edge rows s h e = λ i. record {
+  found = sym inside i;
+  slot = s i;
+  edge = (e ∙ ap (edgeAt table) s ∙ sym (ap (λ (b : Bool). cond b (edgeAt table (nextSlot table x)) noEdge) inside)) i;
+}
+  where
+    inside : ltb (nextSlot table x) (slots table) ≡ true
+    inside = lt-ltb (nextSlot table x) (slots table) (omega arith)
+
+pub from-none : (table : List ℕ) (n x slot : ℕ) (edge : Edge) → n ≡ rowCount table → slot ≡ nextSlot table x → n * 1024 ≤ slot
+    → edge ≡ noEdge
+    → _≡_ {A = EdgeStep} (record { found = false; slot = slot; edge = edge }) (edgeFrom table x)
+unfolding edgeFrom slots
+from-none table n x slot edge rows s h e = λ i. record {
+  found = sym past i;
+  slot = s i;
+  edge = (e ∙ sym (ap (λ (b : Bool). cond b (edgeAt table (nextSlot table x)) noEdge) past)) i;
+}
+  where
+    past : ltb (nextSlot table x) (slots table) ≡ false
+    past = le-ltb (nextSlot table x) (slots table) (omega arith)

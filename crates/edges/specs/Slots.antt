@@ -17,6 +17,7 @@ use Rattle.edges.specs.declared.Letter.the-variants.{A, B, C, D, E}
 use Rattle.edges.specs.declared.Edge.{Edge}
 use Rattle.edges.specs.declared.Counts.{Counts}
 use Rattle.edges.specs.declared.Found.{Found}
+use Rattle.edges.specs.declared.EdgeStep.{EdgeStep}
 
 -- ---- what the answers stand for
 
@@ -120,6 +121,14 @@ nextFrom table (suc left) x = cond (standsAt table x) x (nextFrom table left (su
 
 unfoldable pub nextSlot : List ℕ → ℕ → ℕ
 nextSlot table x = nextFrom table (slots table - x) x
+
+-- E5: the first edge from slot x on, if there is one
+unfoldable pub edgeFrom : List ℕ → ℕ → EdgeStep
+edgeFrom table x = record {
+  found = ltb (nextSlot table x) (slots table);
+  slot = nextSlot table x;
+  edge = cond (ltb (nextSlot table x) (slots table)) (edgeAt table (nextSlot table x)) noEdge;
+}
 
 -- how many edges stand in the slots below x, and how many of them are back edges
 abbrev pub one : Bool → ℕ

@@ -6,7 +6,7 @@ ghost use lib.ListN.{getElem?};
 ghost use Rattle.graph.specs.Graph as G;
 ghost use Rattle.tables.specs.Table.{rowAt, rowLetter, rowShared, rowEdge};
 ghost use Rattle.edges.specs.Slots.{letterCode, letterMeant, letterByte, coded, noEdge, foundAs, tableEdges, tableCounts, putInto};
-ghost use Rattle.edges.specs.Slots.{fittingIn, standsAt, edgeAt, following, nextSlot, one, countsBelow, CountedTo};
+ghost use Rattle.edges.specs.Slots.{fittingIn, standsAt, edgeAt, following, nextSlot, edgeFrom, one, countsBelow, CountedTo};
 use standing::back_stands;
 use standing::forward_stands;
 use standing::holds_a;
@@ -44,6 +44,13 @@ pub struct Edge {
 // The edge asked for, if there is one; else an edge of zeros.
 pub struct Found {
     pub found: bool,
+    pub edge: Edge,
+}
+
+// The first edge in a slot from some slot on, and its slot; where there is none, an edge of zeros and the number of slots.
+pub struct EdgeStep {
+    pub found: bool,
+    pub slot: usize,
     pub edge: Edge,
 }
 
@@ -298,6 +305,28 @@ pub fn edge_of_number(table: &[u64], k: usize) -> Found
     Found {
         found: true,
         edge: edge,
+    }
+}
+
+// The first edge from a slot on: from 0, and from behind each edge's slot, it gives all edges of a table in order.
+pub fn edge_from(table: &[u64], from: usize) -> EdgeStep
+    ensures { λ r. ⌜ r ≡ edgeFrom (now (table .entry)) from ⌝ }
+{
+    let n = row_count(table);
+    let slot = next_slot(table, from);
+    if n * 1024 <= slot {
+        let none = no_edge();
+        return EdgeStep {
+            found: false,
+            slot,
+            edge: none,
+        };
+    }
+    let edge = edge_at(table, slot);
+    EdgeStep {
+        found: true,
+        slot,
+        edge,
     }
 }
 

@@ -2,8 +2,8 @@
 --
 -- Take any text, and any bytes that are a report of it; `reporter::report_of` prints nothing else. Look at the second line of the report. If it
 -- begins with the word `robust`, then the text is a lawful workload, and whatever schedule its programs run through under Read Committed, there is
--- an order in which the same transactions, run one after the other, read the same and leave the same behind. No other line of a report, and
--- no other report, can be taken for that promise: the second line of a refusal begins with a digit, that of a danger with a d.
+-- an order in which the same transactions, run one after the other, read the same and leave the same behind. The second line of no other
+-- report begins with that word: that of a refusal begins with a digit, that of a danger with a d.
 --
 -- The statement is the type of `crown`; all words in it are those of document 01: `Report` (report/Report), `read` (text/Reading),
 -- `Schedule` (schedule/Schedule), `Serialisable` (schedule/Serial).
