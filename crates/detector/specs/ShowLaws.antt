@@ -1,6 +1,6 @@
 -- Steps that are written one by one stand at the front of the area.
 use mathlib.Core.Path.{_≡_, refl, sym, ap, ap₂, subst, _∙_}
-use mathlib.Core.Bool.{Bool, true, false, cond}
+use mathlib.Core.Bool.{Bool, true, false, cond, false≢true}
 use mathlib.Core.List.{List, [], _∷_, _++_, flatMap, append-assoc}
 use Prim.Native.Nat.{ℕ, zero, suc, _+_, _-_, _*_, _/_, _%_, _≤_, _<_, zero-le, suc-le-suc}
 use native.Mathlib.Nat.{zero-add}
@@ -12,12 +12,15 @@ use lib.ListN.{length, getD, set, drop, length-append}
 use lib.Seq.{set-at, drop-append-add}
 use borrow.Author.Tests.{lt-ltb, le-ltb, lt-leb, le-leb}
 use Rattle.base.specs.Basic.{has}
+use Rattle.graph.specs.Graph.{Graph}
 use Rattle.graph.specs.Walk.{Step}
-use Rattle.detector.specs.Table.{entry, joinedRows, layersTo, nodeIn, pairFor, lowest, aheadStep, behindStep, wayOn, walkOn, tableWalk, shownWalk}
-use Rattle.detector.specs.Table.{flowWord, stepWords, shownIn, putWords, putStep, putSteps, Written, Shown, Answered}
+use Rattle.walks.specs.Reach.{Regular}
+use Rattle.detecting.specs.PickLaws.{Picked}
+use Rattle.detector.specs.Table.{entry, aheadIn, behindIn, joinedRows, layersTo, nodeIn, pairFor, lowest, aheadStep, behindStep, wayOn, walkOn, tableWalk, shownWalk}
+use Rattle.detector.specs.Table.{flowWord, stepWords, shownIn, putWords, putStep, putSteps, Written, Shown, Settles, Answered}
 use Rattle.detector.specs.declared.Found.{Found}
 use Rattle.detector.specs.Paths.{put-cons}
-use Rattle.detector.specs.WalkLaws.{node-pair, table-none, table-written}
+use Rattle.detector.specs.WalkLaws.{node-pair, table-none, table-written, table-verdict}
 
 -- a word behind a front of the right length
 set-behind : (front rest : List ℕ) (n i v : ℕ) → length front ≡ n → set (front ++ rest) (n + i) v ≡ front ++ set rest i v
@@ -140,18 +143,24 @@ module _ (ahead behind before : List ℕ) where
         count = t .count ∙ zero-add _ ∙ ap (λ (w : List Step). length w) (sym shown);
       }
 
+  -- with room, the walk that is shown settles the graph
+  settled : 260 ≤ length before → (g : Graph) → Regular g → g .size ≤ 64 → Picked g 64 (aheadIn ahead) (behindIn behind)
+      → Settles g (shownWalk ahead behind (length before))
+  settled h g regular small picks =
+      subst (λ (w : List Step). Settles g w) (sym (long-enough h)) (table-verdict ahead behind regular small picks)
+
   -- the three answers
   pub answer-short : length before < 260 → Answered ahead behind before before (record { room = false; steps = 0 })
-  answer-short h = record { room = sym (lt-leb 260 (length before) h); shown = shown-short h }
+  answer-short h = record { room = sym (lt-leb 260 (length before) h); shown = shown-short h; settles = λ e. absurd (false≢true e) }
 
   pub answer-none : 260 ≤ length before → {rows : List ℕ} {u : ℕ} → rows ≡ joinedRows ahead → u ≡ nodeIn ahead behind rows → 64 ≤ u
       → Answered ahead behind before before (record { room = true; steps = 0 })
-  answer-none h p q l = record { room = sym (le-leb 260 (length before) h); shown = shown-none h p q l }
+  answer-none h p q l = record { room = sym (le-leb 260 (length before) h); shown = shown-none h p q l; settles = λ _. settled h }
 
   pub answer-found : 260 ≤ length before → {rows : List ℕ} {u x : ℕ} → rows ≡ joinedRows ahead → u ≡ nodeIn ahead behind rows → u < 64
       → x ≡ pairFor ahead behind rows u → {after : List ℕ} {r : ℕ} → Written (walkOn ahead behind rows u x) 0 before after r
       → Answered ahead behind before after (record { room = true; steps = r })
-  answer-found h p q l e t = record { room = sym (le-leb 260 (length before) h); shown = shown-found h p q l e t }
+  answer-found h p q l e t = record { room = sym (le-leb 260 (length before) h); shown = shown-found h p q l e t; settles = λ _. settled h }
 
   -- where there is room, the walk of the tables is shown
   pub answer-walk : {after : List ℕ} {r : Found} → 260 ≤ length before → Answered ahead behind before after r

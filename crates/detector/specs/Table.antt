@@ -2,6 +2,7 @@
 use mathlib.Core.Bool.{Bool, true, false, cond, not, _&&_, _||_}
 use mathlib.Core.List.{List, [], _∷_, _++_, flatMap}
 use mathlib.Core.Path.{_≡_}
+use mathlib.Core.Logic.{_⊎_}
 use mathlib.Core.Option.{Option, none, some}
 use Prim.Native.Nat.{ℕ, zero, suc, _+_, _-_, _*_, _/_, _%_, _^_, _≤_, _<_}
 use lib.Bits.{bitAnd, bitOr}
@@ -9,9 +10,11 @@ use lib.Count.{trailingZeros}
 use lib.Dec.{eqb, ltb, leb}
 use lib.ListN.{length, getD, set, drop, replicate}
 use Rattle.base.specs.Basic.{has, meets}
-use Rattle.graph.specs.Graph.{Flow}
-use Rattle.graph.specs.Walk.{Step}
+use Rattle.graph.specs.Graph.{Flow, Graph}
+use Rattle.graph.specs.Walk.{Step, isDangerous, DangerousWalk}
+use Rattle.walks.specs.Reach.{Regular}
 use Rattle.detecting.specs.Pick.{Pick, Picks, dangerousPicks, walkAt}
+use Rattle.detecting.specs.PickLaws.{Picked}
 use Rattle.detector.specs.declared.Found.{Found}
 
 -- ---- what the words of the two tables stand for; the word for the edge from u to v stands at u * 64 + v
@@ -190,10 +193,17 @@ pub record Shown (steps : List Step) (before after : List ℕ) (r : ℕ) : Type 
   pub area : after ≡ shownIn steps before
   pub count : r ≡ length steps
 
--- the answer: whether the area has room for 65 steps, and where it has, the walk of the tables is shown
+-- a walk settles a graph: it is dangerous and has at most 65 steps, or it is empty and no walk is dangerous
+abbrev pub Settles : Graph → List Step → Type 0
+Settles g walk = ((isDangerous g walk ≡ true) × (length walk ≤ 65)) ⊎ ((walk ≡ []) × (DangerousWalk g → ⊥))
+
+-- the answer: whether the area has room for 65 steps, and where it has, the walk of the tables is shown,
+-- which settles each graph whose edges the tables hold
 pub record Answered (ahead behind before after : List ℕ) (r : Found) : Type 0 where
   pub room : r .room ≡ leb 260 (length before)
   pub shown : Shown (shownWalk ahead behind (length before)) before after (r .steps)
+  pub settles : r .room ≡ true → (g : Graph) → Regular g → g .size ≤ 64 → Picked g 64 (aheadIn ahead) (behindIn behind)
+      → Settles g (shownWalk ahead behind (length before))
 
 -- what holds in each turn of the writing of a way, behind two steps
 pub record WayTurn (ahead rows layers : List ℕ) (way : List Step) (before area : List ℕ) (node steps d : ℕ) : Type 0 where

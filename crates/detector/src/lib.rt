@@ -67,9 +67,9 @@ fn joined_rows(ahead: &[u64]) -> [u64; 64]
 }
 
 // Whether node k is in or has an edge into one that is.
-fn grows_to(rows: [u64; 64], nodes: u64, k: usize) -> bool
-    requires { ⌜ k < 64 ⌝ }
-    ensures { λ r. ⌜ r ≡ growsTo rows nodes k ⌝ }
+fn grows_to(rows: &[u64], nodes: u64, k: usize) -> bool
+    requires { ⌜ (k < 64) × (length (now rows) ≡ 64) ⌝ }
+    ensures { λ r. ⌜ r ≡ growsTo (now (rows .entry)) nodes k ⌝ }
 {
     if has_bit(nodes, k) {
         return true;
@@ -78,8 +78,9 @@ fn grows_to(rows: [u64; 64], nodes: u64, k: usize) -> bool
 }
 
 // The nodes, and those with an edge into one of them.
-fn grow(rows: [u64; 64], nodes: u64) -> u64
-    ensures { λ r. ⌜ r ≡ grown rows nodes ⌝ }
+fn grow(rows: &[u64], nodes: u64) -> u64
+    requires { ⌜ length (now rows) ≡ 64 ⌝ }
+    ensures { λ r. ⌜ r ≡ grown (now (rows .entry)) nodes ⌝ }
 {
     let mut word: u64 = 0;
     let mut k: usize = 0;
@@ -92,9 +93,9 @@ fn grow(rows: [u64; 64], nodes: u64) -> u64
 }
 
 // For each number of steps, the nodes from which u is reached in so many.
-fn layers_to(rows: [u64; 64], u: usize) -> [u64; 64]
-    requires { ⌜ u < 64 ⌝ }
-    ensures { λ r. ⌜ r ≡ layersTo rows u ⌝ }
+fn layers_to(rows: &[u64], u: usize) -> [u64; 64]
+    requires { ⌜ (u < 64) × (length (now rows) ≡ 64) ⌝ }
+    ensures { λ r. ⌜ r ≡ layersTo (now (rows .entry)) u ⌝ }
 {
     let mut layers = [0u64; 64];
     let mut nodes: u64 = 1u64 << u;
@@ -152,17 +153,18 @@ fn pair_in(ahead: &[u64], behind: &[u64], u: usize, reach: u64) -> usize
 }
 
 // The first pair that closes a walk which begins at u, or 4096.
-fn pair_for(ahead: &[u64], behind: &[u64], rows: [u64; 64], u: usize) -> usize
-    requires { ⌜ u < 64 ⌝ }
-    ensures { λ r. ⌜ r ≡ pairFor (now (ahead .entry)) (now (behind .entry)) rows u ⌝ }
+fn pair_for(ahead: &[u64], behind: &[u64], rows: &[u64], u: usize) -> usize
+    requires { ⌜ (u < 64) × (length (now rows) ≡ 64) ⌝ }
+    ensures { λ r. ⌜ r ≡ pairFor (now (ahead .entry)) (now (behind .entry)) (now (rows .entry)) u ⌝ }
 {
     let layers = layers_to(rows, u);
     pair_in(ahead, behind, u, layers[63])
 }
 
 // The first node at which a walk begins, or 64.
-fn node_in(ahead: &[u64], behind: &[u64], rows: [u64; 64]) -> usize
-    ensures { λ r. ⌜ r ≡ nodeIn (now (ahead .entry)) (now (behind .entry)) rows ⌝ }
+fn node_in(ahead: &[u64], behind: &[u64], rows: &[u64]) -> usize
+    requires { ⌜ length (now rows) ≡ 64 ⌝ }
+    ensures { λ r. ⌜ r ≡ nodeIn (now (ahead .entry)) (now (behind .entry)) (now (rows .entry)) ⌝ }
 {
     let mut u: usize = 0;
     while u < 64 {
@@ -215,9 +217,9 @@ struct Spot {
 }
 
 // Writes a step from node m towards the nodes, unless it is one of them.
-fn go_on(ahead: &[u64], rows: [u64; 64], nodes: u64, m: usize, k: usize, out: &mut [u64]) -> Spot
-    requires { ⌜ (m < 64) × (k * 4 + 4 ≤ length (now out)) × (k < 65) ⌝ }
-    ensures { λ r. ⌜ writing (now (out .exit)) (r .node) (r .steps) ≡ goOn (now (ahead .entry)) rows nodes (now (out .entry)) m k ⌝ }
+fn go_on(ahead: &[u64], rows: &[u64], nodes: u64, m: usize, k: usize, out: &mut [u64]) -> Spot
+    requires { ⌜ (m < 64) × (length (now rows) ≡ 64) × (k * 4 + 4 ≤ length (now out)) × (k < 65) ⌝ }
+    ensures { λ r. ⌜ writing (now (out .exit)) (r .node) (r .steps) ≡ goOn (now (ahead .entry)) (now (rows .entry)) nodes (now (out .entry)) m k ⌝ }
 {
     if has_bit(nodes, m) {
         return Spot { node: m, steps: k };
@@ -232,9 +234,9 @@ fn go_on(ahead: &[u64], rows: [u64; 64], nodes: u64, m: usize, k: usize, out: &m
 }
 
 // Writes a shortest way from w, behind two steps, and answers how many steps there are then.
-fn put_way(ahead: &[u64], rows: [u64; 64], layers: [u64; 64], w: usize, out: &mut [u64]) -> usize
-    requires { ⌜ (w < 64) × (260 ≤ length (now out)) ⌝ }
-    ensures { λ r. ⌜ Written (wayOn (now (ahead .entry)) rows layers 63 w) 2 (now (out .entry)) (now (out .exit)) r ⌝ }
+fn put_way(ahead: &[u64], rows: &[u64], layers: &[u64], w: usize, out: &mut [u64]) -> usize
+    requires { ⌜ (w < 64) × (length (now rows) ≡ 64) × (length (now layers) ≡ 64) × (260 ≤ length (now out)) ⌝ }
+    ensures { λ r. ⌜ Written (wayOn (now (ahead .entry)) (now (rows .entry)) (now (layers .entry)) 63 w) 2 (now (out .entry)) (now (out .exit)) r ⌝ }
 {
     let mut node = w;
     let mut steps: usize = 2;
@@ -252,13 +254,13 @@ fn put_way(ahead: &[u64], rows: [u64; 64], layers: [u64; 64], w: usize, out: &mu
 fn put_walk(
     ahead: &[u64],
     behind: &[u64],
-    rows: [u64; 64],
+    rows: &[u64],
     u: usize,
     x: usize,
     out: &mut [u64],
 ) -> usize
-    requires { ⌜ (u < 64) × (x < 4096) × (260 ≤ length (now out)) ⌝ }
-    ensures { λ r. ⌜ Written (walkOn (now (ahead .entry)) (now (behind .entry)) rows u x) 0 (now (out .entry)) (now (out .exit)) r ⌝ }
+    requires { ⌜ (u < 64) × (x < 4096) × (length (now rows) ≡ 64) × (260 ≤ length (now out)) ⌝ }
+    ensures { λ r. ⌜ Written (walkOn (now (ahead .entry)) (now (behind .entry)) (now (rows .entry)) u x) 0 (now (out .entry)) (now (out .exit)) r ⌝ }
 {
     let v = x / 64;
     let w = x % 64;
@@ -267,7 +269,7 @@ fn put_walk(
     let c = word_at(behind, v * 64 + w);
     put_behind(out, 1, v, c);
     let layers = layers_to(rows, u);
-    put_way(ahead, rows, layers, w, out)
+    put_way(ahead, rows, &layers, w, out)
 }
 
 // Whether the area has room for 65 steps, and how many steps are shown in it.
@@ -288,15 +290,15 @@ pub fn find_walk(ahead: &[u64], behind: &[u64], out: &mut [u64]) -> Found
         };
     }
     let rows = joined_rows(ahead);
-    let u = node_in(ahead, behind, rows);
+    let u = node_in(ahead, behind, &rows);
     if 64 <= u {
         return Found {
             room: true,
             steps: 0,
         };
     }
-    let x = pair_for(ahead, behind, rows, u);
-    let n = put_walk(ahead, behind, rows, u, x, out);
+    let x = pair_for(ahead, behind, &rows, u);
+    let n = put_walk(ahead, behind, &rows, u, x, out);
     Found {
         room: true,
         steps: n,

@@ -21,21 +21,35 @@ returns c = answer-short _ _ _ (c .if1 .taken)
 joined-rows-requires : tie.Need-joined-rows-requires
 joined-rows-requires c κs = search needs
 
+-- src/lib.rt:283:8
+slice-aggregate-node-in : tie.Need-slice-aggregate-node-in
+slice-aggregate-node-in c = search needs
+
 -- src/lib.rt:275:9
 node-in-requires : tie.Need-node-in-requires
 node-in-requires c κs = search needs
 
 -- src/lib.rt:277:9
 returns-2 : tie.Need-returns-2
-returns-2 c = answer-none _ _ _ (c .before .before .before .if1 .left) (c .before .before .joined-rows .ensures) (c .before .node-in .ensures) (c .if2 .taken)
+returns-2 c =
+    answer-none _ _ _ (c .before .before .before .before .if1 .left) (c .before .before .before .joined-rows .ensures) (c .before .node-in .ensures) (c .if2 .taken)
+
+-- src/lib.rt:283:8
+slice-aggregate-pair-for : tie.Need-slice-aggregate-pair-for
+slice-aggregate-pair-for c = search needs
 
 -- src/lib.rt:279:9
 pair-for-requires : tie.Need-pair-for-requires
 pair-for-requires c κs = search needs
 
+-- src/lib.rt:283:8
+slice-aggregate-put-walk : tie.Need-slice-aggregate-put-walk
+slice-aggregate-put-walk c = search needs
+
 -- src/lib.rt:280:5
 put-walk-requires : tie.Need-put-walk-requires
-put-walk-requires c κs = (c .before .before .if2 .left, found-pair _ _ _ (c .before .before .before .node-in .ensures) (c .before .before .if2 .left) (c .before .pair-for .ensures), c .before .before .before .before .before .if1 .left)
+put-walk-requires c κs =
+    (c .before .before .before .before .if2 .left, found-pair _ _ _ (c .before .before .before .before .before .node-in .ensures) (c .before .before .before .before .if2 .left) (c .before .before .pair-for .ensures), search needs, search needs)
 
 -- src/lib.rt:268:1
 same-length : tie.Need-same-length
@@ -43,8 +57,11 @@ same-length c = search needs
 
 -- src/lib.rt:268:1
 returns-3 : tie.Need-returns-3
-returns-3 c = answer-found _ _ _ (c .before .before .before .before .before .before .before .before .if1 .left) (c .before .before .before .before .before .before .before .joined-rows .ensures) (c .before .before .before .before .before .before .node-in .ensures) (c .before .before .before .before .before .if2 .left) (c .before .before .before .before .pair-for .ensures)
-    (c .before .before .put-walk .ensures)
+returns-3 c =
+    answer-found _ _ _ (c .before .before .before .before .before .before .before .before .before .before .before .if1 .left)
+    (c .before .before .before .before .before .before .before .before .before .before .joined-rows .ensures)
+    (c .before .before .before .before .before .before .before .before .node-in .ensures) (c .before .before .before .before .before .before .before .if2 .left)
+    (c .before .before .before .before .before .pair-for .ensures) (c .before .before .put-walk .ensures)
 
 pub find-walk-spec : {M : Type 1} → statement M
 find-walk-spec =
@@ -52,9 +69,12 @@ find-walk-spec =
     (tie.spec
     returns
     joined-rows-requires
+    slice-aggregate-node-in
     node-in-requires
     returns-2
+    slice-aggregate-pair-for
     pair-for-requires
+    slice-aggregate-put-walk
     put-walk-requires
     same-length
     returns-3)

@@ -29,8 +29,8 @@ mul-lowest-in : tie.Need-mul-lowest-in
 mul-lowest-in c = search needs
 
 -- src/lib.rt:225:23
-array-read-lowest-in : tie.Need-array-read-lowest-in
-array-read-lowest-in c = search needs
+shared-slice-read-lowest-in : tie.Need-shared-slice-read-lowest-in
+shared-slice-read-lowest-in c = search needs
 
 -- src/lib.rt:225:9
 lowest-in-requires : tie.Need-lowest-in-requires
@@ -53,8 +53,8 @@ put-ahead-requires : tie.Need-put-ahead-requires
 put-ahead-requires c κs = search needs
 
 -- src/lib.rt:230:16
-add-t11 : tie.Need-add-t11
-add-t11 c = search needs
+add-t10 : tie.Need-add-t10
+add-t10 c = search needs
 
 -- src/lib.rt:218:1
 same-length : tie.Need-same-length
@@ -62,7 +62,7 @@ same-length c = search needs
 
 -- src/lib.rt:218:1
 returns-2 : tie.Need-returns-2
-returns-2 c = go-along _ _ _ _ _ _ (c .before .before .before .before .before .before .before .has-bit .ensures) (c .before .before .before .before .before .before .if1 .left) (c .before .before .before .before .before .lowest-in .ensures) (c .before .before .before .before .word-at .ensures) (c .before .before .put-ahead .ensures)
+returns-2 c = go-along _ _ _ _ _ _ (c .before .before .before .before .before .before .before .before .has-bit .ensures) (c .before .before .before .before .before .before .before .if1 .left) (c .before .before .before .before .before .lowest-in .ensures) (c .before .before .before .before .word-at .ensures) (c .before .before .put-ahead .ensures)
 
 pub go-on-spec : {M : Type 1} → statement M
 go-on-spec =
@@ -71,12 +71,12 @@ go-on-spec =
     has-bit-requires
     returns
     mul-lowest-in
-    array-read-lowest-in
+    shared-slice-read-lowest-in
     lowest-in-requires
     mul-word-at
     add-word-at
     word-at-requires
     put-ahead-requires
-    add-t11
+    add-t10
     same-length
     returns-2)

@@ -24,14 +24,14 @@ mul-result : tie.Need-mul-result
 mul-result c = search needs
 
 -- src/lib.rt:76:5
-array-read-result : tie.Need-array-read-result
-array-read-result c = search needs
+shared-slice-read-result : tie.Need-shared-slice-read-result
+shared-slice-read-result c = search needs
 
 -- src/lib.rt:69:1
 returns-2 : tie.Need-returns-2
 unfolding growsTo
-returns-2 c = simp (← c .before .has-bit .ensures, c .if1 .left)
+returns-2 c = simp (← c .before .before .has-bit .ensures, c .before .if1 .left)
 
 pub grows-to-spec : {M : Type 1} → statement M
 grows-to-spec =
-    tie.close (tie.spec has-bit-requires returns mul-result array-read-result returns-2)
+    tie.close (tie.spec has-bit-requires returns mul-result shared-slice-read-result returns-2)

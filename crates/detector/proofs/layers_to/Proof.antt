@@ -25,7 +25,7 @@ shl-nodes c = search needs
 -- src/lib.rt:102:5
 loop-holds : tie.Need-loop-holds Inv-loop μ-loop
 unfolding listBelow layer
-loop-holds c = (omega arith, refl, bit-shifted _ (c .pre))
+loop-holds c = (omega arith, refl, bit-shifted _ (c .before .pre .0))
 
 -- src/lib.rt:103:9
 mul-layers : tie.Need-mul-layers Inv-loop μ-loop

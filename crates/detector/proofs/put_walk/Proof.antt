@@ -50,6 +50,10 @@ put-behind-requires c κs = search needs
 layers-to-requires : tie.Need-layers-to-requires
 layers-to-requires c κs = search needs
 
+-- src/lib.rt:265:5
+slice-aggregate-put-way : tie.Need-slice-aggregate-put-way
+slice-aggregate-put-way c = search needs
+
 -- src/lib.rt:263:5
 put-way-requires : tie.Need-put-way-requires
 put-way-requires c κs = search needs
@@ -60,8 +64,12 @@ same-length c = search needs
 
 -- src/lib.rt:252:1
 returns : tie.Need-returns
-returns c = walk-written _ _ _ _ _ (c .before .before .before .before .before .before .before .before .before .before .before .before .before .before .word-at .ensures) (c .before .before .before .before .before .before .before .before .before .before .before .before .put-ahead .ensures) (c .before .before .before .before .before .before .before .before .before .word-at2 .ensures) (c .before .before .before .before .before .before .before .put-behind .ensures)
-    (c .before .before .before .before .layers-to .ensures) (c .before .before .put-way .ensures)
+returns c =
+    walk-written _ _ _ _ _ (c .before .before .before .before .before .before .before .before .before .before .before .before .before .before .before .word-at .ensures)
+    (c .before .before .before .before .before .before .before .before .before .before .before .before .before .put-ahead .ensures)
+    (c .before .before .before .before .before .before .before .before .before .before .word-at2 .ensures)
+    (c .before .before .before .before .before .before .before .before .put-behind .ensures)
+    (c .before .before .before .before .before .layers-to .ensures) (c .before .before .put-way .ensures)
 
 pub put-walk-spec : {M : Type 1} → statement M
 put-walk-spec =
@@ -76,6 +84,7 @@ put-walk-spec =
     word-at-requires-2
     put-behind-requires
     layers-to-requires
+    slice-aggregate-put-way
     put-way-requires
     same-length
     returns)

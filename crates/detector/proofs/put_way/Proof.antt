@@ -12,14 +12,14 @@ use Rattle.detector.proofs.put_way.Lts as lts
 use Rattle.detector.proofs.go_on.Reads as go-on-reads
 
 abbrev Inv-loop : tie.InvT-loop
-Inv-loop ahead rows w out₀ layers node₀ steps₀ d₀ out node steps d = WayTurn ahead rows layers (wayOn ahead rows layers 63 w) out₀ out node steps d
+Inv-loop ahead rows layers w out₀ node₀ steps₀ d₀ out node steps d = WayTurn ahead rows layers (wayOn ahead rows layers 63 w) out₀ out node steps d
 
 abbrev μ-loop : tie.MeasureT-loop
-μ-loop ahead rows w out₀ layers node₀ steps₀ d₀ out node steps d = d
+μ-loop ahead rows layers w out₀ node₀ steps₀ d₀ out node steps d = d
 
 -- src/lib.rt:242:5
 loop-holds : tie.Need-loop-holds Inv-loop μ-loop
-loop-holds c = way-first (c .before .before .pre .0)
+loop-holds c = way-first (c .before .before .before .before .pre .0)
 
 -- src/lib.rt:243:9
 sub-d : tie.Need-sub-d Inv-loop μ-loop
@@ -30,8 +30,8 @@ mul-go-on : tie.Need-mul-go-on Inv-loop μ-loop
 mul-go-on c = search needs
 
 -- src/lib.rt:244:36
-array-read-go-on : tie.Need-array-read-go-on Inv-loop μ-loop
-array-read-go-on c = search needs
+shared-slice-read-go-on : tie.Need-shared-slice-read-go-on Inv-loop μ-loop
+shared-slice-read-go-on c = search needs
 
 -- src/lib.rt:244:13
 go-on-requires : tie.Need-go-on-requires Inv-loop μ-loop
@@ -43,7 +43,7 @@ loop-less c = search needs
 
 -- src/lib.rt:242:5
 loop-again : tie.Need-loop-again Inv-loop μ-loop
-loop-again c = way-turn _ _ _ _ (c .before .before .before .before .loop-test .taken) (c .before .before .before .before .before .loop .inv) (c .before .before .go-on .ensures)
+loop-again c = way-turn _ _ _ _ (c .before .before .before .before .before .loop-test .taken) (c .before .before .before .before .before .before .loop .inv) (c .before .before .go-on .ensures)
 
 -- src/lib.rt:235:1
 same-length : tie.Need-same-length Inv-loop μ-loop
@@ -62,7 +62,7 @@ put-way-spec =
     loop-holds
     sub-d
     mul-go-on
-    array-read-go-on
+    shared-slice-read-go-on
     go-on-requires
     loop-less
     loop-again
