@@ -1,12 +1,15 @@
 #!/bin/sh
 # build.sh [PROGRAM ...]: builds the independent implementation and its programs with rustc alone, into outside/target.
-# RATTLE_LIB=path/libNAME.a links the proved code's stages into `bench` and `records` (see src/rattle.rs).
+# RATTLE_LIB="path/libstages.a path/libedges.a" links the proved code's stages into `bench` and `records` (see src/rattle.rs).
 set -e
+rattle=""
+for library in $RATTLE_LIB; do
+    rattle="$rattle -C link-arg=$(realpath "$library")"
+done
+[ -z "$rattle" ] || rattle="--cfg rattle$rattle"
 cd "$(dirname "$0")"
 mkdir -p target
 flags="--edition 2021 -C opt-level=3"
-rattle=""
-[ -z "$RATTLE_LIB" ] || rattle="--cfg rattle -C link-arg=$RATTLE_LIB"
 rustc $flags --crate-type rlib --crate-name outside src/lib.rs -o target/liboutside.rlib
 for program in ${*:-$(ls src/bin | sed 's/\.rs$//')}; do
     extra=""

@@ -1,14 +1,18 @@
-//! The proved code's stages, linked in by `RATTLE_LIB=path/libNAME.a outside/build.sh` (programs `bench` and `records`).
-//! A library offers these four exports on byte slices. Results: what the stage counts (lines; nodes << 16 | places; edges;
-//! edges with bit 30 for danger), or bit 31 with a refusal's number << 16 and line.
+//! The proved code's stages, linked in by `RATTLE_LIB="path/libstages.a path/libedges.a" outside/build.sh` (programs `bench` and
+//! `records`). Results are those of `stages.rs`: one number, with bit 31 for a refusal.
 
 use outside::edges::Edge;
+use outside::stages::refused;
+use outside::unfolding::MAX_PLACES;
+use outside::verdict::MAX_STEPS;
 
 extern "C" {
     fn stage_read(text: *const u8, length: usize) -> u32;
-    fn stage_unfold(text: *const u8, length: usize) -> u32;
-    fn stage_edges(text: *const u8, length: usize, area: *mut Edge, room: usize) -> u32;
-    fn stage_verdict(text: *const u8, length: usize) -> u32;
+    fn stage_unfold(text: *const u8, length: usize, area: *mut u64, room: usize) -> u32;
+    fn stage_table(text: *const u8, length: usize, table: *mut u64, room: usize) -> u32;
+    fn stage_edge_count(table: *const u64, length: usize) -> u64;
+    fn put_edges(table: *const u64, length: usize, area: *mut Edge, room: usize);
+    fn stage_verdict(text: *const u8, length: usize, area: *mut u64, room: usize) -> u32;
 }
 
 // Safe: each call gets a slice as pointer and length, as Rattle's exports take slices.
@@ -20,14 +24,28 @@ pub fn read(text: &[u8], _: &mut [Edge]) -> u32 {
 
 #[allow(dead_code)]
 pub fn unfold(text: &[u8], _: &mut [Edge]) -> u32 {
-    unsafe { stage_unfold(text.as_ptr(), text.len()) }
+    let mut area = [0u64; MAX_PLACES];
+    unsafe { stage_unfold(text.as_ptr(), text.len(), area.as_mut_ptr(), area.len()) }
 }
 
+/// The table of places, eight words a place; the number of edges in it; and the edges, all or none.
 pub fn edges(text: &[u8], area: &mut [Edge]) -> u32 {
-    unsafe { stage_edges(text.as_ptr(), text.len(), area.as_mut_ptr(), area.len()) }
+    let mut table = [0u64; 8 * MAX_PLACES];
+    let places = unsafe { stage_table(text.as_ptr(), text.len(), table.as_mut_ptr(), table.len()) };
+    if places >> 31 == 1 {
+        return places;
+    }
+    let words = 8 * places as usize;
+    let edges = unsafe { stage_edge_count(table.as_ptr(), words) };
+    if area.len() < edges as usize {
+        return refused(20, 0);
+    }
+    unsafe { put_edges(table.as_ptr(), words, area.as_mut_ptr(), area.len()) };
+    edges as u32
 }
 
 #[allow(dead_code)]
 pub fn verdict(text: &[u8], _: &mut [Edge]) -> u32 {
-    unsafe { stage_verdict(text.as_ptr(), text.len()) }
+    let mut area = [0u64; 4 * MAX_STEPS];
+    unsafe { stage_verdict(text.as_ptr(), text.len(), area.as_mut_ptr(), area.len()) }
 }

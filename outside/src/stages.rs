@@ -1,4 +1,5 @@
-//! This side's stages from the text on, with results as one number, as `rattle.rs` has them for the proved code.
+//! This side's stages from the text on, with results as one number, as `rattle.rs` has them for the proved code: what the stage
+//! counts, or bit 31 with a refusal's number << 16 and line.
 
 use crate::edges::*;
 use crate::reader::*;
@@ -14,13 +15,19 @@ pub fn refused(number: u8, line: usize) -> u32 {
     1 << 31 | (number as u32) << 16 | line as u32
 }
 
-/// Lines read.
+/// Lines read, with the values of the line in the middle, so that no side can leave the value unbuilt.
 pub fn read_stage(text: &[u8], _: &mut [Edge]) -> u32 {
     let mut workload = Workload::empty();
     match read_into(text, &mut workload) {
-        Ok(()) => black_box(&workload).count as u32,
+        Ok(()) => middle(black_box(&workload)) << 16 | workload.count as u32,
         Err(refusal) => refused(refusal.number, refusal.line),
     }
+}
+
+fn middle(workload: &Workload) -> u32 {
+    let line = &workload.lines[workload.count / 2 % MAX_LINES];
+    let sets = line.reads % 4096 + line.writes % 4096 + line.tests % 4096;
+    line.id as u32 + line.rel as u32 + line.to as u32 + sets as u32
 }
 
 /// Nodes and places.

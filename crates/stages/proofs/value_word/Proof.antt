@@ -1,0 +1,43 @@
+use native.Mathlib.Omega.{arith}
+use mathlib.Core.Path.{_≡_, refl, ap, sym, _∙_}
+use Prim.Native.Nat.{ℕ, _+_, _-_, _*_, _%_, _≤_, _<_}
+use lib.ListN.{length, set, getD, length-set, take, drop}
+use borrow.Author.Needs.{needs}
+use Rattle.stages.proofs.value_word.Statement.{statement}
+use Rattle.stages.proofs.value_word.Tie as tie
+use Rattle.stages.proofs.value_word.Reads as reads
+use Rattle.stages.proofs.value_word.Lts as lts
+use Rattle.stages.proofs.line_sum.Reads as line-sum-reads
+
+-- src/lib.rt:32:13
+mul-l : tie.Need-mul-l
+mul-l c = search needs
+
+-- src/lib.rt:32:13
+element-copy-out-l : tie.Need-element-copy-out-l
+element-copy-out-l c = search needs
+
+-- src/lib.rt:33:9
+line-sum-requires : tie.Need-line-sum-requires
+line-sum-requires c κs = search needs
+
+-- src/lib.rt:34:6
+mul-result : tie.Need-mul-result
+mul-result c = search needs
+
+-- src/lib.rt:34:6
+add-result : tie.Need-add-result
+add-result c = search needs
+
+-- src/lib.rt:34:5
+cast-result : tie.Need-cast-result
+cast-result c = search needs
+
+-- src/lib.rt:29:1
+returns : tie.Need-returns
+returns c = ap (λ (s : ℕ). s * 65536 + c .before .before .args .t1 .count % 65536) (c .line-sum .ensures)
+
+pub value-word-spec : {M : Type 1} → statement M
+value-word-spec =
+    tie.close
+    (tie.spec mul-l element-copy-out-l line-sum-requires mul-result add-result cast-result returns)
