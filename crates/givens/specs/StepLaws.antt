@@ -17,7 +17,7 @@ use Rattle.text.specs.declared.Line.{Line}
 use Rattle.text.specs.declared.LineKind.{LineKind}
 use Rattle.text.specs.declared.LineKind.the-variants.{Rl, Fk, Pr, St, Lo, Br, El, En, Li}
 use Rattle.text.specs.declared.Workload.{Workload}
-use Rattle.text.specs.Text.{emptyLine, namesLine, newline, formsOf}
+use Rattle.text.specs.Text.{unusedLine, namesLine, newline, formsOf}
 use Rattle.text.specs.Reading.{fault, noneOpen}
 use Rattle.text.specs.Value.{linesOf, lineWritten, linesWritten, written}
 use Rattle.fields.specs.Unique.{fits, allFit, lineFits}
@@ -91,8 +91,8 @@ end-kind En e = refl
 end-kind Li e = absurd (true-false e refl)
 
 all-zero : (k : LineKind) (a b c d e f : ℕ) → k ≡ En → allFit (formsOf En) (a ∷ b ∷ c ∷ d ∷ e ∷ f ∷ []) ≡ true
-    → record { kind = k; id = a; rel = b; to = c; reads = d; writes = e; tests = f } ≡ emptyLine
-unfolding allFit formsOf fits emptyLine
+    → record { kind = k; id = a; rel = b; to = c; reads = d; writes = e; tests = f } ≡ unusedLine
+unfolding allFit formsOf fits unusedLine
 all-zero k a b c d e f h q =
     let fit-a = and-true (eqb a 0) _ q in
     let fit-b = and-true (eqb b 0) _ (fit-a .1) in
@@ -110,8 +110,8 @@ all-zero k a b c d e f h q =
       eqb-true f 0 (fit-f .0),
     )
 
--- the test tells the empty line
-pub empty-line : (l : Line) → isEmpty l ≡ true → l ≡ emptyLine
+-- the test tells the unused line
+pub empty-line : (l : Line) → isEmpty l ≡ true → l ≡ unusedLine
 unfolding isEmpty lineFits
 empty-line l e =
     let both = and-true (isEnd (l .kind)) (lineFits l) e in
@@ -119,17 +119,17 @@ empty-line l e =
     all-zero (l .kind) (l .id) (l .rel) (l .to) (l .reads) (l .writes) (l .tests) kind
     (subst (λ (k : LineKind). allFit (formsOf k) (l .id ∷ l .rel ∷ l .to ∷ l .reads ∷ l .writes ∷ l .tests ∷ []) ≡ true) kind (both .1))
 
-pub line-empty : isEmpty emptyLine ≡ true
-unfolding isEmpty isEnd emptyLine lineFits allFit fits formsOf
+pub line-empty : isEmpty unusedLine ≡ true
+unfolding isEmpty isEnd unusedLine lineFits allFit fits formsOf
 line-empty = refl
 
-pub cells-empty : (lines : List Line) → all isEmpty lines ≡ true → lines ≡ replicate (length lines) emptyLine
+pub cells-empty : (lines : List Line) → all isEmpty lines ≡ true → lines ≡ replicate (length lines) unusedLine
 cells-empty [] e = refl
 cells-empty (l ∷ lines) e =
     let both = and-true (isEmpty l) (all isEmpty lines) e in
     rw (← (cells-empty lines (both .1))) (ap (λ (m : Line). m ∷ lines) (empty-line l (both .0)))
 
-pub empty-cells : (n : ℕ) → all isEmpty (replicate n emptyLine) ≡ true
+pub empty-cells : (n : ℕ) → all isEmpty (replicate n unusedLine) ≡ true
 empty-cells zero = refl
 empty-cells (suc n) = and-of line-empty (empty-cells n)
 

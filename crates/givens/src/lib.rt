@@ -26,7 +26,7 @@ fn is_end(kind: LineKind) -> bool
     }
 }
 
-// The cell holds the empty line: a line `en` whose values fit holds nothing but zeros.
+// The cell holds the unused line: a line `en` whose values fit holds nothing but zeros.
 fn is_empty(l: Line) -> bool
     ensures { λ r. ⌜ r ≡ isEmpty l ⌝ }
 {

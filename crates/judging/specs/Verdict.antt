@@ -12,9 +12,8 @@ use Rattle.text.specs.Value.{linesOf}
 use Rattle.graph.specs.Walk.{Step, isDangerous}
 use Rattle.schedule.specs.Schedule.{Schedule}
 use Rattle.schedule.specs.Serial.{Serialisable}
-use Rattle.report.specs.State.{StateRefusal, shortForWalk, Counts, countsOf, summaryGraph, Robust}
+use Rattle.report.specs.State.{StateRefusal, shortForWalk, Counts, countsOf, summaryGraph, Robust, refusalOf}
 use Rattle.detector.specs.Table.{shownIn}
-use Rattle.unfolder.specs.Settled.{refusalOf}
 use Rattle.judging.specs.declared.Verdict.{Verdict}
 
 -- a refusal gives its number alone

@@ -18,10 +18,9 @@ use Rattle.graph.specs.Graph.{Graph}
 use Rattle.graph.specs.Unfolding.{nodesOf}
 use Rattle.graph.specs.Walk.{Step, isDangerous}
 use Rattle.soundness.specs.Theorem.{demand-3}
-use Rattle.report.specs.State.{StateRefusal, shortForWalk, statementsIn, tooMany, Counts, countsOf, summaryGraph, Danger, Robust}
+use Rattle.report.specs.State.{StateRefusal, shortForWalk, statementsIn, tooMany, Counts, countsOf, summaryGraph, Danger, Robust, refusalOf}
 use Rattle.report.specs.State.StateRefusal.{not-given, too-many, too-short, taken}
 use Rattle.detector.specs.Table.{tableWalk, shownWalk, shownIn, Shown, Answered}
-use Rattle.unfolder.specs.Settled.{refusalOf}
 use Rattle.rows.specs.declared.Rows.{Rows}
 use Rattle.rows.specs.Rows.{RowsSettled}
 use Rattle.rows.specs.Whole.{Whole, whole-refused, whole-filled}

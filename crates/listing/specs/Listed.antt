@@ -16,9 +16,8 @@ use Rattle.text.specs.Value.{Given, linesOf}
 use Rattle.graph.specs.Graph as G
 use Rattle.graph.specs.Unfolding.{nodesOf}
 use Rattle.graph.specs.Edge as E
-use Rattle.report.specs.State.{StateRefusal, tooMany, statementsIn, countsOf, shortForEdges}
+use Rattle.report.specs.State.{StateRefusal, tooMany, statementsIn, countsOf, shortForEdges, refusalOf}
 use Rattle.report.specs.State.StateRefusal.{not-given, too-many, too-short, taken}
-use Rattle.unfolder.specs.Settled.{refusalOf}
 use Rattle.tables.specs.Table.{rowCount, rowsOf, tableOf, tableRows, edgesOfRows}
 use Rattle.tables.specs.TableLaws.{tableOf-length}
 use Rattle.edges.specs.declared.Edge.{Edge}

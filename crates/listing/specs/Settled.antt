@@ -9,8 +9,7 @@ use Rattle.text.specs.declared.Workload.{Workload}
 use Rattle.text.specs.Value.{linesOf}
 use Rattle.graph.specs.Unfolding.{nodesOf}
 use Rattle.graph.specs.Edge as E
-use Rattle.report.specs.State.{StateRefusal, countsOf, shortForEdges}
-use Rattle.unfolder.specs.Settled.{refusalOf}
+use Rattle.report.specs.State.{StateRefusal, countsOf, shortForEdges, refusalOf}
 use Rattle.edges.specs.declared.Edge.{Edge}
 use Rattle.edges.specs.Slots.{coded, noEdge, tableEdges}
 use Rattle.listing.specs.declared.EdgeCounts.{EdgeCounts}

@@ -15,7 +15,7 @@ use lib.Seq.{drop-cons, drop-drop, set-append-seam}
 use borrow.Author.Tests.{eq-eqb, ne-eqb, le-leb, lt-leb}
 use Rattle.text.specs.declared.Line.{Line}
 use Rattle.text.specs.declared.Workload.{Workload}
-use Rattle.text.specs.Text.{newline, same, onFirst, linesIn, namesLine, lineOf, emptyLine}
+use Rattle.text.specs.Text.{newline, same, onFirst, linesIn, namesLine, lineOf, unusedLine}
 use Rattle.text.specs.Reading.{isAllowed, otherByte, endsLine, noneOpen, fault, readLines, read, Outcome}
 use Rattle.text.specs.Reading.Outcome.{refused, accepted}
 use Rattle.text.specs.Value.{valueOf}
@@ -202,11 +202,11 @@ unfolding valueOf
 appended-value before l h =
     let counts : length before + 1 ≡ length (before ++ (l ∷ [])) = sym (length-append before (l ∷ [])) in
     let left : 1616 - length before ≡ suc (1616 - length (before ++ (l ∷ []))) = omega (arith, length-append before (l ∷ [])) in
-    let cells : set (before ++ replicate (1616 - length before) emptyLine) (length before) l
-    ≡ (before ++ (l ∷ [])) ++ replicate (1616 - length (before ++ (l ∷ []))) emptyLine
-    = ap (λ n. set (before ++ replicate n emptyLine) (length before) l) left
-    ∙ set-append-seam before emptyLine (replicate (1616 - length (before ++ (l ∷ []))) emptyLine) l
-    ∙ sym (append-assoc before (l ∷ []) (replicate (1616 - length (before ++ (l ∷ []))) emptyLine)) in
+    let cells : set (before ++ replicate (1616 - length before) unusedLine) (length before) l
+    ≡ (before ++ (l ∷ [])) ++ replicate (1616 - length (before ++ (l ∷ []))) unusedLine
+    = ap (λ n. set (before ++ replicate n unusedLine) (length before) l) left
+    ∙ set-append-seam before unusedLine (replicate (1616 - length (before ++ (l ∷ []))) unusedLine) l
+    ∙ sym (append-assoc before (l ∷ []) (replicate (1616 - length (before ++ (l ∷ []))) unusedLine)) in
     λ i. record { count = counts i; lines = cells i }
 
 value-count : (before : List Line) → valueOf before .count ≡ length before

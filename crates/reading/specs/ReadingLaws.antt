@@ -17,7 +17,7 @@ use Rattle.text.specs.declared.LineKind.{LineKind}
 use Rattle.text.specs.declared.LineKind.the-variants.{Rl, Fk, Pr, St, Lo, Br, El, En, Li}
 use Rattle.text.specs.declared.StatementKind.{StatementKind}
 use Rattle.text.specs.declared.StatementKind.the-variants.{Is, Ks, Ku, Pu, Kd, Pd}
-use Rattle.text.specs.Text.{same, linesIn, namesLine, formsOf, lineOf, emptyLine}
+use Rattle.text.specs.Text.{same, linesIn, namesLine, formsOf, lineOf, unusedLine}
 use Rattle.reading.specs.TextLaws.{AllFit, valuesIn, line-fits}
 use Rattle.text.specs.Reading.{sort, isRelation, isStatement, program, relation, relationSet, withinBounds, noneOpen, ordered}
 use Rattle.text.specs.Reading.{named, kindSets, setsFit, linkFits, testsOf, firstFailed, fault, Outcome, readLines, otherByte}
@@ -210,7 +210,7 @@ pub relation-member : (lines : List Line) (r : ℕ) → r < count isRelation lin
 unfolding relation
 relation-member lines r h =
     let below : r < length (keep isRelation lines) = rw count-keep at h in
-    let m = keep-member isRelation lines (getD-member (keep isRelation lines) r emptyLine below) in
+    let m = keep-member isRelation lines (getD-member (keep isRelation lines) r unusedLine below) in
     (m .0, relation-kind (relation lines r) (m .1))
 
 -- T7: lines behind do not change what a number names
@@ -218,7 +218,7 @@ pub relation-before : (before after : List Line) (r : ℕ) → r < count isRelat
 unfolding relation
 relation-before before after r h =
     let below : r < length (keep isRelation before) = rw count-keep at h in
-    rw keep-append (List·getD-append (keep isRelation before) (keep isRelation after) emptyLine r below)
+    rw keep-append (List·getD-append (keep isRelation before) (keep isRelation after) unusedLine r below)
 
 -- what the tests say of a relation's line and of a statement's
 rl-nonempty : (before : List Line) (l : Line) → l .kind ≡ Rl → setsFit before l ≡ true → l .reads ≡ 0 → ⊥

@@ -10,7 +10,7 @@ use Rattle.base.specs.Basic.{any, all, keep, count, within}
 use Rattle.text.specs.declared.Line.{Line}
 use Rattle.text.specs.declared.LineKind.{LineKind}
 use Rattle.text.specs.declared.LineKind.the-variants.{Rl, Fk, Pr, St, Lo, Br, El, En, Li}
-use Rattle.text.specs.Text.{emptyLine}
+use Rattle.text.specs.Text.{unusedLine}
 use Rattle.text.specs.Reading.{isRelation, isKey, isProgram, isStatementOrFlow, isLink, isStatement, isStatementOf, canBeParent}
 use Rattle.text.specs.Reading.{Block, sameBlock, blocksAfter, openBlocks, program, loop, firstArm, secondArm, kindSets, firstFailed}
 
@@ -163,7 +163,7 @@ stateSetsFit s l =
     elim (l .kind) [
       | Rl ↦ not (eqb (l .reads) 0)
       | St k ↦
-          let whole = getD (s .relations) (l .rel) emptyLine .reads in
+          let whole = getD (s .relations) (l .rel) unusedLine .reads in
           within (l .reads) whole && within (l .writes) whole && within (l .tests) whole && kindSets whole k l
       | Fk ↦ true
       | Pr ↦ true
@@ -181,9 +181,9 @@ blocksWithin parent child = all (λ b. any (λ c. sameBlock b c) child) parent
 -- R8: a link fits its key and its statements
 unfoldable pub stateLinkFits : State → Line → Bool
 stateLinkFits s l =
-    let child = getD (s .own .statements) (l .rel) emptyLine in
-    let parent = getD (s .own .statements) (l .to) emptyLine in
-    let key = getD (s .keys) (l .id) emptyLine in
+    let child = getD (s .own .statements) (l .rel) unusedLine in
+    let parent = getD (s .own .statements) (l .to) unusedLine in
+    let key = getD (s .keys) (l .id) unusedLine in
     not (isLink l)
     || (eqb (child .rel) (key .rel)
     && eqb (parent .rel) (key .to)

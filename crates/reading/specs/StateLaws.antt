@@ -17,7 +17,7 @@ use Rattle.base.specs.ListLaws.{keep-append, count-append, count-keep, any-appe
 use Rattle.text.specs.declared.Line.{Line}
 use Rattle.text.specs.declared.LineKind.{LineKind}
 use Rattle.text.specs.declared.LineKind.the-variants.{Rl, Fk, Pr, St, Lo, Br, El, En, Li}
-use Rattle.text.specs.Text.{emptyLine}
+use Rattle.text.specs.Text.{unusedLine}
 use Rattle.text.specs.Reading.{sort, isRelation, isKey, isProgram, isStatementOrFlow, isLink, isStatement, isStatementOf, canBeParent}
 use Rattle.text.specs.Reading.{Block, sameBlock, blocksAfter, blocksBehind, openBlocks, program, loop, firstArm, secondArm, kindSets}
 use Rattle.text.specs.Reading.{beforeStatement, blocksAround, statement, key, relation, relationSet, bounded, withinBounds, inBody}
@@ -447,9 +447,9 @@ pub linkFits-state : (lines : List Line) (l : Line) → numbered lines ≡ true 
     → linkFits lines l ≡ stateLinkFits (stateOf lines) l
 unfolding linkFits stateLinkFits stateOf ownOf key statement
 linkFits-state lines l h n =
-    let child = getD (keep isStatement (program lines)) (l .rel) emptyLine in
-    let parent = getD (keep isStatement (program lines)) (l .to) emptyLine in
-    let named-key = getD (keep isKey lines) (l .id) emptyLine in
+    let child = getD (keep isStatement (program lines)) (l .rel) unusedLine in
+    let parent = getD (keep isStatement (program lines)) (l .to) unusedLine in
+    let named-key = getD (keep isKey lines) (l .id) unusedLine in
     go (isLink l) (eqb (child .rel) (named-key .rel)) (eqb (parent .rel) (named-key .to)) (isStatementOf canBeParent (parent .kind)) _ _
     (λ e. around-blocks lines l h (link-named lines l e n))
   where

@@ -7,7 +7,7 @@ use lib.ListN.{length, take, replicate, length-append, length-replicate, take-ap
 use lib.Seq.{take-at, drop-at, length-take-le}
 use Rattle.text.specs.declared.Line.{Line}
 use Rattle.text.specs.declared.Workload.{Workload}
-use Rattle.text.specs.Text.{emptyLine}
+use Rattle.text.specs.Text.{unusedLine}
 use Rattle.text.specs.Reading.{read}
 use Rattle.text.specs.Reading.Outcome.{accepted}
 use Rattle.text.specs.Value.{linesOf, valueOf, Given}
@@ -26,7 +26,7 @@ value-given text {lines} h =
     record {
       text = text;
       isRead = h ∙ ap accepted (sym (lines-of-value lines));
-      cells = length-append lines (replicate (1616 - length lines) emptyLine) ∙ rw length-replicate (omega arith);
+      cells = length-append lines (replicate (1616 - length lines) unusedLine) ∙ rw length-replicate (omega arith);
       fits = most;
       others = drop-at lines _ _ refl;
     }
@@ -36,6 +36,6 @@ pub given-value : (w : Workload) → Given w → w ≡ valueOf (linesOf w)
 unfolding valueOf linesOf
 given-value w g =
     let many : length (take (w .count) (w .lines)) ≡ w .count = length-take-le (w .count) (w .lines) (omega arith) in
-    let cells : w .lines ≡ take (w .count) (w .lines) ++ replicate (1616 - length (take (w .count) (w .lines))) emptyLine =
+    let cells : w .lines ≡ take (w .count) (w .lines) ++ replicate (1616 - length (take (w .count) (w .lines))) unusedLine =
     sym (take-append-drop (w .count) (w .lines)) ∙ ap (λ r. take (w .count) (w .lines) ++ r) (g .others ∙ rw many) in
     λ i. record { count = sym many i; lines = cells i }

@@ -23,7 +23,7 @@ use Rattle.text.specs.declared.Line.{Line}
 use Rattle.text.specs.declared.LineKind.{LineKind}
 use Rattle.text.specs.declared.LineKind.the-variants.{Rl, Fk, Pr, St, Lo, Br, El, En, Li}
 use Rattle.text.specs.declared.StatementKind.{StatementKind}
-use Rattle.text.specs.Text.{emptyLine}
+use Rattle.text.specs.Text.{unusedLine}
 use Rattle.text.specs.Reading.{sort, isRelation, isKey, isProgram, isStatementOrFlow, isLink, isStatement, isStatementOf, canBeParent}
 use Rattle.text.specs.Reading.{Block, sameBlock, blocksAfter, toSecondArm, kindSets, firstFailed, fault, noneOpen, program}
 use Rattle.reading.specs.State.{Own, State as Before, ownAfter, ownBehind, emptyOwn, stateOf, stateAfter, stateBounded, stateInBody}
@@ -378,17 +378,17 @@ cells-at f d e xs c i h = cells-read c i h ∙ ap (getD (map f xs) i) (sym e) �
 
 pub setsFit-kept : (s : State) (b : Before) → Keeps s b → (l : Line) → stateNamed b l ≡ true
     → setsFitAs (s .tables) l (l .kind) ≡ stateSetsFit b l
-unfolding setsFitAs stateSetsFit stateNamed emptyLine
+unfolding setsFitAs stateSetsFit stateNamed unusedLine
 setsFit-kept s b k l = go (l .kind) (l .id) (l .rel) (l .to) (l .reads) (l .writes) (l .tests)
   where
     n : Numbers s b
     n = numbers-of k
 
-    whole : (r : ℕ) → ltb r (length (b .relations)) ≡ true → getD (s .tables .sets) r 0 ≡ getD (b .relations) r emptyLine .reads
+    whole : (r : ℕ) → ltb r (length (b .relations)) ≡ true → getD (s .tables .sets) r 0 ≡ getD (b .relations) r unusedLine .reads
     whole r h =
         let below = ltb-true r (length (b .relations)) h in
         let count = n .relations in
-        cells-at (λ (x : Line). x .reads) emptyLine refl (b .relations) (k .tables .sets) r (omega arith)
+        cells-at (λ (x : Line). x .reads) unusedLine refl (b .relations) (k .tables .sets) r (omega arith)
 
     go : (kind : LineKind) (id rel to reads writes tests : ℕ)
         → stateNamed b (lineBy kind id rel to reads writes tests) ≡ true
@@ -419,19 +419,19 @@ getD-passes p d e (x ∷ l) h (suc i) = getD-passes p d e l (and-true (p x) (all
 link-kept : (s : State) (b : Before) → Keeps s b → Good b → (l : Line)
     → l .id < length (b .keys) → l .rel < length (b .own .statements) → l .to < length (b .own .statements)
     → linkFitsOf (s .tables) (s .statements) l
-    ≡ eqb (getD (b .own .statements) (l .rel) emptyLine .rel) (getD (b .keys) (l .id) emptyLine .rel)
-    && eqb (getD (b .own .statements) (l .to) emptyLine .rel) (getD (b .keys) (l .id) emptyLine .to)
-    && isStatementOf canBeParent (getD (b .own .statements) (l .to) emptyLine .kind)
+    ≡ eqb (getD (b .own .statements) (l .rel) unusedLine .rel) (getD (b .keys) (l .id) unusedLine .rel)
+    && eqb (getD (b .own .statements) (l .to) unusedLine .rel) (getD (b .keys) (l .id) unusedLine .to)
+    && isStatementOf canBeParent (getD (b .own .statements) (l .to) unusedLine .kind)
     && blocksWithin (getD (b .own .around) (l .to) []) (getD (b .own .around) (l .rel) [])
-unfolding emptyLine parentalOf isStatementOf maskOf fitting
+unfolding unusedLine parentalOf isStatementOf maskOf fitting
 link-kept s b k g l id-below rel-below to-below =
     let n = numbers-of k in
     let keys-count = n .keys in
     let count = n .statements in
     let around-count = n .around in
     let statement-at : (i : ℕ) → i < length (b .own .statements)
-    → getD (s .statements .relations) i 0 ≡ getD (b .own .statements) i emptyLine .rel
-    = λ i h. cells-at (λ (x : Line). x .rel) emptyLine refl (b .own .statements) (k .statements .relations) i (omega arith) in
+    → getD (s .statements .relations) i 0 ≡ getD (b .own .statements) i unusedLine .rel
+    = λ i h. cells-at (λ (x : Line). x .rel) unusedLine refl (b .own .statements) (k .statements .relations) i (omega arith) in
     let blocks-at : (which : ℕ) (a : List ℕ) → Cells (s .statements .count) a (map (maskOf which) (b .own .around)) → (i : ℕ)
     → i < length (b .own .statements) → getD a i 0 ≡ maskOf which (getD (b .own .around) i [])
     = λ which a c i h. cells-at (maskOf which) [] refl (b .own .around) c i (omega arith) in
@@ -440,13 +440,13 @@ link-kept s b k g l id-below rel-below to-below =
     ≡ within (maskOf which (getD (b .own .around) (l .to) [])) (maskOf which (getD (b .own .around) (l .rel) []))
     = λ which a c. ap₂ within (blocks-at which a c (l .to) to-below) (blocks-at which a c (l .rel) rel-below) in
     let parental-at : eqb (getD (s .statements .parental) (l .to) 0) 1
-    ≡ isStatementOf canBeParent (getD (b .own .statements) (l .to) emptyLine .kind)
-    = ap (λ v. eqb v 1) (cells-at parentalOf emptyLine refl (b .own .statements) (k .statements .parental) (l .to) (omega arith))
-    ∙ one (isStatementOf canBeParent (getD (b .own .statements) (l .to) emptyLine .kind)) in
-    let key-at : getD (s .tables .children) (l .id) 0 ≡ getD (b .keys) (l .id) emptyLine .rel
-    = cells-at (λ (x : Line). x .rel) emptyLine refl (b .keys) (k .tables .children) (l .id) (omega arith) in
-    let key-to : getD (s .tables .parents) (l .id) 0 ≡ getD (b .keys) (l .id) emptyLine .to
-    = cells-at (λ (x : Line). x .to) emptyLine refl (b .keys) (k .tables .parents) (l .id) (omega arith) in
+    ≡ isStatementOf canBeParent (getD (b .own .statements) (l .to) unusedLine .kind)
+    = ap (λ v. eqb v 1) (cells-at parentalOf unusedLine refl (b .own .statements) (k .statements .parental) (l .to) (omega arith))
+    ∙ one (isStatementOf canBeParent (getD (b .own .statements) (l .to) unusedLine .kind)) in
+    let key-at : getD (s .tables .children) (l .id) 0 ≡ getD (b .keys) (l .id) unusedLine .rel
+    = cells-at (λ (x : Line). x .rel) unusedLine refl (b .keys) (k .tables .children) (l .id) (omega arith) in
+    let key-to : getD (s .tables .parents) (l .id) 0 ≡ getD (b .keys) (l .id) unusedLine .to
+    = cells-at (λ (x : Line). x .to) unusedLine refl (b .keys) (k .tables .parents) (l .id) (omega arith) in
     B.and-true _
     ∙ ap₂ _&&_
     (ap₂ _&&_ (ap₂ _&&_ (ap₂ eqb (statement-at (l .rel) rel-below) key-at) (ap₂ eqb (statement-at (l .to) to-below) key-to)) parental-at)

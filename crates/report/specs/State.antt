@@ -3,7 +3,7 @@ use mathlib.Core.Bool.{Bool, true, false, _||_}
 use mathlib.Core.List.{List, [], _∷_}
 use mathlib.Core.Option.{Option, none, some}
 use mathlib.Core.Path.{_≡_}
-use Prim.Native.Nat.{ℕ, _+_}
+use Prim.Native.Nat.{ℕ, zero, suc, _+_}
 use lib.Dec.{ltb}
 use lib.ListN.{length}
 use Rattle.base.specs.Basic.{count}
@@ -31,6 +31,11 @@ pub data StateRefusal (w : Workload) (short : Bool) : Option ℕ → Type 0 wher
   too-many : Given w → tooMany (linesOf w) ≡ true → StateRefusal w short (some 22)
   too-short : Given w → tooMany (linesOf w) ≡ false → short ≡ true → StateRefusal w short (some 20)
   taken : Given w → tooMany (linesOf w) ≡ false → short ≡ false → StateRefusal w short none
+
+-- a refusal as the code answers it: its number, or 0 for none
+unfoldable pub refusalOf : ℕ → Option ℕ
+refusalOf zero = none
+refusalOf (suc n) = some (suc n)
 
 -- S20: an area for unfoldings, shorter than their statements
 unfoldable pub shortForUnfoldings : List Line → ℕ → Bool

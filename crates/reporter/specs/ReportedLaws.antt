@@ -15,12 +15,11 @@ use Rattle.text.specs.Reading.Outcome.{refused, accepted}
 use Rattle.text.specs.Value.{Given, linesOf, valueOf}
 use Rattle.graph.specs.Walk.{Step}
 use Rattle.reading.specs.ValueLaws.{lines-of-value, value-given}
-use Rattle.report.specs.State.{Counts, countsOf, tooMany, shortForWalk, StateRefusal}
+use Rattle.report.specs.State.{Counts, countsOf, tooMany, shortForWalk, StateRefusal, refusalOf}
 use Rattle.report.specs.State.StateRefusal.{not-given, too-many, too-short, taken}
 use Rattle.report.specs.Report.{Report, refusalReport, robustReport, dangerReport}
 use Rattle.report.specs.Report.Report.{refusal, unfolding-refusal, robust, danger}
 use Rattle.detector.specs.Table.{shownIn}
-use Rattle.unfolder.specs.Settled.{refusalOf}
 use Rattle.reader.specs.declared.Parsed.{Parsed}
 use Rattle.reader.specs.Parse.{parsedAs}
 use Rattle.judging.specs.declared.Verdict.{Verdict}

@@ -15,13 +15,13 @@ use Rattle.text.specs.declared.Workload.{Workload}
 use Rattle.text.specs.Value.{Given, linesOf}
 use Rattle.graph.specs.Program.{programsOf}
 use Rattle.graph.specs.Unfolding.{Node, nodesOf}
-use Rattle.report.specs.State.{StateRefusal, statementsIn, tooMany, shortForUnfoldings}
+use Rattle.report.specs.State.{StateRefusal, statementsIn, tooMany, shortForUnfoldings, refusalOf}
 use Rattle.report.specs.State.StateRefusal.{not-given, too-many, too-short, taken}
 use Rattle.tables.specs.Table.{rowsOf, tableOf}
 use Rattle.choosing.specs.Table.{cells}
 use Rattle.unfolder.specs.declared.Unfolded.{Unfolded}
 use Rattle.unfolder.specs.Result.{refusedWith, nodesTold}
-use Rattle.unfolder.specs.Settled.{refusalOf, PlacesStand, PlacesSettled}
+use Rattle.unfolder.specs.Settled.{PlacesStand, PlacesSettled}
 use Rattle.rows.specs.Edges.{taken-given}
 use Rattle.rows.specs.declared.Begun.{Begun}
 use Rattle.rows.specs.declared.Rows.{Rows}

@@ -12,13 +12,12 @@ use Rattle.text.specs.declared.Workload.{Workload}
 use Rattle.text.specs.Value.{Given, linesOf}
 use Rattle.graph.specs.Unfolding.{nodesOf}
 use Rattle.graph.specs.Edge.{edgesOf}
-use Rattle.report.specs.State.{StateRefusal, statementsIn, tooMany}
+use Rattle.report.specs.State.{StateRefusal, statementsIn, tooMany, refusalOf}
 use Rattle.report.specs.State.StateRefusal.{not-given, too-many, too-short, taken}
 use Rattle.tables.specs.Table.{rowsOf, tableOf}
 use Rattle.tables.specs.TableLaws.{tableOf-length}
 use Rattle.edges.specs.Slots.{tableEdges}
 use Rattle.placing.specs.Placed.{accepted-edges, rowsOf-length}
-use Rattle.unfolder.specs.Settled.{refusalOf}
 use Rattle.rows.specs.declared.Rows.{Rows}
 use Rattle.rows.specs.Rows.{RowsSettled}
 

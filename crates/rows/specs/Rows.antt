@@ -9,9 +9,8 @@ use Rattle.text.specs.declared.Workload.{Workload}
 use Rattle.text.specs.Value.{linesOf}
 use Rattle.graph.specs.Program.{programsOf}
 use Rattle.graph.specs.Unfolding.{nodesOf}
-use Rattle.report.specs.State.{StateRefusal, statementsIn}
+use Rattle.report.specs.State.{StateRefusal, statementsIn, refusalOf}
 use Rattle.tables.specs.Table.{rowsOf, tableOf}
-use Rattle.unfolder.specs.Settled.{refusalOf}
 use Rattle.rows.specs.declared.Rows.{Rows}
 
 -- a refusal gives its number alone

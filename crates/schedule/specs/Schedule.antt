@@ -107,17 +107,17 @@ numbered i k (o ∷ rest) =
 unfoldable pub eventsOf : ℕ → Transaction → List Event
 eventsOf i x = numbered i 0 (operations x)
 
+-- H7: the key's image of a child's tuple is a parent's tuple
+abbrev pub keyHits : (ℕ → Tuple → Tuple) → Link → Performed → ℕ → Performed → ℕ → Bool
+keyHits key l child t parent u =
+    let image = key (l .key) (record { relation = child .occurrence .statement .relation; number = t }) in
+    eqb (image .relation) (parent .occurrence .statement .relation) && eqb (image .number) u
+
 -- H7: where a link binds a parent to a child, the parent's tuple is the key applied to each of the child's
 unfoldable pub linkKept : (ℕ → Tuple → Tuple) → Link → Performed → Performed → Bool
 linkKept key l child parent =
     not (binds l (child .occurrence) (parent .occurrence))
-    || all
-    (λ t. all
-    (λ u.
-    let image = key (l .key) (record { relation = child .occurrence .statement .relation; number = t }) in
-    eqb (image .relation) (parent .occurrence .statement .relation) && eqb (image .number) u)
-    (parent .tuples))
-    (child .tuples)
+    || all (λ t. all (λ u. keyHits key l child t parent u) (parent .tuples)) (child .tuples)
 
 -- H7: every link holds in the execution
 unfoldable pub keysKept : (ℕ → Tuple → Tuple) → Transaction → Bool

@@ -12,7 +12,7 @@ use Rattle.text.specs.declared.Line.{Line}
 use Rattle.text.specs.declared.LineKind.{LineKind}
 use Rattle.text.specs.declared.LineKind.the-variants.{Rl, Fk, Pr, St, Lo, Br, El, En, Li}
 use Rattle.text.specs.declared.StatementKind.the-variants.{Is, Ks, Ps, Ku, Pu, Kd, Pd}
-use Rattle.text.specs.Text.{newline, namesLine, lineWith, numberOf, setOf, emptyLine, lineOf}
+use Rattle.text.specs.Text.{newline, namesLine, lineWith, numberOf, setOf, unusedLine, lineOf}
 use Rattle.text.specs.Reading.{isAllowed}
 use Rattle.text.specs.Reading.Outcome.{refused, accepted}
 use Rattle.text.specs.Value.{linesOf, Given, written}
@@ -619,7 +619,7 @@ unfolding rereads text relations
 form-before-bound = refl
 
 -- S21: the value of the names line alone
-nothing-given : Given (record { count = 0; lines = replicate 1616 emptyLine })
+nothing-given : Given (record { count = 0; lines = replicate 1616 unusedLine })
 unfolding readBytes linesOf text
 nothing-given =
     record {
@@ -634,9 +634,9 @@ nothing-given =
 other-kind : _≡_ {A = LineKind} Lo En → ⊥
 other-kind kinds = let wrong : _≡_ {A = ℕ} 0 1 = cc in omega arith
 
-stray-line : Given (record { count = 0; lines = flow Lo ∷ replicate 1615 emptyLine }) → ⊥
-unfolding flow lineWith emptyLine headD
-stray-line g = other-kind (ap (λ l. headD l emptyLine .kind) (g .others))
+stray-line : Given (record { count = 0; lines = flow Lo ∷ replicate 1615 unusedLine }) → ⊥
+unfolding flow lineWith unusedLine headD
+stray-line g = other-kind (ap (λ l. headD l unusedLine .kind) (g .others))
 
 -- R2: the bytes of a text, all of them
 allowedBytes : List ℕ

@@ -6,7 +6,7 @@ use Prim.Native.Char.{code}
 use Prim.Native.String.{String}
 use Rattle.text.specs.declared.Line.{Line}
 use Rattle.text.specs.Text.{newline, same, onFirst, linesIn, fieldsIn, namesLine, digitsForm, digitValue, valueBehind, numberOf}
-use Rattle.text.specs.Text.{setOf, dashOf, wordOf, kinds, kindOf, formsOf, fieldOf, valuesOf, lineWith, lineOf, emptyLine}
+use Rattle.text.specs.Text.{setOf, dashOf, wordOf, kinds, kindOf, formsOf, fieldOf, valuesOf, lineWith, lineOf, unusedLine}
 use Rattle.text.specs.Reading.{sort, isRelation, isKey, isProgram, isStatementOrFlow, isLink, isStatementOf, isStatement}
 use Rattle.text.specs.Reading.{program, relation, key, statement, sameBlock, toSecondArm, blocksAfter, blocksBehind, openBlocks}
 use Rattle.text.specs.Reading.{beforeStatement, blocksAround, relationSet, bounded, withinBounds, inBody, noneOpen, innermost}
@@ -30,7 +30,7 @@ text (line ∷ lines) = bytes line ++ (newline ∷ text lines)
 unfoldable pub readBytes : List ℕ → Outcome
 unfolding
     namesLine lineOf fieldsIn onFirst kindOf kinds same wordOf valuesOf formsOf fieldOf numberOf setOf dashOf digitsForm digitValue
-    valueBehind lineWith emptyLine linesIn sort isRelation isKey isProgram isStatementOrFlow isLink isStatementOf isStatement program
+    valueBehind lineWith unusedLine linesIn sort isRelation isKey isProgram isStatementOrFlow isLink isStatementOf isStatement program
     relation key statement sameBlock toSecondArm blocksAfter blocksBehind openBlocks beforeStatement blocksAround relationSet bounded withinBounds
     inBody noneOpen innermost ordered named kindSets setsFit canBeParent allAround linkFits testsOf firstFailed fault readLines isAllowed
     otherByte endsLine read headD

@@ -12,7 +12,7 @@ use Rattle.text.specs.declared.LineKind.{LineKind}
 use Rattle.text.specs.declared.LineKind.the-variants.{Rl, Fk, Pr, St, Lo, Br, El, En, Li}
 use Rattle.text.specs.declared.StatementKind.{StatementKind}
 use Rattle.text.specs.declared.StatementKind.the-variants.{Is, Ks, Ps, Ku, Pu, Kd, Pd}
-use Rattle.text.specs.Text.{newline, space, dash, isDecimal, isLetter, same, linesIn, namesLine, lineOf, emptyLine}
+use Rattle.text.specs.Text.{newline, space, dash, isDecimal, isLetter, same, linesIn, namesLine, lineOf, unusedLine}
 
 -- T6: the sorts of line in the order in which they stand: relations, keys, programs; in a program statements and flow, then links
 unfoldable pub sort : LineKind → ℕ
@@ -63,13 +63,13 @@ program (l ∷ lines) = elim (any isProgram lines) [ true ↦ program lines | fa
 
 -- T7: ids count from 0, so the relation, the key and, in a program, the statement of a number is the line at that place of its sort
 unfoldable pub relation : List Line → ℕ → Line
-relation lines r = getD (keep isRelation lines) r emptyLine
+relation lines r = getD (keep isRelation lines) r unusedLine
 
 unfoldable pub key : List Line → ℕ → Line
-key lines f = getD (keep isKey lines) f emptyLine
+key lines f = getD (keep isKey lines) f unusedLine
 
 unfoldable pub statement : List Line → ℕ → Line
-statement lines s = getD (keep isStatement lines) s emptyLine
+statement lines s = getD (keep isStatement lines) s unusedLine
 
 -- T8: the parts of blocks: a loop's run, a branch's first arm, its second arm
 abbrev pub loop : ℕ

@@ -199,5 +199,5 @@ lineOf bytes =
     ]
 
 -- the line that stands where there is none
-unfoldable pub emptyLine : Line
-emptyLine = record { kind = En; id = 0; rel = 0; to = 0; reads = 0; writes = 0; tests = 0 }
+unfoldable pub unusedLine : Line
+unusedLine = record { kind = En; id = 0; rel = 0; to = 0; reads = 0; writes = 0; tests = 0 }

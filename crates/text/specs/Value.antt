@@ -7,7 +7,7 @@ use lib.Dec.{ltb}
 use lib.ListN.{length, take, drop, replicate}
 use Rattle.text.specs.declared.Line.{Line}
 use Rattle.text.specs.declared.Workload.{Workload}
-use Rattle.text.specs.Text.{newline, space, dash, namesLine, wordOf, Form, formsOf, emptyLine}
+use Rattle.text.specs.Text.{newline, space, dash, namesLine, wordOf, Form, formsOf, unusedLine}
 use Rattle.text.specs.Text.Form.{number, set, nothing}
 use Rattle.text.specs.Reading.{read}
 use Rattle.text.specs.Reading.Outcome.{accepted}
@@ -18,15 +18,15 @@ linesOf w = take (w .count) (w .lines)
 
 -- S21: the workload value that lines give
 unfoldable pub valueOf : List Line → Workload
-valueOf lines = record { count = length lines; lines = lines ++ replicate (1616 - length lines) emptyLine }
+valueOf lines = record { count = length lines; lines = lines ++ replicate (1616 - length lines) unusedLine }
 
--- S21: some accepted text gives the workload value: its cells up to `count` hold the lines, the others the empty line
+-- S21: some accepted text gives the workload value: its cells up to `count` hold the lines, the others the unused line
 pub record Given (w : Workload) : Type 0 where
   pub text : List ℕ
   pub isRead : read text ≡ accepted (linesOf w)
   pub cells : length (w .lines) ≡ 1616
   pub fits : w .count ≤ 1616
-  pub others : drop (w .count) (w .lines) ≡ replicate (1616 - w .count) emptyLine
+  pub others : drop (w .count) (w .lines) ≡ replicate (1616 - w .count) unusedLine
 
 -- T3, T4: the digit for a number below the base
 unfoldable pub digit : ℕ → ℕ

@@ -35,7 +35,7 @@ pub struct Line {
     pub tests: u64,
 }
 
-// A workload: its lines behind the names line. Cells past `count` hold `emptyLine` of specs/Text: kind En and six zeros.
+// A workload: its lines behind the names line. Cells past `count` hold `unusedLine` of specs/Text: kind En and six zeros.
 pub struct Workload {
     pub count: usize,
     pub lines: [Line; 1616],

@@ -17,7 +17,7 @@ use Rattle.text.specs.declared.Workload.{Workload}
 use Rattle.text.specs.Value.{Given, linesOf}
 use Rattle.graph.specs.Program.{Statement}
 use Rattle.graph.specs.Unfolding.{Node, nodesOf}
-use Rattle.report.specs.State.{StateRefusal, statementsIn, tooMany, shortForUnfoldings}
+use Rattle.report.specs.State.{StateRefusal, statementsIn, tooMany, shortForUnfoldings, refusalOf}
 use Rattle.report.specs.State.StateRefusal.{not-given, too-many, too-short, taken}
 use Rattle.choosing.specs.Cap.{Alike, cap}
 use Rattle.choosing.specs.Codes.{codeOf, codesOf, idsOf, markIn, marksOf}
@@ -31,7 +31,7 @@ use Rattle.choosing.specs.PlacesLaws.{IdWord, noMark, id-tables, id-words, Line
 use Rattle.choosing.specs.Table.{starts, cells, table}
 use Rattle.unfolder.specs.declared.Unfolded.{Unfolded}
 use Rattle.unfolder.specs.Result.{refusedWith, idsIn, startsIn, nodesTold, tableTold, overMany, tooShort, piecesOver, Ready, Tabled}
-use Rattle.unfolder.specs.Settled.{refusalOf, Settled, PlacesStand, PlacesSettled}
+use Rattle.unfolder.specs.Settled.{Settled, PlacesStand, PlacesSettled}
 use Rattle.linetables.proofs.CellLaws.{number-at}
 
 -- the promise, whatever stands in the area where nothing is refused

@@ -1,22 +1,17 @@
 -- What the open functions promise for every workload value and every area.
 use mathlib.Core.List.{List, _++_}
-use mathlib.Core.Option.{Option, none, some}
+use mathlib.Core.Option.{none, some}
 use mathlib.Core.Path.{_≡_}
-use Prim.Native.Nat.{ℕ, zero, suc}
+use Prim.Native.Nat.{ℕ}
 use lib.ListN.{length, drop}
 use Rattle.text.specs.declared.Line.{Line}
 use Rattle.text.specs.declared.Workload.{Workload}
 use Rattle.text.specs.Value.{linesOf}
 use Rattle.graph.specs.Unfolding.{nodesOf}
-use Rattle.report.specs.State.{StateRefusal, statementsIn, shortForUnfoldings}
+use Rattle.report.specs.State.{StateRefusal, statementsIn, shortForUnfoldings, refusalOf}
 use Rattle.choosing.specs.Seen.{WordsFor}
 use Rattle.unfolder.specs.declared.Unfolded.{Unfolded}
 use Rattle.unfolder.specs.Result.{refusedWith, idsIn, nodesTold}
-
--- 0 stands for no refusal
-unfoldable pub refusalOf : ℕ → Option ℕ
-refusalOf zero = none
-refusalOf (suc n) = some (suc n)
 
 -- a refusal gives its number alone and leaves the area; else the nodes are told, and their ids stand from the area's start on
 pub record Settled (w : Workload) (before : List ℕ) (r : Unfolded) (area : List ℕ) : Type 0 where

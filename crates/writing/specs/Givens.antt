@@ -11,7 +11,7 @@ use Rattle.base.specs.BoolLaws.{and-of}
 use Rattle.base.specs.ListLaws.{all-append}
 use Rattle.text.specs.declared.Line.{Line}
 use Rattle.text.specs.declared.Workload.{Workload}
-use Rattle.text.specs.Text.{emptyLine, wordOf, formsOf}
+use Rattle.text.specs.Text.{unusedLine, wordOf, formsOf}
 use Rattle.text.specs.Reading.{fault, noneOpen, read}
 use Rattle.text.specs.Reading.Outcome.{accepted}
 use Rattle.text.specs.Value.{Given, fieldsWritten, linesOf, written}
@@ -49,7 +49,7 @@ taken-sound before (l ∷ lines) t = (line-fits (t .0 .bytes) (t .0 .isLine), t 
 pub record SoundValue (w : Workload) : Type 0 where
   pub cells : length (w .lines) ≡ 1616
   pub fits : w .count ≤ 1616
-  pub others : drop (w .count) (w .lines) ≡ replicate (1616 - w .count) emptyLine
+  pub others : drop (w .count) (w .lines) ≡ replicate (1616 - w .count) unusedLine
   pub lines : SoundLines [] (linesOf w)
   pub closed : noneOpen (linesOf w) ≡ true
   pub few : length (written (linesOf w)) ≤ 32768

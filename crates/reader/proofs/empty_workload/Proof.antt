@@ -1,6 +1,6 @@
 use mathlib.Core.Path.{refl}
 use Rattle.text.specs.Value.{valueOf}
-use Rattle.text.specs.Text.{emptyLine}
+use Rattle.text.specs.Text.{unusedLine}
 use Rattle.reader.proofs.empty_workload.Statement.{statement}
 use Rattle.reader.proofs.empty_workload.Tie as tie
 use Rattle.reader.proofs.empty_workload.Reads as reads
@@ -8,7 +8,7 @@ use Rattle.reader.proofs.empty_workload.Lts as lts
 
 -- src/lib.rt:126:1
 returns : tie.Need-returns
-unfolding valueOf emptyLine
+unfolding valueOf unusedLine
 returns c = refl
 
 pub empty-workload-spec : {M : Type 1} → statement M
