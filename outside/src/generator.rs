@@ -66,58 +66,15 @@ struct Limits {
 }
 
 fn limits(random: &mut Random, size: Size) -> Limits {
-    match size {
-        Size::Tiny => Limits {
-            relations: (1, 2),
-            attributes: random.between(1, 3),
-            keys: (0, 2),
-            programs: (1, 3),
-            statements: (1, 3),
-            links: 3,
-            block_in: 5,
-            depth: 2,
-        },
-        Size::Small => Limits {
-            relations: (1, 3),
-            attributes: random.between(1, 3),
-            keys: (0, 2),
-            programs: (0, 3),
-            statements: (0, 4),
-            links: 4,
-            block_in: 5,
-            depth: 3,
-        },
-        Size::Middle => Limits {
-            relations: (1, 8),
-            attributes: random.between(2, 12),
-            keys: (0, 8),
-            programs: (2, 8),
-            statements: (1, 12),
-            links: 12,
-            block_in: 7,
-            depth: 8,
-        },
-        Size::Wide => Limits {
-            relations: (1, 16),
-            attributes: random.between(1, 8),
-            keys: (0, 16),
-            programs: (12, 16),
-            statements: (4, 9),
-            links: 8,
-            block_in: 4,
-            depth: 3,
-        },
-        Size::Largest => Limits {
-            relations: (28, 32),
-            attributes: random.between(1, 64),
-            keys: (28, 32),
-            programs: (13, 16),
-            statements: (24, 32),
-            links: 32,
-            block_in: 40,
-            depth: 8,
-        },
-    }
+    let (relations, attributes, keys, programs, statements, links, block_in, depth) = match size {
+        Size::Tiny => ((1, 2), (1, 3), (0, 2), (1, 3), (1, 3), 3, 5, 2),
+        Size::Small => ((1, 3), (1, 3), (0, 2), (0, 3), (0, 4), 4, 5, 3),
+        Size::Middle => ((1, 8), (2, 12), (0, 8), (2, 8), (1, 12), 12, 7, 8),
+        Size::Wide => ((1, 16), (1, 8), (0, 16), (12, 16), (4, 9), 8, 4, 3),
+        Size::Largest => ((28, 32), (1, 64), (28, 32), (13, 16), (24, 32), 32, 40, 8),
+    };
+    let attributes = random.between(attributes.0, attributes.1);
+    Limits { relations, attributes, keys, programs, statements, links, block_in, depth }
 }
 
 /// A workload in the making: its lines, and what later lines must fit.

@@ -2,6 +2,7 @@
 //! Text -> workload -> unfoldings -> edges -> verdict with a walk -> report, a checker for walks,
 //! and a generator of texts. The programs under `bin/` are thin.
 
+pub mod areas;
 pub mod damage;
 pub mod edges;
 pub mod generator;

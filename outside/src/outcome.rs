@@ -131,22 +131,18 @@ fn parse_step(number: usize, line: &str) -> Option<Step> {
     })
 }
 
-/// One line for the reader's vectors: number and line, or `accepted` with the counts of lines by sort.
+/// What the reader says: how many lines, and a sum of all cells' values; or the refusal.
 pub fn reading(text: &[u8]) -> String {
-    use crate::workload::*;
     match read(text) {
-        Err(refusal) => format!("{} {}\n", refusal.number, refusal.line),
-        Ok(workload) => {
-            let count = |test: &dyn Fn(u8) -> bool| workload.taken().iter().filter(|line| test(line.kind)).count();
-            format!(
-                "accepted relations {} keys {} programs {} statements {} flow {} links {}\n",
-                count(&|kind| kind == RL),
-                count(&|kind| kind == FK),
-                count(&|kind| kind == PR),
-                count(&is_statement),
-                count(&is_flow),
-                count(&|kind| kind == LI)
-            )
-        }
+        Err(refusal) => format!("{REFUSED_NAMES}{} {}\n", refusal.number, refusal.line),
+        Ok(workload) => format!("accepted lines {} sum {}\n", workload.count, workload.lines.iter().fold(0, sum_of)),
     }
+}
+
+/// A sum with a line's seven values more, in order; kinds count from 1 in the order is ks ps ku pu kd pd rl fk pr lo br el en li.
+fn sum_of(before: u64, line: &crate::workload::Line) -> u64 {
+    const PRIME: u64 = 4_294_967_291;
+    let small = [line.kind as u64 + 1, line.id as u64, line.rel as u64, line.to as u64];
+    let sets = [line.reads, line.writes, line.tests];
+    small.iter().chain(&sets).fold(before, |sum, value| (sum * 31 + value % PRIME) % PRIME)
 }

@@ -1,4 +1,4 @@
-//! The proved code's stages, linked in by `RATTLE_LIB="path/libstages.a path/libedges.a" outside/build.sh` (programs `bench` and
+//! The proved code's stages, linked in by `RATTLE_LIB="path/libstages.a path/libputting.a" outside/build.sh` (programs `bench` and
 //! `records`). Results are those of `stages.rs`: one number, with bit 31 for a refusal.
 
 use outside::edges::Edge;
@@ -10,8 +10,7 @@ extern "C" {
     fn stage_read(text: *const u8, length: usize) -> u32;
     fn stage_unfold(text: *const u8, length: usize, area: *mut u64, room: usize) -> u32;
     fn stage_table(text: *const u8, length: usize, table: *mut u64, room: usize) -> u32;
-    fn stage_edge_count(table: *const u64, length: usize) -> u64;
-    fn put_edges(table: *const u64, length: usize, area: *mut Edge, room: usize);
+    fn put_edges(table: *const u64, length: usize, area: *mut Edge, room: usize) -> usize;
     fn stage_verdict(text: *const u8, length: usize, area: *mut u64, room: usize) -> u32;
 }
 
@@ -28,7 +27,7 @@ pub fn unfold(text: &[u8], _: &mut [Edge]) -> u32 {
     unsafe { stage_unfold(text.as_ptr(), text.len(), area.as_mut_ptr(), area.len()) }
 }
 
-/// The table of places, eight words a place; the number of edges in it; and the edges, all or none.
+/// The table of places, eight words a place, and its edges, all or none.
 pub fn edges(text: &[u8], area: &mut [Edge]) -> u32 {
     let mut table = [0u64; 8 * MAX_PLACES];
     let places = unsafe { stage_table(text.as_ptr(), text.len(), table.as_mut_ptr(), table.len()) };
@@ -36,11 +35,10 @@ pub fn edges(text: &[u8], area: &mut [Edge]) -> u32 {
         return places;
     }
     let words = 8 * places as usize;
-    let edges = unsafe { stage_edge_count(table.as_ptr(), words) };
-    if area.len() < edges as usize {
+    let edges = unsafe { put_edges(table.as_ptr(), words, area.as_mut_ptr(), area.len()) };
+    if area.len() < edges {
         return refused(20, 0);
     }
-    unsafe { put_edges(table.as_ptr(), words, area.as_mut_ptr(), area.len()) };
     edges as u32
 }
 

@@ -212,29 +212,9 @@ fn kind_of(letters: &[u8]) -> Option<u8> {
     })
 }
 
-/// A space and a `-`, or a space and a number; and the place behind. What follows is tested by the next field.
+/// A space and a `-`, or a space and digits in a base, of at most so many; and the place behind. What follows is tested by the next field.
 /// The text ends with 0A and no field passes one, so `at` always lies within the text.
-fn number_field(text: &[u8], at: usize, present: bool) -> Option<(u8, usize)> {
-    if text[at] != b' ' {
-        return None;
-    }
-    if !present {
-        return if text[at + 1] == b'-' { Some((0, at + 2)) } else { None };
-    }
-    let start = at + 1;
-    let mut end = start;
-    let mut value = 0u32;
-    while end < start + 3 && text[end].is_ascii_digit() {
-        value = value * 10 + (text[end] - b'0') as u32;
-        end += 1;
-    }
-    if end == start || (text[start] == b'0' && end > start + 1) || value > 255 {
-        return None;
-    }
-    Some((value as u8, end))
-}
-
-fn set_field(text: &[u8], at: usize, present: bool) -> Option<(u64, usize)> {
+fn digits_field<const BASE: u64>(text: &[u8], at: usize, present: bool, most: usize) -> Option<(u64, usize)> {
     if text[at] != b' ' {
         return None;
     }
@@ -244,19 +224,31 @@ fn set_field(text: &[u8], at: usize, present: bool) -> Option<(u64, usize)> {
     let start = at + 1;
     let mut end = start;
     let mut value = 0u64;
-    while end < start + 16 {
+    while end < start + most {
         let digit = match text[end] {
             byte @ b'0'..=b'9' => byte - b'0',
-            byte @ b'a'..=b'f' => byte - b'a' + 10,
+            byte @ b'a'..=b'f' if BASE == 16 => byte - b'a' + 10,
             _ => break,
         };
-        value = value << 4 | digit as u64;
+        value = value * BASE + digit as u64;
         end += 1;
     }
     if end == start || (text[start] == b'0' && end > start + 1) {
         return None;
     }
     Some((value, end))
+}
+
+fn number_field(text: &[u8], at: usize, present: bool) -> Option<(u8, usize)> {
+    let (value, end) = digits_field::<10>(text, at, present, 3)?;
+    if value > 255 {
+        return None;
+    }
+    Some((value as u8, end))
+}
+
+fn set_field(text: &[u8], at: usize, present: bool) -> Option<(u64, usize)> {
+    digits_field::<16>(text, at, present, 16)
 }
 
 // ---- 9: one more than a bound. Counts are those of the lines so far, whether or not this line is in order.

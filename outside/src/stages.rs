@@ -30,28 +30,30 @@ fn middle(workload: &Workload) -> u32 {
     line.id as u32 + line.rel as u32 + line.to as u32 + sets as u32
 }
 
+/// Reads a text and unfolds it into what is lent; where it is refused, the refusal as a number.
+fn unfolded(text: &[u8], workload: &mut Workload, unfoldings: &mut Unfoldings) -> Result<(), u32> {
+    read_into(text, workload).map_err(|refusal| refused(refusal.number, refusal.line))?;
+    if unfold(workload, unfoldings) {
+        Ok(())
+    } else {
+        Err(refused(22, 0))
+    }
+}
+
 /// Nodes and places.
 pub fn unfold_stage(text: &[u8], _: &mut [Edge]) -> u32 {
-    let mut workload = Workload::empty();
-    if let Err(refusal) = read_into(text, &mut workload) {
-        return refused(refusal.number, refusal.line);
-    }
-    let mut unfoldings = Unfoldings::empty();
-    if !unfold(&workload, &mut unfoldings) {
-        return refused(22, 0);
+    let (mut workload, mut unfoldings) = (Workload::empty(), Unfoldings::empty());
+    if let Err(refusal) = unfolded(text, &mut workload, &mut unfoldings) {
+        return refusal;
     }
     (black_box(&unfoldings).nodes as u32) << 16 | unfoldings.places as u32
 }
 
 /// How many edges were put into the area.
 pub fn edges_stage(text: &[u8], area: &mut [Edge]) -> u32 {
-    let mut workload = Workload::empty();
-    if let Err(refusal) = read_into(text, &mut workload) {
-        return refused(refusal.number, refusal.line);
-    }
-    let mut unfoldings = Unfoldings::empty();
-    if !unfold(&workload, &mut unfoldings) {
-        return refused(22, 0);
+    let (mut workload, mut unfoldings) = (Workload::empty(), Unfoldings::empty());
+    if let Err(refusal) = unfolded(text, &mut workload, &mut unfoldings) {
+        return refusal;
     }
     fill(&unfoldings, &spots(&workload, &unfoldings), area).map_or(refused(20, 0), |edges| edges as u32)
 }

@@ -98,3 +98,13 @@ not-of-false {b = false} h = refl
 pub not-of-true : {b : Bool} → b ≡ true → not b ≡ false
 not-of-true {b = true} h = refl
 not-of-true {b = false} h = sym h
+
+-- `not a || b` asks `b` where `a` passes
+pub implied : (a b : Bool) → not a || b ≡ true → a ≡ true → b ≡ true
+implied true b h s = h
+implied false b h s = absurd (true-false s refl)
+
+-- and that is all that it asks
+pub implies : (a b : Bool) → (a ≡ true → b ≡ true) → not a || b ≡ true
+implies true b f = f refl
+implies false b f = refl

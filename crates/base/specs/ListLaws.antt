@@ -1,11 +1,11 @@
 -- Laws of the list words of `Basic`, over membership as data and positions in native numbers.
-use mathlib.Core.Path.{_≡_, refl, sym, ap, ap₂, _∙_}
+use mathlib.Core.Path.{_≡_, refl, sym, ap, ap₂, subst, _∙_}
 use mathlib.Core.Bool.{Bool, true, false, cond, _&&_, _||_, true≢false, false≢true}
 use mathlib.Core.Bool as B
 use mathlib.Core.Logic.{_⊎_, inl, inr, ⊎-elim}
-use mathlib.Core.List.{List, [], _∷_, _++_, map, append-nil, List·Memᴰ}
+use mathlib.Core.List.{List, [], _∷_, _++_, map, flatMap, reverse, reverseAux, List·Memᴰ}
 use mathlib.Core.List.List·Memᴰ.{List·Memᴰ·head, List·Memᴰ·tail}
-use mathlib.Core.List.{List·Memᴰ·not-nil, List·Memᴰ·cases-cons}
+use mathlib.Core.List.{List·Memᴰ·not-nil, List·Memᴰ·cases-cons, List·Memᴰ·append-cases, Memᴰ·append-left, Memᴰ·append-right}
 use mathlib.Core.Option.{Option, none, some, Option·map, Option·some-injective, Option·none-ne-some}
 use Prim.Native.Nat.{ℕ, zero, suc, _+_, _≤_, _<_, zero-le, suc-le-suc}
 use native.Mathlib.Nat.{not-suc-le-zero, le-of-suc-le-suc, add-zero, suc-add, zero-add}
@@ -535,10 +535,6 @@ member-numbers n x h = member-numbersFrom 0 n x zero-le (omega arith)
 pub length-numbers : (n : ℕ) → length (numbers n) ≡ n
 length-numbers n = length-numbersFrom 0 n
 
--- number i stands at position i
-pub getElem?-numbers : (n i : ℕ) → i < n → getElem? (numbers n) i ≡ some i
-getElem?-numbers n i h = getElem?-numbersFrom 0 n i h ∙ ap {B = Option ℕ} some (zero-add i)
-
 -- what passes for all numbers below n passes for each
 pub all-numbers : (p : ℕ → Bool) (n : ℕ) → all p (numbers n) ≡ true → (i : ℕ) → i < n → p i ≡ true
 all-numbers p n h i k = all-true p h (member-numbers n i k)
@@ -547,10 +543,6 @@ all-numbers p n h i k = all-true p h (member-numbers n i k)
 pub all-numbers-of : (p : ℕ → Bool) (n : ℕ) → ((i : ℕ) → i < n → p i ≡ true) → all p (numbers n) ≡ true
 all-numbers-of p n f = all-of p (numbers n) (λ i m. f i (numbers-member n m))
 
--- what does not pass for all numbers below n fails for one
-pub all-numbers-false : (p : ℕ → Bool) (n : ℕ) → all p (numbers n) ≡ false → (i : ℕ) × (i < n) × (p i ≡ false)
-all-numbers-false p n h = let t = all-false p (numbers n) h in (t .0, numbers-member n (t .1), t .2)
-
 -- what passes for some number below n passes for one that is found
 pub any-numbers : (p : ℕ → Bool) (n : ℕ) → any p (numbers n) ≡ true → (i : ℕ) × (i < n) × (p i ≡ true)
 any-numbers p n h = let t = any-true p (numbers n) h in (t .0, numbers-member n (t .1), t .2)
@@ -558,10 +550,6 @@ any-numbers p n h = let t = any-true p (numbers n) h in (t .0, numbers-member n 
 -- a number below n that passes is enough
 pub any-numbers-of : (p : ℕ → Bool) (n i : ℕ) → i < n → p i ≡ true → any p (numbers n) ≡ true
 any-numbers-of p n i k h = any-of p (member-numbers n i k) h
-
--- what passes for no number below n fails for each
-pub any-numbers-false : (p : ℕ → Bool) (n : ℕ) → any p (numbers n) ≡ false → (i : ℕ) → i < n → p i ≡ false
-any-numbers-false p n h i k = any-false p h (member-numbers n i k)
 
 -- ---- closed walks
 
@@ -597,44 +585,11 @@ module _ {A : Type 0} where
       go (inl n) = n
       go (inr e) = List·Memᴰ·head e
 
-  -- one step of a walk: `all`
-  pub all-pairsTo : (p : A × A → Bool) (end x y : A) (l : List A)
-      → all p (pairsTo end (x ∷ y ∷ l)) ≡ p (x, y) && all p (pairsTo end (y ∷ l))
-  all-pairsTo p end x y l = refl
-
-  -- one step of a walk: `any`
-  pub any-pairsTo : (p : A × A → Bool) (end x y : A) (l : List A)
-      → any p (pairsTo end (x ∷ y ∷ l)) ≡ p (x, y) || any p (pairsTo end (y ∷ l))
-  any-pairsTo p end x y l = refl
-
   -- a walk through x is a walk to x and then one from x
   pub pairsTo-append : (end : A) (l : List A) (x : A) (r : List A) → pairsTo end (l ++ (x ∷ r)) ≡ pairsTo x l ++ pairsTo end (x ∷ r)
   pairsTo-append end [] x r = refl
   pairsTo-append end (y ∷ []) x r = refl
   pairsTo-append end (y ∷ z ∷ l) x r = ap {B = List (A × A)} (λ s. (y, z) ∷ s) (pairsTo-append end (z ∷ l) x r)
-
-  -- a closed walk through two elements is a walk from the first to the second and one back
-  pub around-append : (x : A) (l : List A) (y : A) (r : List A)
-      → around ((x ∷ l) ++ (y ∷ r)) ≡ pairsTo y (x ∷ l) ++ pairsTo x (y ∷ r)
-  around-append x l y r = pairsTo-append x (x ∷ l) y r
-
-  -- a closed walk may start anywhere: `all`
-  pub all-around : (p : A × A → Bool) (l r : List A) → all p (around (l ++ r)) ≡ all p (around (r ++ l))
-  all-around p [] r = ap (λ (s : List A). all p (around s)) (sym (append-nil r))
-  all-around p (x ∷ l) [] = ap (λ (s : List A). all p (around s)) (append-nil (x ∷ l))
-  all-around p (x ∷ l) (y ∷ r) =
-      ap (all p) (around-append x l y r) ∙ all-append p (pairsTo y (x ∷ l)) (pairsTo x (y ∷ r))
-      ∙ B.and-comm (all p (pairsTo y (x ∷ l))) (all p (pairsTo x (y ∷ r)))
-      ∙ sym (all-append p (pairsTo x (y ∷ r)) (pairsTo y (x ∷ l))) ∙ ap (all p) (sym (around-append y r x l))
-
-  -- a closed walk may start anywhere: `any`
-  pub any-around : (p : A × A → Bool) (l r : List A) → any p (around (l ++ r)) ≡ any p (around (r ++ l))
-  any-around p [] r = ap (λ (s : List A). any p (around s)) (sym (append-nil r))
-  any-around p (x ∷ l) [] = ap (λ (s : List A). any p (around s)) (append-nil (x ∷ l))
-  any-around p (x ∷ l) (y ∷ r) =
-      ap (any p) (around-append x l y r) ∙ any-append p (pairsTo y (x ∷ l)) (pairsTo x (y ∷ r))
-      ∙ B.or-comm (any p (pairsTo y (x ∷ l))) (any p (pairsTo x (y ∷ r)))
-      ∙ sym (any-append p (pairsTo x (y ∷ r)) (pairsTo y (x ∷ l))) ∙ ap (any p) (sym (around-append y r x l))
 
   -- each element of a walk has a next
   pub pairsTo-next : (end : A) (l : List A) {a : A} → List·Memᴰ a l → (b : A) × List·Memᴰ (a, b) (pairsTo end l)
@@ -676,3 +631,60 @@ module _ {A : Type 0} where
       go : (b ≡ x) ⊎ List·Memᴰ b l → (a : A) × List·Memᴰ (a, b) (pairsTo x (x ∷ l))
       go (inl e) = pairsTo-previous x x l (inr e)
       go (inr n) = pairsTo-previous x x l (inl n)
+
+-- ---- the members of a list turned round, and of lists joined
+
+module _ {A : Type 0} where
+  -- a list turned round onto another keeps the members of that one
+  reverseAux-right : (l : List A) {r : List A} {x : A} → List·Memᴰ x r → List·Memᴰ x (reverseAux l r)
+  reverseAux-right [] m = m
+  reverseAux-right (y ∷ l) m = reverseAux-right l (List·Memᴰ·tail m)
+
+  -- and has its own
+  reverseAux-left : {l : List A} {x : A} → List·Memᴰ x l → (r : List A) → List·Memᴰ x (reverseAux l r)
+  reverseAux-left (List·Memᴰ·head {x = y} {xs = l} e) r = reverseAux-right l (List·Memᴰ·head e)
+  reverseAux-left (List·Memᴰ·tail {x = y} {xs = l} m) r = reverseAux-left m (y ∷ r)
+
+  -- a list turned round has the same members
+  pub member-reverse : {l : List A} {x : A} → List·Memᴰ x l → List·Memᴰ x (reverse l)
+  member-reverse m = reverseAux-left m []
+
+  -- a list turned round onto another has no members but theirs
+  reverseAux-member : (l r : List A) {x : A} → List·Memᴰ x (reverseAux l r) → List·Memᴰ x l ⊎ List·Memᴰ x r
+  reverseAux-member [] r m = inr m
+  reverseAux-member (y ∷ l) r {x} m = go (reverseAux-member l (y ∷ r) m)
+    where
+      next : (x ≡ y) ⊎ List·Memᴰ x r → List·Memᴰ x (y ∷ l) ⊎ List·Memᴰ x r
+      next (inl e) = inl (List·Memᴰ·head e)
+      next (inr n) = inr n
+
+      go : List·Memᴰ x l ⊎ List·Memᴰ x (y ∷ r) → List·Memᴰ x (y ∷ l) ⊎ List·Memᴰ x r
+      go (inl n) = inl (List·Memᴰ·tail n)
+      go (inr n) = next (List·Memᴰ·cases-cons n)
+
+  -- and no others
+  pub reverse-member : (l : List A) {x : A} → List·Memᴰ x (reverse l) → List·Memᴰ x l
+  reverse-member l {x} m = go (reverseAux-member l [] m)
+    where
+      go : List·Memᴰ x l ⊎ List·Memᴰ x [] → List·Memᴰ x l
+      go (inl n) = n
+      go (inr n) = absurd (List·Memᴰ·not-nil n)
+
+module _ {A B : Type 0} where
+  -- a member of the lists joined is a member of one of them
+  pub flatMap-member : (f : A → List B) (l : List A) {y : B} → List·Memᴰ y (flatMap f l) → (x : A) × List·Memᴰ x l × List·Memᴰ y (f x)
+  unfolding flatMap
+  flatMap-member f [] m = absurd (List·Memᴰ·not-nil m)
+  flatMap-member f (x ∷ l) {y} m = go (λ n. flatMap-member f l n) (List·Memᴰ·append-cases (f x) m)
+    where
+      go : (List·Memᴰ y (flatMap f l) → (z : A) × List·Memᴰ z l × List·Memᴰ y (f z)) → List·Memᴰ y (f x) ⊎ List·Memᴰ y (flatMap f l)
+          → (z : A) × List·Memᴰ z (x ∷ l) × List·Memᴰ y (f z)
+      go rest (inl n) = (x, List·Memᴰ·head refl, n)
+      go rest (inr n) = let t = rest n in (t .0, List·Memᴰ·tail (t .1), t .2)
+
+  -- a member of one of the lists is a member of them joined
+  pub member-flatMap : (f : A → List B) {l : List A} {x : A} {y : B} → List·Memᴰ x l → List·Memᴰ y (f x) → List·Memᴰ y (flatMap f l)
+  unfolding flatMap
+  member-flatMap f {y} (List·Memᴰ·head {x = z} {xs = l} e) n =
+      Memᴰ·append-left (flatMap f l) (subst (λ (s : List B). List·Memᴰ y s) (ap f e) n)
+  member-flatMap f (List·Memᴰ·tail {x = z} {xs = l} m) n = Memᴰ·append-right (f z) (member-flatMap f m n)

@@ -8,14 +8,13 @@ use native.Mathlib.Decide.{ℕ-discrete, decLt}
 use native.Mathlib.Numerals.{one-add}
 use native.Mathlib.Omega.{arith}
 use lib.Arith.{bin-ind}
-use lib.Bits.{bitAnd, bitOr, and-step, or-step, and-shr, or-shr, and-comm, and-self}
+use lib.Bits.{bitAnd, bitOr, and-step, or-step, and-shr, or-shr, and-comm}
 use lib.Dec.{eqb}
-use lib.Pow.{shr-shr, pow-mono, pow-pos, ones-lt}
+use lib.Pow.{shr-shr, pow-mono, pow-pos}
 use borrow.Author.Tests.{eqb-true, eqb-false, eq-eqb, ne-eqb}
-use Rattle.base.specs.Basic.{any, numbers, has, meets, within}
-use Rattle.base.specs.BoolLaws.{decide, true-false, false-of, true-of, same-test, and-true, and-of, or-true, or-left, or-right}
+use Rattle.base.specs.Basic.{has, meets, within}
+use Rattle.base.specs.BoolLaws.{decide, true-false, same-test, and-true, and-of, or-true, or-left, or-right}
 use Rattle.base.specs.BoolLaws.{not-true, not-of-false}
-use Rattle.base.specs.ListLaws.{any-numbers, any-numbers-false}
 
 -- ---- one attribute at a time
 
@@ -160,14 +159,6 @@ meets-has-below w x y b h = let t = meets-has x y h in (t .0, has-below w x (t .
 pub has-meets : (x y k : ℕ) → has x k ≡ true → has y k ≡ true → meets x y ≡ true
 has-meets x y k h l = not-of-false (ne-eqb (bitAnd x y) 0 (has-nonzero (bitAnd x y) k (has-bitAnd x y k ∙ and-of h l)))
 
--- sets that do not meet share no attribute
-pub apart-has : (x y k : ℕ) → meets x y ≡ false → has x k ≡ true → has y k ≡ false
-apart-has x y k h l = false-of (has y k) (λ e. true-false (has-meets x y k l e) h)
-
--- sets that share no attribute do not meet
-pub has-apart : (x y : ℕ) → ((k : ℕ) → has x k ≡ true → has y k ≡ true → ⊥) → meets x y ≡ false
-has-apart x y f = false-of (meets x y) (λ h. let t = meets-has x y h in f (t .0) (t .1) (t .2))
-
 -- to meet is mutual
 pub meets-comm : (x y : ℕ) → meets x y ≡ meets y x
 meets-comm x y = ap (λ (z : ℕ). not (eqb z 0)) (and-comm x y)
@@ -179,10 +170,6 @@ meets-self x h = let t = nonzero-has x h in has-meets x x (t .0) (t .1) (t .1)
 -- the empty set meets none
 pub meets-empty : (y : ℕ) → meets 0 y ≡ false
 meets-empty y = refl
-
--- a set that meets another is not empty
-pub meets-nonzero : (x y : ℕ) → meets x y ≡ true → x ≡ 0 → ⊥
-meets-nonzero x y h = let t = meets-has x y h in has-nonzero x (t .0) (t .1)
 
 -- a set has what is in a set within it
 pub within-has : (x y k : ℕ) → within x y ≡ true → has x k ≡ true → has y k ≡ true
@@ -197,34 +184,6 @@ has-within x y f = eq-eqb (bitAnd x y) x (has-equal (bitAnd x y) x (λ k. has-bi
     same k =
         same-test (has x k && has y k) (has x k) (λ h. and-true (has x k) (has y k) h .0) (λ h. and-of h (f k h))
 
--- a set that is not within another has an attribute that the other has not
-pub within-false : (w x y : ℕ) → x < 2 ^ w → within x y ≡ false → (k : ℕ) × (k < w) × (has x k ≡ true) × (has y k ≡ false)
-within-false w x y b h = go (decide (any (λ k. has x k && not (has y k)) (numbers w)))
-  where
-    go : (any (λ k. has x k && not (has y k)) (numbers w) ≡ true) ⊎ (any (λ k. has x k && not (has y k)) (numbers w) ≡ false)
-        → (k : ℕ) × (k < w) × (has x k ≡ true) × (has y k ≡ false)
-    go (inl e) =
-        let t = any-numbers (λ k. has x k && not (has y k)) w e in
-        let u = and-true (has x (t .0)) (not (has y (t .0))) (t .2) in
-        (t .0, t .1, u .0, not-true (has y (t .0)) (u .1))
-    go (inr e) =
-        let missed : (k : ℕ) → k < w → has x k && not (has y k) ≡ false = any-numbers-false (λ k. has x k && not (has y k)) w e in
-        absurd (true-false
-        (has-within x y (λ k l. true-of (has y k) (λ n. true-false (and-of l (not-of-false n)) (missed k (has-below w x k b l)))))
-        h)
-
--- a set is within itself
-pub within-self : (x : ℕ) → within x x ≡ true
-within-self x = eq-eqb (bitAnd x x) x (and-self x)
-
--- what is within a set is within each set that this one is within
-pub within-trans : (x y z : ℕ) → within x y ≡ true → within y z ≡ true → within x z ≡ true
-within-trans x y z h l = has-within x z (λ k e. within-has y z k l (within-has x y k h e))
-
--- what a set meets, a set that it is within meets
-pub within-meets : (x y z : ℕ) → within x y ≡ true → meets x z ≡ true → meets y z ≡ true
-within-meets x y z h l = let t = meets-has x z l in has-meets y z (t .0) (within-has x y (t .0) h (t .1)) (t .2)
-
 -- ---- every attribute
 
 -- the word of w ones has each attribute below w
@@ -234,34 +193,9 @@ has-ones (suc w) zero h = has-first (2 ^ suc w - 1) ∙ eq-eqb ((2 ^ suc w - 1) 
 has-ones (suc w) (suc k) h =
     has-later (2 ^ suc w - 1) k ∙ ap (λ (z : ℕ). has z k) (omega (arith, pow-suc 2 w, pow-pos w)) ∙ has-ones w k (le-of-suc-le-suc h)
 
--- and none from w on
-pub has-ones-past : (w k : ℕ) → w ≤ k → has (2 ^ w - 1) k ≡ false
-has-ones-past w k h = has-past w (2 ^ w - 1) k (ones-lt w) h
-
--- a word below 2 ^ w that is not empty meets the word of w ones
-pub meets-ones : (w x : ℕ) → (x ≡ 0 → ⊥) → x < 2 ^ w → meets x (2 ^ w - 1) ≡ true
-meets-ones w x h b =
-    let t = nonzero-has x h in has-meets x (2 ^ w - 1) (t .0) (t .1) (has-ones w (t .0) (has-below w x (t .0) b (t .1)))
-
--- a word below 2 ^ w is within the word of w ones
-pub within-ones : (w x : ℕ) → x < 2 ^ w → within x (2 ^ w - 1) ≡ true
-within-ones w x b = has-within x (2 ^ w - 1) (λ k h. has-ones w k (has-below w x k b h))
-
 -- the set of every attribute has each attribute below 64
 pub has-every : (k : ℕ) → k < 64 → has 18446744073709551615 k ≡ true
 has-every k h = has-ones 64 k h
-
--- and none from 64 on
-pub has-every-past : (k : ℕ) → 64 ≤ k → has 18446744073709551615 k ≡ false
-has-every-past k h = has-ones-past 64 k h
-
--- each set that is not empty meets it
-pub meets-every : (x : ℕ) → (x ≡ 0 → ⊥) → x < 2 ^ 64 → meets x 18446744073709551615 ≡ true
-meets-every x h b = meets-ones 64 x h b
-
--- each set is within it
-pub within-every : (x : ℕ) → x < 2 ^ 64 → within x 18446744073709551615 ≡ true
-within-every x b = within-ones 64 x b
 
 -- ---- one attribute alone
 
@@ -277,14 +211,3 @@ has-one-other zero (suc k) d = has-past 1 1 (suc k) (omega arith) (omega arith)
 has-one-other (suc j) zero d = has-first (2 ^ suc j) ∙ ne-eqb (2 ^ suc j % 2) 1 (omega (arith, pow-suc 2 j))
 has-one-other (suc j) (suc k) d =
     has-later (2 ^ suc j) k ∙ ap (λ (z : ℕ). has z k) (omega (arith, pow-suc 2 j)) ∙ has-one-other j k (λ e. d (ap suc e))
-
--- a set meets the set of attribute j alone if it has j
-pub meets-one : (x j : ℕ) → meets x (2 ^ j) ≡ has x j
-meets-one x j = same-test (meets x (2 ^ j)) (has x j) alone (λ h. has-meets x (2 ^ j) j h (has-one j))
-  where
-    same : (k : ℕ) → has x k ≡ true → Dec (k ≡ j) → has (2 ^ j) k ≡ true → has x j ≡ true
-    same k h (yes e) l = ap (has x) (sym e) ∙ h
-    same k h (no d) l = absurd (true-false l (has-one-other j k d))
-
-    alone : meets x (2 ^ j) ≡ true → has x j ≡ true
-    alone h = let t = meets-has x (2 ^ j) h in same (t .0) (t .1) (ℕ-discrete (t .0) j) (t .2)

@@ -6,7 +6,7 @@ use Rattle.text.specs.Quoted.{rereads}
 use Rattle.text.specs.Value.{Given, valueOf, written}
 use Rattle.reading.specs.ValueLaws.{value-given}
 use Rattle.walks.specs.Reach.{dangerTest}
-use Rattle.report.specs.State.{countsOf, summaryGraph, Robust}
+use Rattle.report.specs.State.{summaryGraph, Robust}
 use Rattle.schedule.specs.Interleaved as Interleaved
 use Rattle.schedule.specs.Unserialisable as Unserialisable
 use Rattle.schedule.specs.Phantom as Phantom
@@ -20,10 +20,6 @@ tested = refl
 
 pub interleaved-robust : Robust Interleaved.lines
 interleaved-robust = robust-of Interleaved.lines tested
-
-pub interleaved-counts : countsOf Interleaved.lines ≡ record { programs = 3; nodes = 6; edges = 56; back = 5 }
-unfolding allPass
-interleaved-counts = refl
 
 -- each workload is one that a text gives: its own lines, written out
 pub interleaved-given : Given (valueOf Interleaved.lines)

@@ -1,9 +1,9 @@
-// The tests of a line over the state that words keep.
+// The tests of a line over the state that words keep. They are joined by `&` and `|`, which branch nowhere.
 use text::Line;
 use text::LineKind;
 use text::StatementKind;
 ghost use mathlib.Core.Path.{_≡_};
-ghost use mathlib.Core.Bool.{true, not, _&&_, _||_};
+ghost use mathlib.Core.Bool.{not, _&&_};
 ghost use Prim.Native.Nat.{_-_};
 ghost use lib.Dec.{eqb, ltb};
 ghost use Rattle.base.specs.Basic.{within as withinSet};
@@ -13,31 +13,6 @@ ghost use Rattle.text.specs.declared.LineKind.the-variants.{Br as Branch, El as
 ghost use Rattle.kept.specs.Kept.{inBodyOf, innermostOf, blocksWithinOf, linkFitsOf, checkBy, checkAs, checkOf};
 ghost use Rattle.kept.specs.Words.{stateIn, arrayIn};
 ghost use lib.ListN.{getD};
-
-// Whether all three hold.
-fn all_of(a: bool, b: bool, c: bool) -> bool
-    ensures { λ r. ⌜ r ≡ a && b && c ⌝ }
-{
-    if a {
-        if b {
-            return c;
-        }
-    }
-    false
-}
-
-// Whether the first holds, and the second or the third.
-fn one_of(a: bool, b: bool, c: bool) -> bool
-    ensures { λ r. ⌜ r ≡ a && (b || c) ⌝ }
-{
-    if a {
-        if b {
-            return true;
-        }
-        return c;
-    }
-    false
-}
 
 // A number is the sum of two.
 fn is_sum(n: u64, a: u64, b: u64) -> bool
@@ -49,38 +24,22 @@ fn is_sum(n: u64, a: u64, b: u64) -> bool
     n - a == b
 }
 
-// Room for a line of the program at hand; before the first program none is asked.
-fn room_own(programs: u64, a: u64, most: u64, b: u64, more: u64) -> bool
-    ensures { λ r. ⌜ r ≡ eqb programs 0 || (ltb a most && ltb b more) ⌝ }
-{
-    if programs == 0 {
-        return true;
-    }
-    if a < most {
-        return b < more;
-    }
-    false
-}
-
 // A program has begun, and its links have not.
 fn in_body(words: &[u64]) -> bool
     ensures { λ r. ⌜ r ≡ inBodyOf (getD (now (words .entry)) 417 0) (getD (now (words .entry)) 419 0) ⌝ }
 {
-    if kept::word(words, kept::PROGRAMS) == 0 {
-        return false;
-    }
-    kept::word(words, kept::LINKS) == 0
+    let programs = kept::word(words, kept::PROGRAMS);
+    let links = kept::word(words, kept::LINKS);
+    (programs != 0) & (links == 0)
 }
 
 // The innermost open block is of this part.
 fn innermost(words: &[u64], part: u64) -> bool
     ensures { λ r. ⌜ r ≡ innermostOf (stateIn (now (words .entry)) .stack) part ⌝ }
 {
-    let d = kept::word(words, kept::DEPTH);
-    if d == 0 {
-        return false;
-    }
-    kept::cell(words, kept::OPEN_PARTS, d) == part
+    let depth = kept::word(words, kept::DEPTH);
+    let innermost = kept::cell(words, kept::OPEN_PARTS, depth);
+    (depth != 0) & (innermost == part)
 }
 
 // The number of the first test that fails, in the order of document 01; 0 where none does.
@@ -129,11 +88,7 @@ fn check_key(words: &[u64], l: Line) -> u8
     let relations = kept::word(words, kept::RELATIONS);
     let keys = kept::word(words, kept::KEYS);
     let ordered = is_sum(lines, relations, keys);
-    let named = all_of(
-        l.id as u64 == keys,
-        (l.rel as u64) < relations,
-        (l.to as u64) < relations,
-    );
+    let named = (l.id as u64 == keys) & ((l.rel as u64) < relations) & ((l.to as u64) < relations);
     verdict(keys < 32, ordered, named, true, false, true)
 }
 
@@ -175,15 +130,11 @@ fn kind_sets(whole: u64, kind: StatementKind, l: Line) -> bool
 // The sets of a statement over a relation with this set.
 fn sets_fit(whole: u64, kind: StatementKind, l: Line) -> bool
     ensures { λ r. ⌜
-        r ≡ ((withinSet (l .reads) whole && withinSet (l .writes) whole && withinSet (l .tests) whole) && kindSets whole kind l && true)
+        r ≡ ((withinSet (l .reads) whole && withinSet (l .writes) whole && withinSet (l .tests) whole) && kindSets whole kind l)
         ⌝ }
 {
-    let inside = all_of(
-        within(l.reads, whole),
-        within(l.writes, whole),
-        within(l.tests, whole),
-    );
-    all_of(inside, kind_sets(whole, kind, l), true)
+    let inside = within(l.reads, whole) & within(l.writes, whole) & within(l.tests, whole);
+    inside & kind_sets(whole, kind, l)
 }
 
 fn check_statement(words: &[u64], kind: StatementKind, l: Line) -> u8
@@ -194,8 +145,8 @@ fn check_statement(words: &[u64], kind: StatementKind, l: Line) -> u8
     let body = kept::word(words, kept::BODY);
     let relations = kept::word(words, kept::RELATIONS);
     let whole = kept::cell(words, kept::SETS, l.rel as u64);
-    let room = room_own(programs, statements, 32, body, 64);
-    let named = all_of(l.id as u64 == statements, (l.rel as u64) < relations, true);
+    let room = (programs == 0) | ((statements < 32) & (body < 64));
+    let named = (l.id as u64 == statements) & ((l.rel as u64) < relations);
     verdict(
         room,
         in_body(words),
@@ -213,14 +164,8 @@ fn check_opening(words: &[u64], l: Line) -> u8
     let programs = kept::word(words, kept::PROGRAMS);
     let body = kept::word(words, kept::BODY);
     let depth = kept::word(words, kept::DEPTH);
-    verdict(
-        room_own(programs, body, 64, depth, 8),
-        in_body(words),
-        true,
-        true,
-        false,
-        true,
-    )
+    let room = (programs == 0) | ((body < 64) & (depth < 8));
+    verdict(room, in_body(words), true, true, false, true)
 }
 
 fn check_second(words: &[u64], l: Line) -> u8
@@ -228,15 +173,9 @@ fn check_second(words: &[u64], l: Line) -> u8
 {
     let programs = kept::word(words, kept::PROGRAMS);
     let body = kept::word(words, kept::BODY);
-    let ordered = all_of(in_body(words), innermost(words, 1), true);
-    verdict(
-        room_own(programs, 0, 1, body, 64),
-        ordered,
-        true,
-        true,
-        false,
-        true,
-    )
+    let room = (programs == 0) | (body < 64);
+    let ordered = in_body(words) & innermost(words, 1);
+    verdict(room, ordered, true, true, false, true)
 }
 
 fn check_closing(words: &[u64], l: Line) -> u8
@@ -244,15 +183,9 @@ fn check_closing(words: &[u64], l: Line) -> u8
 {
     let programs = kept::word(words, kept::PROGRAMS);
     let body = kept::word(words, kept::BODY);
-    let ordered = one_of(in_body(words), innermost(words, 0), innermost(words, 2));
-    verdict(
-        room_own(programs, 0, 1, body, 64),
-        ordered,
-        true,
-        true,
-        false,
-        true,
-    )
+    let room = (programs == 0) | (body < 64);
+    let ordered = in_body(words) & (innermost(words, 0) | innermost(words, 2));
+    verdict(room, ordered, true, true, false, true)
 }
 
 // Two cells of an array as sets: the first within the second.
@@ -271,11 +204,10 @@ fn cell_within(words: &[u64], from: usize, parent: u64, child: u64) -> bool
 fn blocks_within(words: &[u64], parent: u64, child: u64) -> bool
     ensures { λ r. ⌜ r ≡ blocksWithinOf (stateIn (now (words .entry)) .statements) parent child ⌝ }
 {
-    all_of(
-        cell_within(words, kept::AROUND_LOOPS, parent, child),
-        cell_within(words, kept::AROUND_FIRSTS, parent, child),
-        cell_within(words, kept::AROUND_SECONDS, parent, child),
-    )
+    let loops = cell_within(words, kept::AROUND_LOOPS, parent, child);
+    let firsts = cell_within(words, kept::AROUND_FIRSTS, parent, child);
+    let seconds = cell_within(words, kept::AROUND_SECONDS, parent, child);
+    loops & firsts & seconds
 }
 
 // Two cells of two arrays are equal.
@@ -291,12 +223,10 @@ fn link_fits(words: &[u64], l: Line) -> bool
     let id = l.id as u64;
     let child = l.rel as u64;
     let parent = l.to as u64;
-    let relations = all_of(
-        same_cell(words, kept::STATEMENT_RELATIONS, child, kept::CHILDREN, id),
-        same_cell(words, kept::STATEMENT_RELATIONS, parent, kept::PARENTS, id),
-        kept::cell(words, kept::PARENTAL, parent) == 1,
-    );
-    all_of(relations, blocks_within(words, parent, child), true)
+    let of_child = same_cell(words, kept::STATEMENT_RELATIONS, child, kept::CHILDREN, id);
+    let of_parent = same_cell(words, kept::STATEMENT_RELATIONS, parent, kept::PARENTS, id);
+    let parental = kept::cell(words, kept::PARENTAL, parent);
+    (of_child & of_parent & (parental == 1)) & blocks_within(words, parent, child)
 }
 
 fn check_link(words: &[u64], l: Line) -> u8
@@ -307,20 +237,12 @@ fn check_link(words: &[u64], l: Line) -> u8
     let depth = kept::word(words, kept::DEPTH);
     let keys = kept::word(words, kept::KEYS);
     let statements = kept::word(words, kept::STATEMENTS);
-    let ordered = all_of(programs != 0, depth == 0, true);
-    let named = all_of(
-        (l.id as u64) < keys,
-        (l.rel as u64) < statements,
-        (l.to as u64) < statements,
-    );
-    verdict(
-        room_own(programs, 0, 1, links, 32),
-        ordered,
-        named,
-        true,
-        true,
-        link_fits(words, l),
-    )
+    let room = (programs == 0) | (links < 32);
+    let ordered = (programs != 0) & (depth == 0);
+    let named = ((l.id as u64) < keys)
+        & ((l.rel as u64) < statements)
+        & ((l.to as u64) < statements);
+    verdict(room, ordered, named, true, true, link_fits(words, l))
 }
 
 // The number of the first test that the line fails, 0 where it passes all.

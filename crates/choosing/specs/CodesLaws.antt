@@ -1,24 +1,25 @@
 -- What is counted over the numbers of lines is what the run read off the lines counts.
 use mathlib.Core.Bool.{Bool, true, false, cond}
-use mathlib.Core.List.{List, [], _∷_, _++_, map, tail}
-use mathlib.Core.Path.{_≡_, refl, sym, ap, subst, _∙_}
-use Prim.Native.Nat.{ℕ, zero, suc, _+_, _*_, _-_, _<_, _≤_}
+use mathlib.Core.List.{List, [], _∷_, tail}
+use mathlib.Core.Path.{_≡_, refl, sym, ap, _∙_}
+use Prim.Native.Nat.{ℕ, zero, suc, _+_, _-_, _<_, _≤_}
+use native.Mathlib.Nat.{mul-pos}
 use native.Mathlib.Numerals.{add-one}
 use native.Mathlib.Omega.{arith}
 use lib.ListN.{length, getD, drop, length-map, List·getD-map, drop-of-length-le}
-use lib.Seq.{drop-cons, drop-nil}
+use lib.Seq.{drop-cons}
 use lib.Dec.{eqb, leb, ltb}
-use borrow.Author.Tests.{ltb-true, ltb-false, lt-ltb, le-ltb, le-leb, lt-leb, leb-true, leb-false, eq-eqb, ne-eqb}
+use borrow.Author.Tests.{ltb-false, lt-ltb, le-ltb, le-leb, lt-leb, leb-true, leb-false, eq-eqb, ne-eqb}
 use Rattle.text.specs.declared.Line.{Line}
 use Rattle.text.specs.declared.LineKind.{LineKind}
 use Rattle.text.specs.declared.LineKind.the-variants.{Rl, Fk, Pr, St, Lo, Br, El, En, Li}
 use Rattle.text.specs.declared.StatementKind.{StatementKind}
 use Rattle.text.specs.declared.StatementKind.the-variants.{Is}
-use Rattle.graph.specs.Program.{Item, Run, Parsed, runOf, behind, statementOf}
+use Rattle.graph.specs.Program.{Item, Parsed, runOf, behind, statementOf}
 use Rattle.graph.specs.Program.Item.{statement, loop, branch}
-use Rattle.graph.specs.Program.Run.{done, next}
+use Rattle.graph.specs.Program.Run.{done}
 use Rattle.choosing.specs.declared.Counted.{Counted}
-use Rattle.choosing.specs.Cap.{cap, stopped, alike-refl, plus-alike, times-alike, plus-same, times-same}
+use Rattle.choosing.specs.Cap.{cap, cap-over, stopped, alike-refl, plus-alike, times-alike, plus-same, times-same}
 use Rattle.choosing.specs.Choosing.{countRun, countItem, statementsRun, statementsItem}
 use Rattle.choosing.specs.Codes.{codeOf, codesOf, idsOf, after, nothingAt, statementAt, loopCounted, branchCounted, nextCounted, itemAt, countAt}
 
@@ -242,3 +243,26 @@ module _ (lines : List Line) where
           let inner : at < length lines = leb-false (length lines) at h in
           let l = first-line at inner in
           counts-line n at (l .0) (l .0 .kind) refl (l .1) (l .2) (omega (arith, length-codes)) onward
+
+-- every run of lines counts at least one unfolding
+positive-cap : (x : ℕ) → 1 ≤ x → 1 ≤ cap x
+positive-cap x h = cap-over x 0 (omega arith) h
+
+pub count-positive : (n : ℕ) (codes : List ℕ) (at : ℕ) → 1 ≤ countAt n codes at .count
+unfolding countAt nothingAt nextCounted itemAt statementAt loopCounted branchCounted
+count-positive zero codes at = omega arith
+count-positive (suc n) codes at = go (leb (length codes) at) (ltb 2 (getD codes at 0)) (λ e. count-positive n codes e)
+  where
+    item : (s t : Bool) → ((e : ℕ) → 1 ≤ countAt n codes e .count)
+        → 1 ≤ cond s (statementAt at) (cond t (loopCounted (length codes) (countAt n codes (at + 1)))
+        (branchCounted (length codes) (countAt n codes (at + 1)) (countAt n codes (after (length codes) (countAt n codes (at + 1) .end))))) .count
+    item true t h = omega arith
+    item false true h = positive-cap _ (omega arith)
+    item false false h = positive-cap _ (omega (arith, h (at + 1)))
+
+    go : (s t : Bool) → ((e : ℕ) → 1 ≤ countAt n codes e .count)
+        → 1 ≤ cond s (nothingAt at) (cond t (nothingAt at)
+        (nextCounted (itemAt (countAt n codes) codes at) (countAt n codes (itemAt (countAt n codes) codes at .end)))) .count
+    go true t h = omega arith
+    go false true h = omega arith
+    go false false h = positive-cap _ (mul-pos (item (eqb (getD codes at 0) 0) (eqb (getD codes at 0) 1) h) (h (itemAt (countAt n codes) codes at .end)))

@@ -113,7 +113,7 @@ module _ (Word : Statement → ℕ → Type 0) (mark : Statement → ℕ) (lines
           let c = chosen run-here j (omega (arith, many)) in (
             nodeHere (c .execution),
             getElem?-map-some nodeHere (unfoldings run-here) j (c .member),
-            record { program = refl; words = rw (c .places 0, zero-add) (written-whole Word mark lines words marks fit left at j small) },
+            record { program = refl; words = rw (c .places 0, zero-add) (written-whole Word mark lines words marks fit left at j small (omega (arith, many))) },
           )
 
 -- nodes one behind the other

@@ -2,11 +2,11 @@
 use mathlib.Core.List.{List, [], _∷_, _++_, map}
 use Prim.Native.Nat.{ℕ, zero, suc, _+_, _-_}
 use lib.ListN.{length, set, replicate}
-use Rattle.choosing.specs.declared.Filled.{Filled}
+use Rattle.choosing.specs.declared.UnfoldingTable.{UnfoldingTable}
 use Rattle.choosing.specs.Pieces.{Piece, flat}
 
 -- one row more
-unfoldable pub added : Filled → ℕ → ℕ → Filled
+unfoldable pub added : UnfoldingTable → ℕ → ℕ → UnfoldingTable
 added t program n =
     record {
       count = t .count + 1;
@@ -16,7 +16,7 @@ added t program n =
       length = set (t .length) (t .count) n;
     }
 
-unfoldable pub addAll : Filled → List Piece → Filled
+unfoldable pub addAll : UnfoldingTable → List Piece → UnfoldingTable
 addAll t [] = t
 addAll t (p ∷ ps) = addAll (added t (p .program) (length (p .words))) ps
 
@@ -29,7 +29,7 @@ starts s (p ∷ ps) = s ∷ starts (s + length (p .words)) ps
 unfoldable pub cells : List ℕ → List ℕ
 cells l = l ++ replicate (64 - length l) 0
 
-unfoldable pub table : List Piece → Filled
+unfoldable pub table : List Piece → UnfoldingTable
 table ps =
     record {
       count = length ps;

@@ -7,12 +7,12 @@ use native.Mathlib.Numerals.{add-one}
 use native.Mathlib.Omega.{arith}
 use lib.ListN.{length, set, replicate, length-append, length-map}
 use lib.Seq.{set-append-seam}
-use Rattle.choosing.specs.declared.Filled.{Filled}
+use Rattle.choosing.specs.declared.UnfoldingTable.{UnfoldingTable}
 use Rattle.choosing.specs.Pieces.{Piece, flat}
 use Rattle.choosing.specs.Table.{added, addAll, starts, cells, table}
 
 -- rows behind rows
-pub addAll-append : (t : Filled) (ps qs : List Piece) → addAll t (ps ++ qs) ≡ addAll (addAll t ps) qs
+pub addAll-append : (t : UnfoldingTable) (ps qs : List Piece) → addAll t (ps ++ qs) ≡ addAll (addAll t ps) qs
 unfolding addAll
 addAll-append t [] qs = refl
 addAll-append t (p ∷ ps) qs = addAll-append (added t (p .program) (length (p .words))) ps qs

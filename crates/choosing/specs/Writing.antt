@@ -23,14 +23,14 @@ writeLoop body n k =
 unfoldable pub writeBranch : (ℕ → List ℕ) → (ℕ → List ℕ) → ℕ → ℕ → List ℕ
 writeBranch one two n k = cond (ltb k n) (one k) (two (k - n))
 
--- the item at a place; `write` gives the run at a place, `count` counts it
-unfoldable pub writeItem : (ℕ → ℕ → List ℕ) → (ℕ → Counted) → List ℕ → List ℕ → ℕ → ℕ → ℕ → List ℕ
-writeItem write count codes words seen at k =
-    cond (eqb (getD codes at 0) 0) ((getD words at 0 + seen * 2048) ∷ [])
-    (cond (eqb (getD codes at 0) 1) (writeLoop (write (at + 1)) (count (at + 1) .count) k)
-    (writeBranch (write (at + 1)) (write (after (length codes) (count (at + 1) .end))) (count (at + 1) .count) k))
+-- the block at a place; `write` gives the run at a place, `count` counts it
+unfoldable pub writeBlock : (ℕ → ℕ → List ℕ) → (ℕ → Counted) → List ℕ → ℕ → ℕ → List ℕ
+writeBlock write count codes at k =
+    cond (eqb (getD codes at 0) 1) (writeLoop (write (at + 1)) (count (at + 1) .count) k)
+    (writeBranch (write (at + 1)) (write (after (length codes) (count (at + 1) .end))) (count (at + 1) .count) k)
 
--- the run at a place; the number bounds the lines, as in `runOf`. Behind an item its mark is seen too: a block has none.
+-- the run at a place; the number bounds the lines, as in `runOf`. A statement leaves no choice and its mark is seen behind it;
+-- a block takes the quotient by what the run behind it counts, that run the remainder, and nothing of the block is seen there.
 unfoldable pub writeAt : ℕ → List ℕ → List ℕ → List ℕ → ℕ → ℕ → ℕ → List ℕ
 writeAt zero codes words marks seen at k = []
 writeAt (suc n) codes words marks seen at k =
@@ -38,5 +38,6 @@ writeAt (suc n) codes words marks seen at k =
     let c = countAt n codes more .count in
     cond (leb (length codes) at) []
     (cond (ltb 2 (getD codes at 0)) []
-    (writeItem (writeAt n codes words marks seen) (countAt n codes) codes words seen at (k / c)
-    ++ writeAt n codes words marks (bitOr seen (getD marks at 0)) more (k % c)))
+    (cond (eqb (getD codes at 0) 0)
+    ((getD words at 0 + seen * 2048) ∷ writeAt n codes words marks (bitOr seen (getD marks at 0)) (at + 1) k)
+    (writeBlock (writeAt n codes words marks seen) (countAt n codes) codes at (k / c) ++ writeAt n codes words marks seen more (k % c))))

@@ -1,34 +1,33 @@
 -- What is written for unfolding number k over the numbers of lines are words for the places of that unfolding of the run read off the lines.
 use mathlib.Core.Bool.{Bool, true, false, cond}
-use mathlib.Core.List.{List, [], _∷_, _++_, map, tail, map-append}
+use mathlib.Core.List.{List, [], _∷_, _++_, map, tail}
 use mathlib.Core.Option.{some}
-use mathlib.Core.Path.{_≡_, refl, sym, ap, subst, _∙_}
+use mathlib.Core.Path.{_≡_, refl, sym, ap, _∙_}
 use Prim.Native.Nat.{ℕ, zero, suc, _+_, _*_, _-_, _/_, _%_, _<_, _≤_}
-use native.Mathlib.Nat.{mul-comm, le-mul-of-pos-right}
+use native.Mathlib.Nat.{mul-comm, one-mul, le-mul-of-pos-right, mod-lt, mod-eq-of-lt, div-lt-iff-lt-mul}
 use native.Mathlib.Numerals.{add-one}
 use native.Mathlib.Omega.{arith}
 use lib.Bits.{bitOr, or-zero-r}
-use lib.ListN.{length, getD, getElem?, drop, length-map, drop-of-length-le}
+use lib.ListN.{length, getD, getElem?, drop, drop-of-length-le}
 use lib.Dec.{eqb, leb, ltb}
-use borrow.Author.Tests.{ltb-true, ltb-false, lt-ltb, le-ltb, le-leb, lt-leb, leb-true, leb-false, eq-eqb, ne-eqb}
+use borrow.Author.Tests.{ltb-true, ltb-false, lt-ltb, le-ltb, le-leb, lt-leb, leb-true, leb-false, eq-eqb, ne-eqb, eqb-false}
 use Rattle.text.specs.declared.Line.{Line}
 use Rattle.text.specs.declared.LineKind.{LineKind}
 use Rattle.text.specs.declared.LineKind.the-variants.{Rl, Fk, Pr, St, Lo, Br, El, En, Li}
 use Rattle.text.specs.declared.StatementKind.{StatementKind}
-use Rattle.graph.specs.Program.{Statement, Item, Run, Parsed, runOf, behind, statementOf}
+use Rattle.graph.specs.Program.{Statement, Item, Run, runOf, behind, statementOf}
 use Rattle.graph.specs.Program.Item.{statement, loop, branch}
-use Rattle.graph.specs.Program.Run.{done, next}
 use Rattle.graph.specs.Unfolding.{Around, Occurrence, inside}
 use Rattle.graph.specs.Edge.{leads}
 use Rattle.choosing.specs.declared.Counted.{Counted}
-use Rattle.choosing.specs.Cap.{cap, cap-small}
+use Rattle.choosing.specs.Cap.{cap-small}
 use Rattle.choosing.specs.Choosing.{countRun, countItem, choose, chooseItem}
 use Rattle.choosing.specs.ChoosingLaws.{run-counts, item-counts}
-use Rattle.choosing.specs.Codes.{codeOf, codesOf, idsOf, after, itemAt, countAt, statementAt, loopCounted, branchCounted}
-use Rattle.choosing.specs.CodesLaws.{Counts, CountsItem, counts-run, length-codes, item-statement, item-loop, item-branch, run-ends, run-statement, run-loop, run-branch, tail-drop, first-line, counts-loop, counts-branch, counts-statement}
-use Rattle.choosing.specs.Shown.{shown, PlaceWord, PlaceWords, Later}
+use Rattle.choosing.specs.Codes.{codeOf, codesOf, after, itemAt, countAt, loopCounted, branchCounted}
+use Rattle.choosing.specs.CodesLaws.{Counts, counts-run, length-codes, item-loop, item-branch, run-ends, run-statement, run-loop, run-branch, tail-drop, first-line, counts-loop, counts-branch}
+use Rattle.choosing.specs.Shown.{shown, PlaceWords, Later}
 use Rattle.choosing.specs.ShownLaws.{or-assoc, around, apart-later, apart-turn, later-less, shown-append, shown-apart, behind-apart, words-append, words-inside}
-use Rattle.choosing.specs.Writing.{writeLoop, writeBranch, writeItem, writeAt}
+use Rattle.choosing.specs.Writing.{writeLoop, writeBranch, writeBlock, writeAt}
 
 -- the lines' tables: at a statement's line its own word and its mark, at every other line no mark
 pub record Tables (Word : Statement → ℕ → Type 0) (mark : Statement → ℕ) (lines : List Line) (words marks : List ℕ) : Type 0 where
@@ -97,46 +96,51 @@ module _ (Word : Statement → ℕ → Type 0) (mark : Statement → ℕ) where
 
   -- a loop over a body whose words are written, a branch of two arms whose words are written
   loop-written : (r : Run) (i k seen all : ℕ) (before : List Occurrence) (body : ℕ → List ℕ) → Sees seen before i all
-      → ((j : ℕ) → PlaceWords Word mark all [] (choose r 0 j) (body j))
+      → ((j : ℕ) → j < countRun r → PlaceWords Word mark all [] (choose r 0 j) (body j)) → k < countItem (loop r)
       → PlaceWords Word mark seen before (chooseItem (loop r) i k) (writeLoop body (countRun r) k)
-  unfolding writeLoop choose PlaceWords
-  loop-written r i k seen all before body h g = go (eqb k 0) (leb k (countRun r))
+  unfolding writeLoop choose PlaceWords countRun
+  loop-written r i k seen all before body h g less = go (eqb k 0) refl (leb k (countRun r)) refl
     where
-      one : (j : ℕ) → PlaceWords Word mark seen before (map (inside i 0) (choose r 0 j)) (body j)
-      one j = words-inside Word mark seen all i 0 before (sees-turn seen all i 0 before h) (choose r 0 j) (body j) (g j)
+      one : (j : ℕ) → j < countRun r → PlaceWords Word mark seen before (map (inside i 0) (choose r 0 j)) (body j)
+      one j p = words-inside Word mark seen all i 0 before (sees-turn seen all i 0 before h) (choose r 0 j) (body j) (g j p)
 
-      two : (m j : ℕ) → PlaceWords Word mark seen (before ++ map (inside i 0) (choose r 0 m)) (map (inside i 1) (choose r 0 j)) (body j)
-      two m j =
+      two : (m j : ℕ) → j < countRun r
+          → PlaceWords Word mark seen (before ++ map (inside i 0) (choose r 0 m)) (map (inside i 1) (choose r 0 j)) (body j)
+      two m j p =
           words-inside Word mark seen all i 1 (before ++ map (inside i 0) (choose r 0 m))
           (λ path. ap (bitOr seen) (behind-apart mark i 0 before (choose r 0 m) (around i 1 ∷ path)
           (apart-turn i 0 1 path (λ (z : 0 ≡ 1). omega arith))) ∙ sees-turn seen all i 1 before h path)
-          (choose r 0 j) (body j) (g j)
+          (choose r 0 j) (body j) (g j p)
 
-      go : (s t : Bool)
+      go : (s : Bool) → eqb k 0 ≡ s → (t : Bool) → leb k (countRun r) ≡ t
           → PlaceWords Word mark seen before
           (cond s [] (cond t (map (inside i 0) (choose r 0 (k - 1)))
           (map (inside i 0) (choose r 0 ((k - 1 - countRun r) / countRun r)) ++ map (inside i 1) (choose r 0 ((k - 1 - countRun r) % countRun r)))))
           (cond s [] (cond t (body (k - 1)) (body ((k - 1 - countRun r) / countRun r) ++ body ((k - 1 - countRun r) % countRun r))))
-      go true t = _
-      go false true = one (k - 1)
-      go false false =
+      go true p t q = _
+      go false p true q = one (k - 1) (omega (arith, leb-true k (countRun r) q, eqb-false k 0 p))
+      go false p false q =
           let m = (k - 1 - countRun r) / countRun r in
           let j = (k - 1 - countRun r) % countRun r in
-          words-append Word mark seen before (map (inside i 0) (choose r 0 m)) (map (inside i 1) (choose r 0 j)) (body m) (body j) (one m) (two m j)
+          let turns : k - 1 - countRun r < countRun r * countRun r = omega (arith, leb-false k (countRun r) q, eqb-false k 0 p) in
+          words-append Word mark seen before (map (inside i 0) (choose r 0 m)) (map (inside i 1) (choose r 0 j)) (body m) (body j)
+          (one m (div-lt-iff-lt-mul (run-counts r) .1 turns)) (two m j (mod-lt (k - 1 - countRun r) (run-counts r)))
 
   branch-written : (a b : Run) (i k seen all : ℕ) (before : List Occurrence) (one two : ℕ → List ℕ) → Sees seen before i all
-      → ((j : ℕ) → PlaceWords Word mark all [] (choose a 0 j) (one j)) → ((j : ℕ) → PlaceWords Word mark all [] (choose b 0 j) (two j))
+      → ((j : ℕ) → j < countRun a → PlaceWords Word mark all [] (choose a 0 j) (one j))
+      → ((j : ℕ) → j < countRun b → PlaceWords Word mark all [] (choose b 0 j) (two j)) → k < countItem (branch a b)
       → PlaceWords Word mark seen before (chooseItem (branch a b) i k) (writeBranch one two (countRun a) k)
-  unfolding writeBranch choose
-  branch-written a b i k seen all before one two h f g = go (ltb k (countRun a))
+  unfolding writeBranch choose countRun
+  branch-written a b i k seen all before one two h f g less = go (ltb k (countRun a)) refl
     where
-      go : (t : Bool)
+      go : (t : Bool) → ltb k (countRun a) ≡ t
           → PlaceWords Word mark seen before (cond t (map (inside i 0) (choose a 0 k)) (map (inside i 1) (choose b 0 (k - countRun a))))
           (cond t (one k) (two (k - countRun a)))
-      go true = words-inside Word mark seen all i 0 before (sees-turn seen all i 0 before h) (choose a 0 k) (one k) (f k)
-      go false =
+      go true p =
+          words-inside Word mark seen all i 0 before (sees-turn seen all i 0 before h) (choose a 0 k) (one k) (f k (ltb-true k (countRun a) p))
+      go false p =
           words-inside Word mark seen all i 1 before (sees-turn seen all i 1 before h) (choose b 0 (k - countRun a)) (two (k - countRun a))
-          (g (k - countRun a))
+          (g (k - countRun a) (omega (arith, ltb-false k (countRun a) p)))
 
 -- the paths through the writing of a run and of an item
 module _ (codes words marks : List ℕ) (seen at k : ℕ) where
@@ -150,29 +154,33 @@ module _ (codes words marks : List ℕ) (seen at k : ℕ) where
   write-stop zero h c = refl
   write-stop (suc n) h c = simp (lt-leb (length codes) at h, lt-ltb 2 (getD codes at 0) c)
 
-  pub write-next : (n : ℕ) → at < length codes → getD codes at 0 ≤ 2
+  pub write-statement : (n : ℕ) → at < length codes → getD codes at 0 ≡ 0
       → writeAt (suc n) codes words marks seen at k
-      ≡ writeItem (writeAt n codes words marks seen) (countAt n codes) codes words seen at
+      ≡ (getD words at 0 + seen * 2048) ∷ writeAt n codes words marks (bitOr seen (getD marks at 0)) (at + 1) k
+  unfolding writeAt
+  write-statement n h c =
+      simp (lt-leb (length codes) at h, le-ltb 2 (getD codes at 0) (omega arith), eq-eqb (getD codes at 0) 0 c)
+
+  pub write-block : (n : ℕ) → at < length codes → getD codes at 0 ≤ 2 → (getD codes at 0 ≡ 0 → ⊥)
+      → writeAt (suc n) codes words marks seen at k
+      ≡ writeBlock (writeAt n codes words marks seen) (countAt n codes) codes at
       (k / countAt n codes (itemAt (countAt n codes) codes at .end) .count)
-      ++ writeAt n codes words marks (bitOr seen (getD marks at 0)) (itemAt (countAt n codes) codes at .end)
+      ++ writeAt n codes words marks seen (itemAt (countAt n codes) codes at .end)
       (k % countAt n codes (itemAt (countAt n codes) codes at .end) .count)
   unfolding writeAt
-  write-next n h c = simp (lt-leb (length codes) at h, le-ltb 2 (getD codes at 0) c)
+  write-block n h c d =
+      simp (lt-leb (length codes) at h, le-ltb 2 (getD codes at 0) c, ne-eqb (getD codes at 0) 0 d)
 
-  module _ (write : ℕ → ℕ → List ℕ) (count : ℕ → Counted) where
-    pub write-statement : getD codes at 0 ≡ 0 → writeItem write count codes words seen at k ≡ (getD words at 0 + seen * 2048) ∷ []
-    unfolding writeItem
-    write-statement h = simp (eq-eqb (getD codes at 0) 0 h)
+module _ (codes : List ℕ) (at k : ℕ) (write : ℕ → ℕ → List ℕ) (count : ℕ → Counted) where
+  pub write-loop : getD codes at 0 ≡ 1 → writeBlock write count codes at k ≡ writeLoop (write (at + 1)) (count (at + 1) .count) k
+  unfolding writeBlock
+  write-loop h = simp (eq-eqb (getD codes at 0) 1 h)
 
-    pub write-loop : getD codes at 0 ≡ 1 → writeItem write count codes words seen at k ≡ writeLoop (write (at + 1)) (count (at + 1) .count) k
-    unfolding writeItem
-    write-loop h = simp (ne-eqb (getD codes at 0) 0 (λ (z : getD codes at 0 ≡ 0). omega arith), eq-eqb (getD codes at 0) 1 h)
-
-    pub write-branch : (getD codes at 0 ≡ 0 → ⊥) → (getD codes at 0 ≡ 1 → ⊥)
-        → writeItem write count codes words seen at k
-        ≡ writeBranch (write (at + 1)) (write (after (length codes) (count (at + 1) .end))) (count (at + 1) .count) k
-    unfolding writeItem
-    write-branch h g = simp (ne-eqb (getD codes at 0) 0 h, ne-eqb (getD codes at 0) 1 g)
+  pub write-branch : (getD codes at 0 ≡ 1 → ⊥)
+      → writeBlock write count codes at k
+      ≡ writeBranch (write (at + 1)) (write (after (length codes) (count (at + 1) .end))) (count (at + 1) .count) k
+  unfolding writeBlock
+  write-branch g = simp (ne-eqb (getD codes at 0) 1 g)
 
 -- a part of a small product is small
 left-small : (a b : ℕ) → 1 ≤ b → a * b ≤ 512 → a ≤ 512
@@ -196,7 +204,8 @@ two-small a b h = omega arith
 module _ (Word : Statement → ℕ → Type 0) (mark : Statement → ℕ) (lines : List Line) (words marks : List ℕ) (fit : Tables Word mark lines words marks) where
   -- the run from a place on is written whole, wherever it has at most 512 unfoldings
   abbrev Written : ℕ → ℕ → Type 0
-  Written n at = (i k seen all : ℕ) (before : List Occurrence) → countRun (runOf n (drop at lines) .run) ≤ 512 → Sees Word mark seen before i all
+  Written n at = (i k seen all : ℕ) (before : List Occurrence) → countRun (runOf n (drop at lines) .run) ≤ 512
+      → k < countRun (runOf n (drop at lines) .run) → Sees Word mark seen before i all
       → PlaceWords Word mark seen before (choose (runOf n (drop at lines) .run) i k) (writeAt n (codesOf lines) words marks all at k)
 
   -- a small count is exact
@@ -210,8 +219,9 @@ module _ (Word : Statement → ℕ → Type 0) (mark : Statement → ℕ) (lines
   sees-start all path h = or-zero-r all
 
   body-written : (n at all : ℕ) → Written n at → countRun (runOf n (drop at lines) .run) ≤ 512 → (j : ℕ)
+      → j < countRun (runOf n (drop at lines) .run)
       → PlaceWords Word mark all [] (choose (runOf n (drop at lines) .run) 0 j) (writeAt n (codesOf lines) words marks all at j)
-  body-written n at all onward small j = onward 0 j all all [] small (sees-start all)
+  body-written n at all onward small j less = onward 0 j all all [] small less (sees-start all)
 
   ends-written : (n at i k seen all : ℕ) (before : List Occurrence) (l : Line) (c : LineKind) → l .kind ≡ c → drop at lines ≡ l ∷ drop (suc at) lines
       → getD (codesOf lines) at 0 ≡ codeOf c → at < length (codesOf lines) → 2 < codeOf c
@@ -220,63 +230,83 @@ module _ (Word : Statement → ℕ → Type 0) (mark : Statement → ℕ) (lines
   ends-written n at i k seen all before l c e d g p h =
       rw (write-stop (codesOf lines) words marks all at k (suc n) p (omega arith), d, run-ends n l (drop (suc at) lines) c e h) _
 
-  -- an item and the run behind it
-  next-written : (n at i k seen all : ℕ) (before : List Occurrence) (x : Item) (rest : List Line) → at < length (codesOf lines)
-      → getD (codesOf lines) at 0 ≤ 2 → runOf (suc n) (drop at lines) ≡ behind x (runOf n rest)
+  -- a statement and the run behind it
+  statement-next : (n at i k seen all : ℕ) (before : List Occurrence) (s : Statement) → at < length (codesOf lines)
+      → getD (codesOf lines) at 0 ≡ 0 → runOf (suc n) (drop at lines) ≡ behind (statement s) (runOf n (drop (at + 1) lines))
+      → Word s (getD words at 0) → getD marks at 0 ≡ mark s
+      → countRun (runOf (suc n) (drop at lines) .run) ≤ 512 → k < countRun (runOf (suc n) (drop at lines) .run)
+      → Sees Word mark seen before i all → ((e : ℕ) → Written n e)
+      → PlaceWords Word mark seen before (choose (runOf (suc n) (drop at lines) .run) i k) (writeAt (suc n) (codesOf lines) words marks all at k)
+  unfolding behind choose countRun
+  statement-next n at i k seen all before s p c run word marked small less sees onward =
+      let codes = codesOf lines in
+      let r = runOf n (drop (at + 1) lines) .run in
+      let whole : 1 * countRun r ≤ 512 = rw run at small in
+      let inside : k < 1 * countRun r = rw run at less in
+      let same : k % countRun r ≡ k = mod-eq-of-lt (omega (arith, one-mul (countRun r))) in
+      let first = statement-written Word mark s i (k / countRun r) seen all before (getD words at 0) word sees in
+      let then = onward (at + 1) (suc i) k seen (bitOr all (getD marks at 0)) (before ++ chooseItem (statement s) i (k / countRun r))
+      (omega (arith, one-mul (countRun r))) (omega (arith, one-mul (countRun r)))
+      (sees-behind Word mark seen all i (getD marks at 0) before (chooseItem (statement s) i (k / countRun r)) sees
+      (λ path later. statement-seen Word mark s i (k / countRun r) path ∙ sym marked)) in
+      rw (write-statement codes words marks all at k n p c, run, same)
+      (words-append Word mark seen before (chooseItem (statement s) i (k / countRun r)) (choose r (suc i) k) _ _ first then)
+
+  -- a block and the run behind it
+  block-next : (n at i k seen all : ℕ) (before : List Occurrence) (x : Item) (rest : List Line) → at < length (codesOf lines)
+      → getD (codesOf lines) at 0 ≤ 2 → (getD (codesOf lines) at 0 ≡ 0 → ⊥) → runOf (suc n) (drop at lines) ≡ behind x (runOf n rest)
       → rest ≡ drop (itemAt (countAt n (codesOf lines)) (codesOf lines) at .end) lines
-      → countRun (runOf (suc n) (drop at lines) .run) ≤ 512 → Sees Word mark seen before i all
-      → ((j : ℕ) (path : List Around) → Later (suc i) path → shown mark (chooseItem x i j) path ≡ getD marks at 0)
-      → ((j : ℕ) → countItem x ≤ 512 → PlaceWords Word mark seen before (chooseItem x i j)
-      (writeItem (writeAt n (codesOf lines) words marks all) (countAt n (codesOf lines)) (codesOf lines) words all at j))
+      → countRun (runOf (suc n) (drop at lines) .run) ≤ 512 → k < countRun (runOf (suc n) (drop at lines) .run) → Sees Word mark seen before i all
+      → ((j : ℕ) (path : List Around) → Later (suc i) path → shown mark (chooseItem x i j) path ≡ 0)
+      → ((j : ℕ) → countItem x ≤ 512 → j < countItem x → PlaceWords Word mark seen before (chooseItem x i j)
+      (writeBlock (writeAt n (codesOf lines) words marks all) (countAt n (codesOf lines)) (codesOf lines) at j))
       → ((e : ℕ) → Written n e)
       → PlaceWords Word mark seen before (choose (runOf (suc n) (drop at lines) .run) i k) (writeAt (suc n) (codesOf lines) words marks all at k)
   unfolding behind choose countRun
-  next-written n at i k seen all before x rest p c run d small sees new item onward =
+  block-next n at i k seen all before x rest p c b run d small less sees unseen item onward =
       let codes = codesOf lines in
       let more = itemAt (countAt n codes) codes at .end in
       let r = runOf n rest .run in
       let same : runOf n (drop more lines) .run ≡ r = rw d in
       let whole : countItem x * countRun r ≤ 512 = rw run at small in
+      let inside : k < countItem x * countRun r = rw run at less in
       let r-small : countRun (runOf n (drop more lines) .run) ≤ 512 =
       rw same (right-small (countItem x) (countRun r) (item-counts x) whole) in
       let c-exact : countAt n codes more .count ≡ countRun r = exact n more r-small ∙ ap countRun same in
-      let first = item (k / countRun r) (left-small (countItem x) (countRun r) (run-counts r) whole) in
-      let then = onward more (suc i) (k % countRun r) seen (bitOr all (getD marks at 0)) (before ++ chooseItem x i (k / countRun r)) r-small
-      (sees-behind Word mark seen all i (getD marks at 0) before (chooseItem x i (k / countRun r)) sees (new (k / countRun r))) in
-      rw (write-next codes words marks all at k n p c, c-exact, run)
+      let first = item (k / countRun r) (left-small (countItem x) (countRun r) (run-counts r) whole) (div-lt-iff-lt-mul (run-counts r) .1 inside) in
+      let then = onward more (suc i) (k % countRun r) seen all (before ++ chooseItem x i (k / countRun r)) r-small
+      (rw same (mod-lt k (run-counts r)))
+      (rw or-zero-r at (sees-behind Word mark seen all i 0 before (chooseItem x i (k / countRun r)) sees (unseen (k / countRun r)))) in
+      rw (write-block codes words marks all at k n p c b, c-exact, run)
       (words-append Word mark seen before (chooseItem x i (k / countRun r)) (choose r (suc i) (k % countRun r)) _ _ first (rw same at then))
 
   -- one line more
   line-written : (n at i k seen all : ℕ) (before : List Occurrence) (l : Line) (c : LineKind) → l .kind ≡ c → drop at lines ≡ l ∷ drop (suc at) lines
       → getD (codesOf lines) at 0 ≡ codeOf c → at < length (codesOf lines)
-      → countRun (runOf (suc n) (drop at lines) .run) ≤ 512 → Sees Word mark seen before i all → ((e : ℕ) → Written n e)
+      → countRun (runOf (suc n) (drop at lines) .run) ≤ 512 → k < countRun (runOf (suc n) (drop at lines) .run)
+      → Sees Word mark seen before i all → ((e : ℕ) → Written n e)
       → PlaceWords Word mark seen before (choose (runOf (suc n) (drop at lines) .run) i k) (writeAt (suc n) (codesOf lines) words marks all at k)
   unfolding codeOf
-  line-written n at i k seen all before l (St s) e d g p small sees onward =
-      let codes = codesOf lines in
+  line-written n at i k seen all before l (St s) e d g p small less sees onward =
       let run : drop at lines ≡ l ∷ drop (at + 1) lines = rw add-one d in
       let there = line-there lines at d in
-      next-written n at i k seen all before (statement (statementOf s l)) (drop (at + 1) lines) p (omega arith)
-      (rw run (run-statement n l (drop (at + 1) lines) s e))
-      (rw (item-statement codes at (countAt n codes) g) (counts-statement lines s l at .leaves)) small sees
-      (λ j path later. statement-seen Word mark (statementOf s l) i j path ∙ sym (fit .marked at l s there e))
-      (λ j q. rw (write-statement codes words marks all at j (writeAt n codes words marks all) (countAt n codes) g)
-      (statement-written Word mark (statementOf s l) i j seen all before (getD words at 0) (fit .word at l s there e) sees)) onward
-  line-written n at i k seen all before l Lo e d g p small sees onward =
+      statement-next n at i k seen all before (statementOf s l) p g (rw run (run-statement n l (drop (at + 1) lines) s e))
+      (fit .word at l s there e) (fit .marked at l s there e) small less sees onward
+  line-written n at i k seen all before l Lo e d g p small less sees onward =
       let codes = codesOf lines in
       let run : drop at lines ≡ l ∷ drop (at + 1) lines = rw add-one d in
       let body = runOf n (drop (at + 1) lines) in
       let item : itemAt (countAt n codes) codes at ≡ loopCounted (length lines) (countAt n codes (at + 1)) =
       item-loop codes at (countAt n codes) g ∙ rw length-codes in
-      let unmarked : getD marks at 0 ≡ 0 = fit .unmarked at l (line-there lines at d) (λ z. let c : getD codes at 0 ≡ 0 = g ∙ ap codeOf (sym e) ∙ z in omega arith) in
-      next-written n at i k seen all before (loop (body .run)) (tail (body .rest)) p (omega arith) (rw run (run-loop n l (drop (at + 1) lines) e))
-      (rw item (counts-loop lines body (countAt n codes (at + 1)) (counts-run lines n (at + 1)) .leaves)) small sees
-      (λ j path later. loop-unseen Word mark (body .run) i j path later ∙ sym unmarked)
-      (λ j q. let b = loop-small (body .run) q in
-      rw (write-loop codes words marks all at j (writeAt n codes words marks all) (countAt n codes) g, exact n (at + 1) b)
+      block-next n at i k seen all before (loop (body .run)) (tail (body .rest)) p (omega arith) (λ z. omega arith)
+      (rw run (run-loop n l (drop (at + 1) lines) e))
+      (rw item (counts-loop lines body (countAt n codes (at + 1)) (counts-run lines n (at + 1)) .leaves)) small less sees
+      (loop-unseen Word mark (body .run) i)
+      (λ j q m. let b = loop-small (body .run) q in
+      rw (write-loop codes at j (writeAt n codes words marks all) (countAt n codes) g, exact n (at + 1) b)
       (loop-written Word mark (body .run) i j seen all before (writeAt n codes words marks all (at + 1)) sees
-      (body-written n (at + 1) all (onward (at + 1)) b))) onward
-  line-written n at i k seen all before l Br e d g p small sees onward =
+      (body-written n (at + 1) all (onward (at + 1)) b) m)) onward
+  line-written n at i k seen all before l Br e d g p small less sees onward =
       let codes = codesOf lines in
       let run : drop at lines ≡ l ∷ drop (at + 1) lines = rw add-one d in
       let one = runOf n (drop (at + 1) lines) in
@@ -289,29 +319,28 @@ module _ (Word : Statement → ℕ → Type 0) (mark : Statement → ℕ) (lines
       let not-one : getD codes at 0 ≡ 1 → ⊥ = λ z. omega arith in
       let item : itemAt (countAt n codes) codes at ≡ branchCounted (length lines) first (countAt n codes other) =
       item-branch codes at (countAt n codes) not-zero not-one ∙ rw length-codes in
-      let unmarked : getD marks at 0 ≡ 0 = fit .unmarked at l (line-there lines at d) (λ z. let c : getD codes at 0 ≡ 0 = g ∙ ap codeOf (sym e) ∙ z in omega arith) in
-      next-written n at i k seen all before (branch (one .run) (two .run)) (tail (two .rest)) p (omega arith)
+      block-next n at i k seen all before (branch (one .run) (two .run)) (tail (two .rest)) p (omega arith) not-zero
       (rw run (run-branch n l (drop (at + 1) lines) e))
-      (rw item (counts-branch lines one two first (countAt n codes other) (counts-run lines n (at + 1)) second .leaves)) small sees
-      (λ j path later. branch-unseen Word mark (one .run) (two .run) i j path later ∙ sym unmarked)
-      (λ j q. let a = one-small (one .run) (two .run) q in
+      (rw item (counts-branch lines one two first (countAt n codes other) (counts-run lines n (at + 1)) second .leaves)) small less sees
+      (branch-unseen Word mark (one .run) (two .run) i)
+      (λ j q m. let a = one-small (one .run) (two .run) q in
       let b : countRun (runOf n (drop other lines) .run) ≤ 512 = rw (← rest) (two-small (one .run) (two .run) q) in
-      rw (write-branch codes words marks all at j (writeAt n codes words marks all) (countAt n codes) not-zero not-one, exact n (at + 1) a, length-codes)
+      rw (write-branch codes at j (writeAt n codes words marks all) (countAt n codes) not-one, exact n (at + 1) a, length-codes)
       (branch-written Word mark (one .run) (two .run) i j seen all before (writeAt n codes words marks all (at + 1)) (writeAt n codes words marks all other)
       sees (body-written n (at + 1) all (onward (at + 1)) a)
-      (λ m. rw (← rest) at (body-written n other all (onward other) b m)))) onward
-  line-written n at i k seen all before l Pr e d g p small sees onward = ends-written n at i k seen all before l Pr e d g p (omega arith)
-  line-written n at i k seen all before l Rl e d g p small sees onward = ends-written n at i k seen all before l Rl e d g p (omega arith)
-  line-written n at i k seen all before l Fk e d g p small sees onward = ends-written n at i k seen all before l Fk e d g p (omega arith)
-  line-written n at i k seen all before l El e d g p small sees onward = ends-written n at i k seen all before l El e d g p (omega arith)
-  line-written n at i k seen all before l En e d g p small sees onward = ends-written n at i k seen all before l En e d g p (omega arith)
-  line-written n at i k seen all before l Li e d g p small sees onward = ends-written n at i k seen all before l Li e d g p (omega arith)
+      (λ t u. rw (← rest) at (body-written n other all (onward other) b t (rw (← rest) u))) m)) onward
+  line-written n at i k seen all before l Pr e d g p small less sees onward = ends-written n at i k seen all before l Pr e d g p (omega arith)
+  line-written n at i k seen all before l Rl e d g p small less sees onward = ends-written n at i k seen all before l Rl e d g p (omega arith)
+  line-written n at i k seen all before l Fk e d g p small less sees onward = ends-written n at i k seen all before l Fk e d g p (omega arith)
+  line-written n at i k seen all before l El e d g p small less sees onward = ends-written n at i k seen all before l El e d g p (omega arith)
+  line-written n at i k seen all before l En e d g p small less sees onward = ends-written n at i k seen all before l En e d g p (omega arith)
+  line-written n at i k seen all before l Li e d g p small less sees onward = ends-written n at i k seen all before l Li e d g p (omega arith)
 
   -- what is written from a place on for number k are words for the places of unfolding number k of the run read off there
   pub written-run : (n at : ℕ) → Written n at
   unfolding runOf writeAt PlaceWords choose
-  written-run zero at i k seen all before small sees = _
-  written-run (suc n) at i k seen all before small sees = go (leb (length lines) at) refl (λ e. written-run n e)
+  written-run zero at i k seen all before small less sees = _
+  written-run (suc n) at i k seen all before small less sees = go (leb (length lines) at) refl (λ e. written-run n e)
     where
       go : (t : Bool) → leb (length lines) at ≡ t → ((e : ℕ) → Written n e)
           → PlaceWords Word mark seen before (choose (runOf (suc n) (drop at lines) .run) i k) (writeAt (suc n) (codesOf lines) words marks all at k)
@@ -322,9 +351,9 @@ module _ (Word : Statement → ℕ → Type 0) (mark : Statement → ℕ) (lines
       go false h onward =
           let inner : at < length lines = leb-false (length lines) at h in
           let l = first-line lines at inner in
-          line-written n at i k seen all before (l .0) (l .0 .kind) refl (l .1) (l .2) (omega (arith, length-codes lines)) small sees onward
+          line-written n at i k seen all before (l .0) (l .0 .kind) refl (l .1) (l .2) (omega (arith, length-codes lines)) small less sees onward
 
   -- words for the places of unfolding number k of the run at a place, where nothing is around it
-  pub written-whole : (n at k : ℕ) → countRun (runOf n (drop at lines) .run) ≤ 512
+  pub written-whole : (n at k : ℕ) → countRun (runOf n (drop at lines) .run) ≤ 512 → k < countRun (runOf n (drop at lines) .run)
       → PlaceWords Word mark 0 [] (choose (runOf n (drop at lines) .run) 0 k) (writeAt n (codesOf lines) words marks 0 at k)
-  written-whole n at k small = written-run n at 0 k 0 0 [] small (sees-start 0)
+  written-whole n at k small less = written-run n at 0 k 0 0 [] small less (sees-start 0)

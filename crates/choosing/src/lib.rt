@@ -14,7 +14,7 @@ pub struct Totals {
 }
 
 // What is written so far: how many unfoldings, how many places they take, and each one's program, start and length.
-pub struct Filled {
+pub struct UnfoldingTable {
     pub count: usize,
     pub used: usize,
     pub program: [u8; 64],

@@ -12,7 +12,7 @@ use borrow.Author.Tests.{eqb-true, eq-eqb}
 use lib.Dec.{eqb}
 use lib.ListN.{getElem?, take}
 use Rattle.base.specs.Basic.{any, all}
-use Rattle.base.specs.BoolLaws.{true-false, and-true, and-of, or-true, not-true}
+use Rattle.base.specs.BoolLaws.{true-false, implied, and-true, and-of, or-true, not-true}
 use Rattle.base.specs.ListLaws.{some-injective, getElem?-same, getElem?-found, getElem?-lt, any-of}
 use Rattle.base.specs.ListLaws.{any-false, any-true, all-true, member-keep}
 use Rattle.schedule.specs.Event.{Action, Event, by, isRead, isWrite, isInsert, isDelete, isCommit, isPredicateRead}
@@ -41,11 +41,6 @@ pub record CommitsAt (events : List Event) (i c : ℕ) : Type 0 where
 pub record SameTuple (e f : Event) : Type 0 where
   pub relation : e .relation ≡ f .relation
   pub tuple : e .tuple ≡ f .tuple
-
--- a rule that asks something where a test passes
-applies : (a b : Bool) → not a || b ≡ true → a ≡ true → b ≡ true
-applies true b h k = h
-applies false b h k = absurd (false≢true k)
 
 -- ---- each event obeys the rules, given those before it
 
@@ -198,7 +193,7 @@ module _ {start : ℕ → ℕ → Bool} {events : List Event} (lawful : Lawful s
   unfolding insertsFirst
   insert-first {m} {n} {w} {e} h atw ate ww s i =
       let writes = any (writesTo (e .relation) (e .tuple)) (pastAt events n) in
-      let rule = applies (isInsert (e .action)) (not writes && not (start (e .relation) (e .tuple))) (rules-at lawful n e ate .0) i in
+      let rule = implied (isInsert (e .action)) (not writes && not (start (e .relation) (e .tuple))) (rules-at lawful n e ate .0) i in
       true-false
       (any-of (writesTo (e .relation) (e .tuple)) (position-past events n m h atw)
       (writesTo-of (e .relation) (e .tuple) w ww (s .relation) (s .tuple)))
@@ -209,7 +204,7 @@ module _ {start : ℕ → ℕ → Bool} {events : List Event} (lawful : Lawful s
   unfolding insertsFirst
   insert-unborn n {e} ate i =
       let writes = any (writesTo (e .relation) (e .tuple)) (pastAt events n) in
-      let rule = applies (isInsert (e .action)) (not writes && not (start (e .relation) (e .tuple))) (rules-at lawful n e ate .0) i in
+      let rule = implied (isInsert (e .action)) (not writes && not (start (e .relation) (e .tuple))) (rules-at lawful n e ate .0) i in
       not-true (start (e .relation) (e .tuple)) (and-true (not writes) (not (start (e .relation) (e .tuple))) rule .1)
 
   -- H5: a delete of a tuple comes behind every other write of it
@@ -219,7 +214,7 @@ module _ {start : ℕ → ℕ → Bool} {events : List Event} (lawful : Lawful s
   delete-last {m} {n} {w} {e} h atw ate ww we s =
       let deletes = any (λ x. isDelete (x .action)) (writesOf (e .relation) (e .tuple) (pastAt events n)) in
       any-false (λ x. isDelete (x .action))
-      (not-true deletes (applies (isWrite (e .action)) (not deletes) (rules-at lawful n e ate .1) we))
+      (not-true deletes (implied (isWrite (e .action)) (not deletes) (rules-at lawful n e ate .1) we))
       (earlier-write events m n w e h atw ww s)
 
   -- H6: what is read is visible in the version seen
@@ -259,7 +254,7 @@ module _ {start : ℕ → ℕ → Bool} {events : List Event} (lawful : Lawful s
       waited : by (e .transaction) w || committed past (w .transaction) ≡ true
       waited =
           all-true test
-          (applies (isWrite (e .action)) (all test (writesOf (e .relation) (e .tuple) past)) (rules-at lawful n e ate .3) we)
+          (implied (isWrite (e .action)) (all test (writesOf (e .relation) (e .tuple) past)) (rules-at lawful n e ate .3) we)
           (earlier-write events m n w e h atw ww s)
 
       done : (by (e .transaction) w ≡ true) ⊎ (committed past (w .transaction) ≡ true) → committed past (w .transaction) ≡ true

@@ -20,7 +20,7 @@ use Rattle.tables.specs.declared.Row.{Row}
 use Rattle.tables.specs.Table.{rowOf, rowsOf, rowStands}
 use Rattle.tables.specs.TableLaws.{KeysSmall, placesOf-node, forward-rows, back-rows}
 use Rattle.detector.specs.Table.{entry}
-use Rattle.detector.specs.Coding.{aheadWord, behindWord, Filled, Small}
+use Rattle.detector.specs.Coding.{aheadWord, behindWord, GreatestWords, Small}
 use Rattle.picking.specs.Picks.{forwardWord, backWord, greatest, standsIn, wordFor, between, wordsBetween}
 use Rattle.picking.specs.KeptLaws.{words-entry}
 use Rattle.deciding.specs.Places.{place-found, found-place, places-few}
@@ -236,9 +236,9 @@ module _ (nodes : List Node) where
             (e .s, e .t, e .leaves, e .leavesAt, e .entersAt, e .left, rw there at most)
 
       -- the tables picked from the rows of the nodes stand for all edges
-      pub rows-filled : Filled (graphOf nodes) (wordsBetween forwardWord (rowsOf nodes)) (wordsBetween backWord (rowsOf nodes))
+      pub rows-greatest : GreatestWords (graphOf nodes) (wordsBetween forwardWord (rowsOf nodes)) (wordsBetween backWord (rowsOf nodes))
       unfolding forwardWord backWord rowOf
-      rows-filled = record { aheadFrom = a-from; aheadMost = a-most; behindFrom = b-from; behindMost = b-most }
+      rows-greatest = record { aheadFrom = a-from; aheadMost = a-most; behindFrom = b-from; behindMost = b-most }
         where
           ahead : List ℕ
           ahead = wordsBetween forwardWord (rowsOf nodes)

@@ -1,9 +1,9 @@
 -- What one pass over the table of a workload's places tells: its counts, and a dangerous closed walk or that there is none.
-use mathlib.Core.Path.{_≡_, refl, sym, ap, subst, _∙_}
-use mathlib.Core.Bool.{true, false, false≢true}
-use mathlib.Core.Logic.{_⊎_, inl, inr}
-use mathlib.Core.List.{List, [], _∷_, List·Memᴰ}
-use Prim.Native.Nat.{ℕ, _≤_, _<_}
+use mathlib.Core.Path.{_≡_, sym, ap, subst, _∙_}
+use mathlib.Core.Bool.{true, false}
+use mathlib.Core.Logic.{_⊎_}
+use mathlib.Core.List.{List, [], List·Memᴰ}
+use Prim.Native.Nat.{_≤_}
 use native.Mathlib.Omega.{arith}
 use lib.Dec.{ltb}
 use lib.ListN.{length}
@@ -13,39 +13,38 @@ use Rattle.base.specs.BoolLaws.{or-false}
 use Rattle.text.specs.declared.Line.{Line}
 use Rattle.text.specs.declared.Workload.{Workload}
 use Rattle.text.specs.Value.{Given, linesOf}
+use Rattle.reading.specs.ValueLaws.{given-read}
 use Rattle.graph.specs.Unfolding.{Node, nodesOf}
 use Rattle.graph.specs.Graph.{isBack}
 use Rattle.graph.specs.Edge.{edgesOf, graphOf}
-use Rattle.graph.specs.Walk.{Step, isDangerous, DangerousWalk}
+use Rattle.graph.specs.Walk.{isDangerous, DangerousWalk}
 use Rattle.walks.specs.Reach.{regular}
-use Rattle.report.specs.State.{statementsIn, tooMany, countsOf, summaryGraph, Danger, Robust}
+use Rattle.report.specs.State.{statementsIn, tooMany, countsOf, summaryGraph, Robust}
 use Rattle.tables.specs.declared.Row.{Row}
 use Rattle.tables.specs.Table.{rowsOf, tableOf, tableRows}
 use Rattle.tables.specs.TableLaws.{KeysSmall, table-rows}
 use Rattle.placing.specs.Placed.{keys-below, rowsOf-length, accepted-edges}
 use Rattle.edges.specs.Slots.{tableEdges, tableCounts}
-use Rattle.detector.specs.declared.Found.{Found}
-use Rattle.detector.specs.Table.{tableWalk, shownIn, Shown, Answered}
-use Rattle.detector.specs.Coding.{Filled, filled-picked}
+use Rattle.detector.specs.Table.{tableWalk}
+use Rattle.detector.specs.Coding.{GreatestWords, greatest-picked}
 use Rattle.detector.specs.WalkLaws.{table-verdict}
-use Rattle.detector.specs.ShowLaws.{answer-walk}
-use Rattle.picking.specs.declared.Picks.{Picks}
+use Rattle.picking.specs.declared.PickedEdges.{PickedEdges}
 use Rattle.picking.specs.Picks.{forwardWord, backWord, wordsBetween, picksOf}
-use Rattle.deciding.specs.Entries.{small-graph, rows-filled}
+use Rattle.deciding.specs.Entries.{small-graph, rows-greatest}
 
 module _ (nodes : List Node) (few : length nodes ≤ 64) (statements : statementsIn nodes ≤ 512)
-    (keys : (n : Node) → List·Memᴰ n nodes → KeysSmall n) (r : Picks) (picked : r ≡ picksOf (tableOf (rowsOf nodes))) where
+    (keys : (n : Node) → List·Memᴰ n nodes → KeysSmall n) (r : PickedEdges) (picked : r ≡ picksOf (tableOf (rowsOf nodes))) where
   -- the table's rows are the nodes' rows
   rows-same : tableRows (tableOf (rowsOf nodes)) ≡ rowsOf nodes
   rows-same = table-rows (rowsOf nodes) (let e = rowsOf-length nodes in omega arith)
 
   -- what is picked from the table of the nodes' places stands for all edges
-  pub picks-filled : Filled (graphOf nodes) (r .ahead) (r .behind)
+  pub picks-greatest : GreatestWords (graphOf nodes) (r .ahead) (r .behind)
   unfolding picksOf
-  picks-filled =
-      subst (λ (p : Picks). Filled (graphOf nodes) (p .ahead) (p .behind)) (sym picked)
-      (subst (λ (rows : List Row). Filled (graphOf nodes) (wordsBetween forwardWord rows) (wordsBetween backWord rows)) (sym rows-same)
-      (rows-filled nodes few statements keys))
+  picks-greatest =
+      subst (λ (p : PickedEdges). GreatestWords (graphOf nodes) (p .ahead) (p .behind)) (sym picked)
+      (subst (λ (rows : List Row). GreatestWords (graphOf nodes) (wordsBetween forwardWord rows) (wordsBetween backWord rows)) (sym rows-same)
+      (rows-greatest nodes few statements keys))
 
   -- the walk of what is picked is a dangerous closed walk of at most 65 steps, or it is empty and there is none
   pub picks-verdict :
@@ -54,10 +53,10 @@ module _ (nodes : List Node) (few : length nodes ≤ 64) (statements : statement
   unfolding graphOf
   picks-verdict =
       table-verdict (r .ahead) (r .behind) (regular nodes) few
-      (filled-picked (r .ahead) (r .behind) (small-graph nodes few statements) picks-filled)
+      (greatest-picked (r .ahead) (r .behind) (small-graph nodes few statements) picks-greatest)
 
 -- what is told of a workload: P1 its counts, and demand 2 a dangerous closed walk of at most 65 steps or that it is robust
-pub record PickedVerdict (lines : List Line) (r : Picks) : Type 0 where
+pub record PickedVerdict (lines : List Line) (r : PickedEdges) : Type 0 where
   pub edges : r .edges ≡ countsOf lines .edges
   pub back : r .back ≡ countsOf lines .back
   pub verdict :
@@ -65,13 +64,13 @@ pub record PickedVerdict (lines : List Line) (r : Picks) : Type 0 where
       ⊎ ((tableWalk (r .ahead) (r .behind) ≡ []) × Robust lines)
 
 -- a given workload that is not too large is judged by what is picked from the table of its places
-pub given-picked : (w : Workload) (r : Picks) → Given w → tooMany (linesOf w) ≡ false
+pub given-picked : (w : Workload) (r : PickedEdges) → Given w → tooMany (linesOf w) ≡ false
     → r ≡ picksOf (tableOf (rowsOf (nodesOf (linesOf w)))) → PickedVerdict (linesOf w) r
 unfolding tooMany summaryGraph countsOf picksOf tableCounts
 given-picked w r given fits picked = record {
-  edges = ap (λ (p : Picks). p .edges) picked ∙ ap length same;
-  back = ap (λ (p : Picks). p .back) picked ∙ ap (count (λ e. isBack (e .flow))) same;
-  verdict = picks-verdict (nodesOf (linesOf w)) few statements (keys-below (given .text) (linesOf w) (given .isRead)) r picked;
+  edges = ap (λ (p : PickedEdges). p .edges) picked ∙ ap length same;
+  back = ap (λ (p : PickedEdges). p .back) picked ∙ ap (count (λ e. isBack (e .flow))) same;
+  verdict = picks-verdict (nodesOf (linesOf w)) few statements (keys-below (given .text) (linesOf w) (given-read given)) r picked;
 }
   where
     both : (ltb 64 (length (nodesOf (linesOf w))) ≡ false) × (ltb 512 (statementsIn (nodesOf (linesOf w))) ≡ false)
@@ -84,4 +83,4 @@ given-picked w r given fits picked = record {
     statements = ltb-false 512 (statementsIn (nodesOf (linesOf w))) (both .1)
 
     same : tableEdges (tableOf (rowsOf (nodesOf (linesOf w)))) ≡ edgesOf (nodesOf (linesOf w))
-    same = accepted-edges (given .text) (linesOf w) (given .isRead) fits
+    same = accepted-edges (given .text) (linesOf w) (given-read given) fits

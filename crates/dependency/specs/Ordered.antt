@@ -2,9 +2,9 @@
 use mathlib.Core.Path.{_≡_, refl, sym, ap, subst, _∙_}
 use mathlib.Core.Bool.{Bool, true, false, cond, false≢true}
 use mathlib.Core.Logic.{_⊎_, inl, inr, ⊎-elim}
-use mathlib.Core.List.{List, [], _∷_, _++_, flatMap, reverse, reverseAux, List·Memᴰ}
+use mathlib.Core.List.{List, [], _∷_, _++_, reverse, reverseAux, List·Memᴰ}
 use mathlib.Core.List.List·Memᴰ.{List·Memᴰ·head, List·Memᴰ·tail}
-use mathlib.Core.List.{List·Memᴰ·not-nil, List·Memᴰ·cases-cons, List·Memᴰ·append-cases, Memᴰ·append-left, Memᴰ·append-right}
+use mathlib.Core.List.{List·Memᴰ·not-nil, List·Memᴰ·cases-cons, List·Memᴰ·append-cases}
 use mathlib.Core.Option.{Option, none, some, Option·some-injective, Option·none-ne-some}
 use Prim.Native.Nat.{ℕ, zero, suc, _+_, _≤_, _<_, zero-le, suc-le-suc}
 use native.Mathlib.Nat.{not-suc-le-zero, le-of-suc-le-suc}
@@ -18,41 +18,6 @@ use Rattle.base.specs.ListLaws.{take-member}
 -- ---- members
 
 module _ {A : Type 0} where
-  -- a list turned round onto another keeps the members of that one
-  reverseAux-right : (l : List A) {r : List A} {x : A} → List·Memᴰ x r → List·Memᴰ x (reverseAux l r)
-  reverseAux-right [] m = m
-  reverseAux-right (y ∷ l) m = reverseAux-right l (List·Memᴰ·tail m)
-
-  -- and has its own
-  reverseAux-left : {l : List A} {x : A} → List·Memᴰ x l → (r : List A) → List·Memᴰ x (reverseAux l r)
-  reverseAux-left (List·Memᴰ·head {x = y} {xs = l} e) r = reverseAux-right l (List·Memᴰ·head e)
-  reverseAux-left (List·Memᴰ·tail {x = y} {xs = l} m) r = reverseAux-left m (y ∷ r)
-
-  -- a list turned round has the same members
-  pub member-reverse : {l : List A} {x : A} → List·Memᴰ x l → List·Memᴰ x (reverse l)
-  member-reverse m = reverseAux-left m []
-
-  -- a list turned round onto another has no members but theirs
-  reverseAux-member : (l r : List A) {x : A} → List·Memᴰ x (reverseAux l r) → List·Memᴰ x l ⊎ List·Memᴰ x r
-  reverseAux-member [] r m = inr m
-  reverseAux-member (y ∷ l) r {x} m = go (reverseAux-member l (y ∷ r) m)
-    where
-      next : (x ≡ y) ⊎ List·Memᴰ x r → List·Memᴰ x (y ∷ l) ⊎ List·Memᴰ x r
-      next (inl e) = inl (List·Memᴰ·head e)
-      next (inr n) = inr n
-
-      go : List·Memᴰ x l ⊎ List·Memᴰ x (y ∷ r) → List·Memᴰ x (y ∷ l) ⊎ List·Memᴰ x r
-      go (inl n) = inl (List·Memᴰ·tail n)
-      go (inr n) = next (List·Memᴰ·cases-cons n)
-
-  -- and no others
-  pub reverse-member : (l : List A) {x : A} → List·Memᴰ x (reverse l) → List·Memᴰ x l
-  reverse-member l {x} m = go (reverseAux-member l [] m)
-    where
-      go : List·Memᴰ x l ⊎ List·Memᴰ x [] → List·Memᴰ x l
-      go (inl n) = n
-      go (inr n) = absurd (List·Memᴰ·not-nil n)
-
   -- a member of the first n elements stands below n
   pub take-position : (n : ℕ) (l : List A) {x : A} → List·Memᴰ x (take n l) → (m : ℕ) × (m < n) × (getElem? l m ≡ some x)
   take-position n l m = let t = member-getElem? m in let u = getElem?-of-take n l (t .0) (t .1) in (t .0, u .0, u .1)
@@ -60,25 +25,6 @@ module _ {A : Type 0} where
   -- what stands below n is a member of the first n elements
   pub position-take : (n : ℕ) (l : List A) (m : ℕ) {x : A} → m < n → getElem? l m ≡ some x → List·Memᴰ x (take n l)
   position-take n l m h stands = getElem?-member (take n l) m (getElem?-take n l m h ∙ stands)
-
-module _ {A B : Type 0} where
-  -- a member of the lists joined is a member of one of them
-  pub flatMap-member : (f : A → List B) (l : List A) {y : B} → List·Memᴰ y (flatMap f l) → (x : A) × List·Memᴰ x l × List·Memᴰ y (f x)
-  unfolding flatMap
-  flatMap-member f [] m = absurd (List·Memᴰ·not-nil m)
-  flatMap-member f (x ∷ l) {y} m = go (λ n. flatMap-member f l n) (List·Memᴰ·append-cases (f x) m)
-    where
-      go : (List·Memᴰ y (flatMap f l) → (z : A) × List·Memᴰ z l × List·Memᴰ y (f z)) → List·Memᴰ y (f x) ⊎ List·Memᴰ y (flatMap f l)
-          → (z : A) × List·Memᴰ z (x ∷ l) × List·Memᴰ y (f z)
-      go rest (inl n) = (x, List·Memᴰ·head refl, n)
-      go rest (inr n) = let t = rest n in (t .0, List·Memᴰ·tail (t .1), t .2)
-
-  -- a member of one of the lists is a member of them joined
-  pub member-flatMap : (f : A → List B) {l : List A} {x : A} {y : B} → List·Memᴰ x l → List·Memᴰ y (f x) → List·Memᴰ y (flatMap f l)
-  unfolding flatMap
-  member-flatMap f {y} (List·Memᴰ·head {x = z} {xs = l} e) n =
-      Memᴰ·append-left (flatMap f l) (subst (λ (s : List B). List·Memᴰ y s) (ap f e) n)
-  member-flatMap f (List·Memᴰ·tail {x = z} {xs = l} m) n = Memᴰ·append-right (f z) (member-flatMap f m n)
 
 -- ---- counting
 

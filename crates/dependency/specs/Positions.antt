@@ -12,10 +12,10 @@ use borrow.Author.Tests.{eqb-true, eq-eqb}
 use Rattle.base.specs.Basic.{any, keep, from}
 use Rattle.base.specs.BoolLaws.{and-true, and-of}
 use Rattle.base.specs.ListLaws.{any-true, any-of, keep-member, member-keep, from-member, member-from}
-use Rattle.base.specs.ListLaws.{getElem?-member, member-getElem?, getElem?-same, getElem?-lt}
+use Rattle.base.specs.ListLaws.{getElem?-member, member-getElem?, getElem?-same, getElem?-lt, member-reverse, reverse-member}
 use Rattle.schedule.specs.Event.{Event, by, isWrite, writesTo, pastAt, writesOf, committed, seen}
 use Rattle.dependency.specs.Dependency.{same, sees, Numbered}
-use Rattle.dependency.specs.Ordered.{Earlier, Ordered, member-reverse, reverse-member, take-position, position-take, keep-take}
+use Rattle.dependency.specs.Ordered.{Earlier, Ordered, take-position, position-take, keep-take}
 use Rattle.dependency.specs.Ordered.{ordered-keep, ordered-from, ordered-take, ordered-reverse}
 
 -- ---- one event, one position

@@ -12,15 +12,16 @@ use lib.ListN.{length, getElem?, take}
 use borrow.Author.Tests.{eqb-true, eq-eqb, lt-ltb}
 use Rattle.base.specs.Basic.{keep, first, count, has, meets}
 use Rattle.base.specs.BoolLaws.{decide, or-left, or-right}
-use Rattle.base.specs.ListLaws.{keep-member, member-keep, getElem?-member, member-getElem?, take-member}
+use Rattle.base.specs.ListLaws.{keep-member, member-keep, getElem?-member, member-getElem?, take-member, flatMap-member, member-flatMap}
 use Rattle.base.specs.WordLaws.{has-meets, has-every}
 use Rattle.schedule.specs.Event.{Event, by, isRead, isPredicateRead, isInsert, isDelete, writesTo, pastAt, writesOf, seen}
 use Rattle.schedule.specs.Event.{source, existence}
+use Rattle.schedule.specs.SerialTest.{run-member}
 use Rattle.schedule.specs.Serial.{serialRun, stateAt, SameRead, SamePredicateRead, SerialOrder}
 use Rattle.dependency.specs.Dependency.{depends, before, sees, Numbered, Filled, Known}
 use Rattle.dependency.specs.DependencyLaws.{before-of, depends-letter, touches-of, depends-writeWrite, depends-writeRead}
 use Rattle.dependency.specs.DependencyLaws.{depends-writePredicate, depends-readWrite, depends-predicateWrite}
-use Rattle.dependency.specs.Ordered.{Earlier, Ordered, flatMap-member, member-flatMap, count-two, count-found, first-same}
+use Rattle.dependency.specs.Ordered.{Earlier, Ordered, count-two, count-found, first-same}
 use Rattle.dependency.specs.Ordered.{ordered-weaker, ordered-keep, ordered-append, ordered-earlier, ordered-past, ordered-place}
 use Rattle.dependency.specs.Positions.{earlier-once, past-position, past-take, take-past, earlier-past, all-past, ordered-pastAt}
 use Rattle.dependency.specs.Positions.{writesTo-parts, writesOf-member, member-writesOf, ordered-writesOf}
@@ -105,12 +106,6 @@ ordered-run P (i ∷ order) events o =
         let t = flatMap-member (λ (j : ℕ). keep (by j) events) order n in
         let e = eqb-true (y .transaction) (t .0) (keep-member (by (t .0)) events (t .2) .1) in
         inl (subst₂ P (sym (of x m)) (sym e) (o .0 (t .0) (t .1)))
-
--- an event of the run is one of the events
-pub run-member : (order : List ℕ) (events : List Event) {e : Event} → List·Memᴰ e (serialRun order events) → List·Memᴰ e events
-unfolding serialRun
-run-member order events m =
-    let t = flatMap-member (λ (i : ℕ). keep (by i) events) order m in keep-member (by (t .0)) events (t .2) .0
 
 -- an event of a transaction in the order is in the run
 pub member-run : (order : List ℕ) (events : List Event) {e : Event} → List·Memᴰ e events → List·Memᴰ (e .transaction) order

@@ -10,7 +10,7 @@ use Rattle.graph.specs.Walk.{Step}
 use Rattle.walks.specs.Reach.{roundsFor}
 
 -- an edge that stands for all edges of its flow from one node to another: the place left, the place entered, and
--- whether the place left is loose
+-- whether the place left is loose (W4: it is of kind ks, ps, pu or pd)
 pub record Pick : Type 0 where
   pub leaves : ℕ
   pub enters : ℕ

@@ -1,18 +1,19 @@
--- Where one edge stands for all, a dangerous closed walk of any length exists exactly if the test among the nodes passes.
+-- Where one edge stands for all: the walk found among the nodes is dangerous, and where a dangerous closed walk of any length exists the test among
+-- the nodes passes.
 use mathlib.Core.Path.{_≡_, refl, sym, ap, _∙_}
-use mathlib.Core.Bool.{Bool, true, false, not, _&&_, _||_, false≢true}
-use mathlib.Core.Logic.{_⊎_, inl, inr, _↔_}
+use mathlib.Core.Bool.{Bool, true, false, _||_, false≢true}
+use mathlib.Core.Logic.{_⊎_, inl, inr}
 use mathlib.Core.List.{List, [], _∷_, _++_}
 use mathlib.Core.Option.{Option, none, some}
 use Prim.Native.Nat.{ℕ, zero, suc, _+_, _≤_, _<_, zero-le, suc-le-suc}
 use native.Mathlib.Nat.{not-suc-le-zero, le-of-suc-le-suc}
 use native.Mathlib.Omega.{arith}
-use lib.Dec.{eqb, ltb}
+use lib.Dec.{ltb}
 use lib.ListN.{length}
 use borrow.Author.Tests.{eqb-true, eq-eqb, ltb-true, lt-ltb}
 use Rattle.base.specs.Basic.{any, all, first, numbers, around, pairsTo}
-use Rattle.base.specs.BoolLaws.{decide, true-false, and-true, and-of, or-true, or-left, or-right}
-use Rattle.base.specs.ListLaws.{any-numbers, any-numbers-of, any-true, first-found, first-some, numbers-member}
+use Rattle.base.specs.BoolLaws.{true-false, and-true, and-of, or-true, or-left, or-right}
+use Rattle.base.specs.ListLaws.{any-numbers-of, any-true, first-found, first-some, numbers-member}
 use Rattle.graph.specs.Graph.{Flow, Graph, isBack}
 use Rattle.graph.specs.Walk.{Step, isEdge, dangerousPair, isDangerous, DangerousWalk}
 use Rattle.walks.specs.Reach.{Regular, Reachable, stepsOf, closes, DangerousReturn, walk-return, roundsFor, reach-short}
@@ -246,19 +247,3 @@ module _ {g : Graph} {ahead behind : Picks} where
   -- a dangerous closed walk, of any length, passes the test
   pub node-complete : {n : ℕ} → Regular g → Picked g n ahead behind → g .size ≤ n → DangerousWalk g → nodeTest ahead behind n ≡ true
   node-complete regular picks small walk = return-tested regular picks small (walk-return walk)
-
-  -- what passes the test for some three nodes
-  pub node-found : {n : ℕ} → Picked g n ahead behind → nodeTest ahead behind n ≡ true
-      → (u : ℕ) × (v : ℕ) × (w : ℕ) × (returnsAt ahead behind n u v w ≡ true)
-      × (isDangerous g (walkAt ahead behind n u v w) ≡ true) × (length (walkAt ahead behind n u v w) ≤ n + 1)
-  unfolding nodeTest
-  node-found {n} picks h =
-      let a = any-numbers (λ u. any (λ v. any (returnsAt ahead behind n u v) (numbers n)) (numbers n)) n h in
-      let b = any-numbers (λ v. any (returnsAt ahead behind n (a .0) v) (numbers n)) n (a .2) in
-      let c = any-numbers (returnsAt ahead behind n (a .0) (b .0)) n (b .2) in
-      let t = walk-found picks (a .0) (b .0) (c .0) (a .1) (b .1) (c .1) (c .2) in (a .0, b .0, c .0, c .2, t .0, t .1)
-
-  -- a dangerous closed walk exists exactly if the test among the nodes passes
-  pub node-iff : {n : ℕ} → Regular g → Picked g n ahead behind → g .size ≤ n → (nodeTest ahead behind n ≡ true) ↔ DangerousWalk g
-  node-iff {n} regular picks small =
-      (λ h. let t = node-found picks h in (walkAt ahead behind n (t .0) (t .1) (t .2), t .4), node-complete regular picks small)

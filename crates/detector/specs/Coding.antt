@@ -3,12 +3,11 @@ use mathlib.Core.Path.{_≡_, refl, sym, ap, subst, _∙_}
 use mathlib.Core.Bool.{Bool, true, false, cond}
 use mathlib.Core.Logic.{_⊎_, inl, inr}
 use mathlib.Core.List.{List}
-use mathlib.Core.Option.{Option, none, some, Option·none-ne-some}
-use Prim.Native.Nat.{ℕ, zero, suc, _+_, _-_, _*_, _/_, _%_, _≤_, _<_}
+use mathlib.Core.Option.{none, some, Option·none-ne-some}
+use Prim.Native.Nat.{ℕ, _+_, _-_, _*_, _/_, _%_, _≤_, _<_}
 use native.Mathlib.Omega.{arith}
 use lib.Dec.{eqb, leb}
 use borrow.Author.Tests.{eq-eqb, ne-eqb, le-leb, lt-leb}
-use Rattle.base.specs.BoolLaws.{decide, true-false}
 use Rattle.base.specs.ListLaws.{some-injective}
 use Rattle.graph.specs.Graph.{Flow, Graph}
 use Rattle.detecting.specs.Pick.{Pick}
@@ -66,7 +65,7 @@ unfolding behindWord
 behind-greater i j k l p q r s h = omega arith
 
 -- each entry for nodes below 64 is 0 or the word of an edge, and no edge has a greater word
-pub record Filled (g : Graph) (ahead behind : List ℕ) : Type 0 where
+pub record GreatestWords (g : Graph) (ahead behind : List ℕ) : Type 0 where
   pub aheadFrom : (u v : ℕ) → u < 64 → v < 64 → (entry ahead u v ≡ 0)
       ⊎ ((i : ℕ) × (j : ℕ) × (g .edge u i v j Flow.forward ≡ true) × (entry ahead u v ≡ aheadWord (g .loose u i) i j))
   pub aheadMost : (u i v j : ℕ) → g .edge u i v j Flow.forward ≡ true → aheadWord (g .loose u i) i j ≤ entry ahead u v
@@ -96,8 +95,8 @@ unfolding behindPick
 behind-nothing x e = rw (eq-eqb x 0 e) refl
 
 -- such tables stand for all edges
-pub filled-picked : {g : Graph} (ahead behind : List ℕ) → Small g → Filled g ahead behind → Picked g 64 (aheadIn ahead) (behindIn behind)
-filled-picked {g} ahead behind small filled =
+pub greatest-picked : {g : Graph} (ahead behind : List ℕ) → Small g → GreatestWords g ahead behind → Picked g 64 (aheadIn ahead) (behindIn behind)
+greatest-picked {g} ahead behind small filled =
     record { aheadEdge = a-edge; aheadLast = a-last; behindEdge = b-edge; behindFirst = b-first }
   where
     a-edge : (u v : ℕ) (p : Pick) → u < 64 → v < 64 → aheadIn ahead u v ≡ some p

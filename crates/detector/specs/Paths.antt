@@ -1,42 +1,86 @@
 -- One law for each path of the code.
-use mathlib.Core.Path.{_≡_, refl, sym, ap, subst, _∙_}
+use mathlib.Core.Path.{_≡_, refl, sym, ap, ap₂, subst, _∙_}
 use mathlib.Core.Bool.{Bool, true, false, cond, _&&_}
 use mathlib.Core.List.{List, [], _∷_}
-use Prim.Native.Nat.{ℕ, zero, suc, _+_, _-_, _*_, _/_, _%_, _^_, _≤_, _<_}
+use Prim.Native.Nat.{ℕ, suc, _+_, _-_, _*_, _/_, _%_, _^_, _≤_, _<_}
 use native.Mathlib.Nat.{one-mul, mod-eq-of-lt}
 use native.Mathlib.Numerals.{add-one}
 use native.Mathlib.Omega.{arith}
 use lib.Bits.{bitAnd}
 use lib.ListN.{length, getD, length-set}
 use lib.Pow.{pow-lt}
-use borrow.Author.Tests.{lt-ltb, le-ltb}
+use borrow.Author.Tests.{eq-eqb, lt-ltb, le-ltb}
 use Rattle.base.specs.Basic.{has}
 use Rattle.base.specs.BoolLaws.{and-left}
 use Rattle.graph.specs.Walk.{Step}
 use Rattle.detecting.specs.Pick.{dangerousPicks}
-use Rattle.detector.specs.Table.{aheadPick, behindPick, entry, aheadIn, behindIn, closesAt, pairIn, pairFor, hasPair, layersTo, lowest, aheadStep}
+use Rattle.detector.specs.Turns.{first-none, first-end, first-block}
+use Rattle.detector.specs.Table.{aheadPick, behindPick, entry, behindIn, firstFrom, closesAt, closesAlong, closingNode, pairIn}
+use Rattle.detector.specs.Table.{pairFor, hasPair, layersTo, lowest, aheadStep}
 use Rattle.detector.specs.Table.{wayOn, putWords, putStep, putSteps, Writing, writing, goOn, Written, WayTurn}
 
 -- one bit, shifted
 pub bit-shifted : (k : ℕ) → k < 64 → 1 * 2 ^ k % 18446744073709551616 ≡ 2 ^ k
 bit-shifted k h = rw one-mul (mod-eq-of-lt (pow-lt h))
 
-module _ (ahead behind : List ℕ) (u reach x : ℕ) where
+module _ (behind : List ℕ) (e v reach w : ℕ) where
   -- what is dangerous closes where it is reached
-  pub closes-reached : {e c : ℕ} {t r : Bool} → e ≡ getD ahead (u * 64 + x / 64) 0 → c ≡ getD behind (x / 64 * 64 + x % 64) 0
-      → t ≡ dangerousPicks (aheadPick e) (behindPick c) → t ≡ true → r ≡ has reach (x % 64) → r ≡ closesAt ahead behind u reach x
-  unfolding closesAt
-  closes-reached p q d h l =
-      let same : dangerousPicks (aheadIn ahead u (x / 64)) (behindIn behind (x / 64) (x % 64)) ≡ true = rw (← p, ← q) (sym d ∙ h) in
-      l ∙ sym (ap (λ (b : Bool). b && has reach (x % 64)) same)
+  pub closes-reached : {c : ℕ} {t r : Bool} → c ≡ getD behind (v * 64 + w) 0 → t ≡ dangerousPicks (aheadPick e) (behindPick c) → t ≡ true
+      → r ≡ has reach w → r ≡ closesAlong behind e v reach w
+  unfolding closesAlong
+  closes-reached q d h l =
+      let same : dangerousPicks (aheadPick e) (behindIn behind v w) ≡ true = rw (← q) (sym d ∙ h) in
+      l ∙ sym (ap (λ (b : Bool). b && has reach w) same)
 
   -- what is not dangerous does not
-  pub closes-not : {e c : ℕ} {t : Bool} → e ≡ getD ahead (u * 64 + x / 64) 0 → c ≡ getD behind (x / 64 * 64 + x % 64) 0
-      → t ≡ dangerousPicks (aheadPick e) (behindPick c) → t ≡ false → false ≡ closesAt ahead behind u reach x
-  unfolding closesAt
-  closes-not p q d h =
-      let same : dangerousPicks (aheadIn ahead u (x / 64)) (behindIn behind (x / 64) (x % 64)) ≡ false = rw (← p, ← q) (sym d ∙ h) in
-      sym (and-left (has reach (x % 64)) same)
+  pub closes-not : {c : ℕ} {t : Bool} → c ≡ getD behind (v * 64 + w) 0 → t ≡ dangerousPicks (aheadPick e) (behindPick c) → t ≡ false
+      → false ≡ closesAlong behind e v reach w
+  unfolding closesAlong
+  closes-not q d h =
+      let same : dangerousPicks (aheadPick e) (behindIn behind v w) ≡ false = rw (← q) (sym d ∙ h) in
+      sym (and-left (has reach w) same)
+
+-- no node closes a walk along an edge that is not there
+pub closing-none : (behind : List ℕ) (e v reach : ℕ) → e ≡ 0 → 64 ≡ closingNode behind e v reach
+unfolding closingNode closesAlong aheadPick
+closing-none behind e v reach z = sym (first-none (closesAlong behind e v reach) 64 0 (λ w. rw (eq-eqb e 0 z) refl))
+
+module _ (ahead behind : List ℕ) (u reach v : ℕ) where
+  -- the pairs of v, one behind the other
+  block : {e : ℕ} → e ≡ getD ahead (u * 64 + v) 0 → (w : ℕ) → w < 64
+      → closesAt ahead behind u reach (v * 64 + w) ≡ closesAlong behind e v reach (0 + w)
+  unfolding closesAt closesAlong
+  block p w h =
+      let left : (v * 64 + w) / 64 ≡ v = omega arith in
+      let right : (v * 64 + w) % 64 ≡ w = omega arith in
+      let all : 0 + w ≡ w = omega arith in rw (left, right, all, p) refl
+
+  abbrev Going : Type 0
+  Going = firstFrom (closesAt ahead behind u reach) (4096 - v * 64) (v * 64) ≡ firstFrom (closesAt ahead behind u reach) 4096 0
+
+  -- the search for a pair stops at the first node that closes a walk along the edge to v
+  pub pair-stop : {e w : ℕ} → Going → v < 64 → e ≡ getD ahead (u * 64 + v) 0 → w ≡ closingNode behind e v reach → w < 64
+      → v * 64 + w ≡ pairIn ahead behind u reach
+  unfolding pairIn closingNode
+  pair-stop {e} {w} going h p q l =
+      let both = first-block (closesAt ahead behind u reach) (closesAlong behind e v reach) 64 (4096 - v * 64) (v * 64) 0 (omega arith) (block p) in
+      let found = both .0 (omega arith) in
+      let same : v * 64 + w ≡ firstFrom (closesAt ahead behind u reach) (4096 - v * 64) (v * 64) = omega arith in same ∙ going
+
+  -- and goes on to the next node where none does
+  pub pair-turn : {e w : ℕ} → Going → v < 64 → e ≡ getD ahead (u * 64 + v) 0 → w ≡ closingNode behind e v reach → 64 ≤ w
+      → firstFrom (closesAt ahead behind u reach) (4096 - (v + 1) * 64) ((v + 1) * 64) ≡ firstFrom (closesAt ahead behind u reach) 4096 0
+  unfolding closingNode
+  pair-turn {e} {w} going h p q l =
+      let both = first-block (closesAt ahead behind u reach) (closesAlong behind e v reach) 64 (4096 - v * 64) (v * 64) 0 (omega arith) (block p) in
+      let fewer : 4096 - (v + 1) * 64 ≡ 4096 - v * 64 - 64 = omega arith in
+      let there : (v + 1) * 64 ≡ v * 64 + 64 = omega arith in
+      ap₂ (firstFrom (closesAt ahead behind u reach)) fewer there ∙ sym (both .1 (omega arith)) ∙ going
+
+  -- and ends behind the last node
+  pub pair-end : Going → v ≤ 64 → 64 ≤ v → 4096 ≡ pairIn ahead behind u reach
+  unfolding pairIn
+  pair-end going h l = sym (first-end (closesAt ahead behind u reach) 4096 (v * 64) (omega arith) (omega arith)) ∙ going
 
 -- the first node of a word is a node
 pub lowest-small : (word : ℕ) → lowest word < 64

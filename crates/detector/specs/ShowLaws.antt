@@ -4,21 +4,19 @@ use mathlib.Core.Bool.{Bool, true, false, cond, false≢true}
 use mathlib.Core.List.{List, [], _∷_, _++_, flatMap, append-assoc}
 use Prim.Native.Nat.{ℕ, zero, suc, _+_, _-_, _*_, _/_, _%_, _≤_, _<_, zero-le, suc-le-suc}
 use native.Mathlib.Nat.{zero-add}
-use native.Mathlib.Numerals.{add-one}
 use native.Mathlib.Omega.{arith}
 use lib.Bits.{bitAnd}
-use lib.Dec.{ltb}
 use lib.ListN.{length, getD, set, drop, length-append}
-use lib.Seq.{set-at, drop-append-add}
+use lib.Seq.{set-at}
 use borrow.Author.Tests.{lt-ltb, le-ltb, lt-leb, le-leb}
 use Rattle.base.specs.Basic.{has}
 use Rattle.graph.specs.Graph.{Graph}
 use Rattle.graph.specs.Walk.{Step}
 use Rattle.walks.specs.Reach.{Regular}
 use Rattle.detecting.specs.PickLaws.{Picked}
-use Rattle.detector.specs.Table.{entry, aheadIn, behindIn, joinedRows, layersTo, nodeIn, pairFor, lowest, aheadStep, behindStep, wayOn, walkOn, tableWalk, shownWalk}
+use Rattle.detector.specs.Table.{entry, aheadIn, behindIn, joinedRows, layersTo, nodeIn, pairFor, lowest, aheadStep, behindStep}
+use Rattle.detector.specs.Table.{wayOn, walkOn, tableWalk, shownWalk}
 use Rattle.detector.specs.Table.{flowWord, stepWords, shownIn, putWords, putStep, putSteps, Written, Shown, Settles, Answered}
-use Rattle.detector.specs.declared.Found.{Found}
 use Rattle.detector.specs.Paths.{put-cons}
 use Rattle.detector.specs.WalkLaws.{node-pair, table-none, table-written, table-verdict}
 
@@ -161,11 +159,6 @@ module _ (ahead behind before : List ℕ) where
       → x ≡ pairFor ahead behind rows u → {after : List ℕ} {r : ℕ} → Written (walkOn ahead behind rows u x) 0 before after r
       → Answered ahead behind before after (record { room = true; steps = r })
   answer-found h p q l e t = record { room = sym (le-leb 260 (length before) h); shown = shown-found h p q l e t; settles = λ _. settled h }
-
-  -- where there is room, the walk of the tables is shown
-  pub answer-walk : {after : List ℕ} {r : Found} → 260 ≤ length before → Answered ahead behind before after r
-      → Shown (tableWalk ahead behind) before after (r .steps)
-  answer-walk {after} {r} h a = subst (λ (w : List Step). Shown w before after (r .steps)) (long-enough h) (a .shown)
 
 -- a node found has a pair
 pub found-pair : (ahead behind rows : List ℕ) {u x : ℕ} → u ≡ nodeIn ahead behind rows → u < 64 → x ≡ pairFor ahead behind rows u → x < 4096

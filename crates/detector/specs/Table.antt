@@ -1,5 +1,5 @@
 -- Tables of edges between 64 nodes, and how a dangerous closed walk is found in them and written down.
-use mathlib.Core.Bool.{Bool, true, false, cond, not, _&&_, _||_}
+use mathlib.Core.Bool.{Bool, true, cond, not, _&&_, _||_}
 use mathlib.Core.List.{List, [], _∷_, _++_, flatMap}
 use mathlib.Core.Path.{_≡_}
 use mathlib.Core.Logic.{_⊎_}
@@ -15,7 +15,7 @@ use Rattle.graph.specs.Walk.{Step, isDangerous, DangerousWalk}
 use Rattle.walks.specs.Reach.{Regular}
 use Rattle.detecting.specs.Pick.{Pick, Picks, dangerousPicks, walkAt}
 use Rattle.detecting.specs.PickLaws.{Picked}
-use Rattle.detector.specs.declared.Found.{Found}
+use Rattle.detector.specs.declared.WalkFound.{WalkFound}
 
 -- ---- what the words of the two tables stand for; the word for the edge from u to v stands at u * 64 + v
 
@@ -90,6 +90,15 @@ unfoldable pub closesAt : List ℕ → List ℕ → ℕ → ℕ → ℕ → Bool
 closesAt ahead behind u reach x =
     dangerousPicks (aheadIn ahead u (x / 64)) (behindIn behind (x / 64) (x % 64)) && has reach (x % 64)
 
+-- node w closes a walk along the forward edge of word e to v
+unfoldable pub closesAlong : List ℕ → ℕ → ℕ → ℕ → ℕ → Bool
+closesAlong behind e v reach w = dangerousPicks (aheadPick e) (behindIn behind v w) && has reach w
+
+-- the first such node, or 64
+unfoldable pub closingNode : List ℕ → ℕ → ℕ → ℕ → ℕ
+closingNode behind e v reach = firstFrom (closesAlong behind e v reach) 64 0
+
+-- the first pair that closes, or 4096
 unfoldable pub pairIn : List ℕ → List ℕ → ℕ → ℕ → ℕ
 pairIn ahead behind u reach = firstFrom (closesAt ahead behind u reach) 4096 0
 
@@ -199,7 +208,7 @@ Settles g walk = ((isDangerous g walk ≡ true) × (length walk ≤ 65)) ⊎ ((w
 
 -- the answer: whether the area has room for 65 steps, and where it has, the walk of the tables is shown,
 -- which settles each graph whose edges the tables hold
-pub record Answered (ahead behind before after : List ℕ) (r : Found) : Type 0 where
+pub record Answered (ahead behind before after : List ℕ) (r : WalkFound) : Type 0 where
   pub room : r .room ≡ leb 260 (length before)
   pub shown : Shown (shownWalk ahead behind (length before)) before after (r .steps)
   pub settles : r .room ≡ true → (g : Graph) → Regular g → g .size ≤ 64 → Picked g 64 (aheadIn ahead) (behindIn behind)

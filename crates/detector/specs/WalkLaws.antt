@@ -2,29 +2,29 @@
 use mathlib.Core.Path.{_≡_, refl, sym, ap, ap₂, subst, _∙_}
 use mathlib.Core.Bool.{Bool, true, false, cond, not, _&&_, _||_, false≢true}
 use mathlib.Core.Logic.{_⊎_, inl, inr}
-use mathlib.Core.List.{List, [], _∷_, _++_, flatMap}
-use mathlib.Core.Option.{Option, none, some}
-use Prim.Native.Nat.{ℕ, zero, suc, _+_, _-_, _*_, _/_, _%_, _^_, _≤_, _<_, zero-le}
-use native.Mathlib.Nat.{not-suc-le-zero, mod-eq-of-lt}
+use mathlib.Core.List.{List, [], _∷_, _++_}
+use mathlib.Core.Option.{none, some}
+use Prim.Native.Nat.{ℕ, zero, suc, _+_, _-_, _*_, _/_, _%_, _≤_, _<_, zero-le}
+use native.Mathlib.Nat.{mod-eq-of-lt}
 use native.Mathlib.Omega.{arith}
 use lib.Bits.{bitAnd}
 use lib.Count.{trailingZeros}
 use lib.Dec.{eqb, ltb, leb}
-use lib.ListN.{length, getD, set, drop}
-use borrow.Author.Tests.{eqb-true, eqb-false, eq-eqb, ne-eqb, ltb-true, ltb-false, lt-ltb, le-ltb}
+use lib.ListN.{length, getD}
+use borrow.Author.Tests.{ltb-true, ltb-false, lt-ltb, le-ltb}
 use Rattle.base.specs.Basic.{any, first, numbers, has, meets}
-use Rattle.base.specs.BoolLaws.{decide, true-false, false-of, same-test, and-true, and-of, or-true, or-left, or-right, not-of-false, not-of-true}
+use Rattle.base.specs.BoolLaws.{decide, true-false, same-test, and-true, and-of}
 use Rattle.base.specs.ListLaws.{any-numbers, any-numbers-of}
-use Rattle.base.specs.WordLaws.{has-bitAnd, meets-has, has-meets}
+use Rattle.base.specs.WordLaws.{has-empty, has-bitAnd, meets-has, has-meets}
 use Rattle.graph.specs.Graph.{Flow, Graph}
 use Rattle.graph.specs.Walk.{Step, isDangerous, DangerousWalk}
 use Rattle.walks.specs.Reach.{Regular, roundsFor}
-use Rattle.detecting.specs.Pick.{Pick, Picks, picked, dangerousPicks, onwardTo, reaches, returnsAt, nodeTest, stepAlong, wayTo, walkAt}
-use Rattle.detecting.specs.PickLaws.{Picked, dangerous-some, walk-found, node-complete, node-found}
-use Rattle.detector.specs.Table.{aheadPick, behindPick, entry, aheadIn, behindIn, wordBelow, listBelow, firstFrom, joinedBit, joinedRow, joinedRows}
+use Rattle.detecting.specs.Pick.{Picks, picked, dangerousPicks, onwardTo, reaches, returnsAt, nodeTest, stepAlong, wayTo, walkAt}
+use Rattle.detecting.specs.PickLaws.{Picked, dangerous-some, walk-found, node-complete}
+use Rattle.detector.specs.Table.{aheadPick, behindPick, entry, aheadIn, behindIn, joinedBit, joinedRow, joinedRows}
 use Rattle.detector.specs.Table.{growsTo, grown, layer, layersTo, closesAt, pairIn, pairFor, hasPair, nodeIn, lowest, aheadStep, behindStep}
 use Rattle.detector.specs.Table.{wayOn, walkOn, tableWalk}
-use Rattle.detector.specs.Turns.{first-passes, first-found}
+use Rattle.detector.specs.Turns.{first-within, first-passes, first-found}
 use Rattle.detector.specs.Paths.{way-none, way-stays, way-along}
 use Rattle.detector.specs.WordLaws.{has-one, word-out, word-in, list-at, trailing-first, first-is}
 
@@ -202,6 +202,29 @@ unfolding pairFor pairIn
 pair-found ahead behind rows u v w i j e =
     first-found (closesAt ahead behind u (getD (layersTo rows u) 63 0)) 4096 0 (v * 64 + w) zero-le (omega arith) e
 
+-- W4: a node that no forward edge leaves has no pair
+pub pair-none : (ahead behind : List ℕ) (u : ℕ) {rows : List ℕ} → u < 64 → rows ≡ joinedRows ahead → getD rows u 0 ≡ 0
+    → 4096 ≡ pairFor ahead behind rows u
+unfolding pairFor pairIn closesAt
+pair-none ahead behind u {rows} h same e = go (decide (ltb (pairFor ahead behind rows u) 4096))
+  where
+    none : joinedRow ahead u ≡ 0
+    none = sym (row-at ahead 64 refl u h) ∙ ap (λ (l : List ℕ). getD l u 0) (sym same) ∙ e
+
+    go : (ltb (pairFor ahead behind rows u) 4096 ≡ true) ⊎ (ltb (pairFor ahead behind rows u) 4096 ≡ false) → 4096 ≡ pairFor ahead behind rows u
+    go (inr l) =
+        let least = ltb-false (pairFor ahead behind rows u) 4096 l in
+        let most = first-within (closesAt ahead behind u (getD (layersTo rows u) 63 0)) 4096 0 in omega arith
+    go (inl l) =
+        let x = pairFor ahead behind rows u in
+        let small = ltb-true x 4096 l in
+        let parts = and-true (dangerousPicks (aheadIn ahead u (x / 64)) (behindIn behind (x / 64) (x % 64)))
+        (has (getD (layersTo rows u) 63 0) (x % 64)) (pair-closes ahead behind rows u small) in
+        let pair = dangerous-some (aheadIn ahead u (x / 64)) (behindIn behind (x / 64) (x % 64)) (parts .0) in
+        let there : has (joinedRow ahead u) (x / 64) ≡ true
+        = row-has ahead 64 refl u (x / 64) (omega arith) ∙ ap picked (pair .2) in
+        absurd (true-false there (ap (λ (word : ℕ). has word (x / 64)) none ∙ has-empty (x / 64)))
+
 two-more : {s t : Step} {a b l m : List Step} → a ≡ s ∷ [] → b ≡ t ∷ [] → l ≡ m → s ∷ t ∷ l ≡ a ++ b ++ m
 two-more p q r = rw (p, q, r) refl
 
@@ -255,7 +278,8 @@ module _ (ahead behind : List ℕ) (n : ℕ) (full : n ≡ 64) where
       let c = any-numbers (returnsAt (aheadIn ahead) (behindIn behind) n (a .0) (b .0)) n (b .2) in
       first-found (hasPair ahead behind (joinedRows ahead)) 64 0 (a .0) zero-le (omega (arith, a .1))
       (lt-ltb (pairFor ahead behind (joinedRows ahead) (a .0)) 4096
-      (pair-found ahead behind (joinedRows ahead) (a .0) (b .0) (c .0) (omega (arith, b .1)) (omega (arith, c .1)) (returns-closes (a .0) (b .0) (c .0) (b .1) (c .1) (c .2))))
+      (pair-found ahead behind (joinedRows ahead) (a .0) (b .0) (c .0) (omega (arith, b .1)) (omega (arith, c .1))
+      (returns-closes (a .0) (b .0) (c .0) (b .1) (c .1) (c .2))))
 
 -- ---- the walk of the tables
 

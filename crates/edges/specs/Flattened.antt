@@ -166,7 +166,7 @@ module _ (table : List ℕ) where
       (ap (λ (y : ℕ). slotEdges table y ++ []) (zero-add x) ∙ append-nil (slotEdges table x))
 
   -- the edges in the slots below x
-  edges-below : (x : ℕ) → edgesBelow table x ≡ length (flatMap (slotEdges table) (numbers x))
+  pub edges-below : (x : ℕ) → edgesBelow table x ≡ length (flatMap (slotEdges table) (numbers x))
   unfolding edgesBelow flatMap slotEdges
   edges-below zero = refl
   edges-below (suc x) =

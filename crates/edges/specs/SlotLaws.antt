@@ -11,19 +11,14 @@ use native.Mathlib.Numerals.{add-one}
 use lib.Dec.{eqb, ltb}
 use borrow.Author.Tests.{eq-eqb, ne-eqb, lt-ltb, le-ltb, le-leb, lt-leb, ltb-true, ltb-false}
 use Rattle.base.specs.BoolLaws.{and-right}
-use lib.Count.{ones, onesIn, trailingZeros}
 use Rattle.graph.specs.Graph as G
 use Rattle.graph.specs.Edge as E
 use Rattle.tables.specs.declared.Row.{Row}
-use Rattle.tables.specs.Table.{rowAt, rowCount, rowForward, rowBack, rowStands, rowLetter, rowShared, rowEdge}
-use Rattle.tables.specs.TableLaws.{onesIn-ones}
-use Rattle.edges.specs.declared.Letter.{Letter}
-use Rattle.edges.specs.declared.Edge.{Edge}
+use Rattle.tables.specs.Table.{rowAt, rowCount, rowForward, rowBack, rowStands, rowEdge}
 use Rattle.edges.specs.declared.Counts.{Counts}
-use Rattle.edges.specs.declared.EdgeStep.{EdgeStep}
-use Rattle.edges.specs.Slots.{flowByte, letterByte, letterCode, letterMeant, coded, noEdge, edgeFrom}
-use Rattle.edges.specs.Slots.{tableEdges, tableCounts, fittingIn, slots, leftRow, rightRow}
-use Rattle.edges.specs.Slots.{standsAt, slotEdge, edgeAt, following, nextFrom, nextSlot, one, backOne, edgesBelow, backBelow, countsBelow}
+use Rattle.edges.specs.Slots.{coded}
+use Rattle.edges.specs.Slots.{leftRow, rightRow}
+use Rattle.edges.specs.Slots.{standsAt, slotEdge, edgeAt, one, backOne, edgesBelow, backBelow, countsBelow}
 
 -- a table has at most 512 rows
 pub rows-small : (table : List ℕ) → rowCount table ≤ 512
@@ -32,50 +27,6 @@ rows-small table = omega arith
 
 pub rows-few : (table : List ℕ) (n : ℕ) → n ≡ rowCount table → n ≤ 512
 rows-few table n e = let h = rows-small table in omega arith
-
--- the code of a letter means the letter
-pub letter-meant : (l : E.Letter) → letterMeant (letterCode l) ≡ l
-letter-meant E.Letter.A = refl
-letter-meant E.Letter.B = refl
-letter-meant E.Letter.C = refl
-letter-meant E.Letter.D = refl
-letter-meant E.Letter.E = refl
-
--- an edge put together from its letter, what the letter's sets share and the letter's byte
-pub edge-made : (flow : G.Flow) (p q : Row) (l : Letter) (m b : ℕ)
-    → l ≡ letterCode (rowLetter flow p q)
-    → m ≡ rowShared (letterMeant l) p q
-    → b ≡ letterByte (letterMeant l)
-    → m < 2 ^ 64
-    → _≡_ {A = Edge}
-    (record {
-      node = p .node;
-      leaves = p .place;
-      into = q .node;
-      enters = q .place;
-      sharing = ones m;
-      lowest = trailingZeros 64 m;
-      flow = flowByte flow;
-      letter = b;
-    })
-    (coded (rowEdge flow p q))
-unfolding coded rowEdge
-edge-made flow p q l m b e f g small = λ i. record {
-  node = p .node;
-  leaves = p .place;
-  into = q .node;
-  enters = q .place;
-  sharing = (sym (onesIn-ones 64 m small) ∙ ap (onesIn 64) meeting) i;
-  lowest = trailingZeros 64 (meeting i);
-  flow = flowByte flow;
-  letter = (g ∙ ap letterByte meant) i;
-}
-  where
-    meant : letterMeant l ≡ rowLetter flow p q
-    meant = ap letterMeant e ∙ letter-meant (rowLetter flow p q)
-
-    meeting : m ≡ rowShared (rowLetter flow p q) p q
-    meeting = f ∙ ap (λ (x : E.Letter). rowShared x p q) meant
 
 -- ---- what stands in a slot
 
@@ -111,84 +62,6 @@ module _ (table : List ℕ) (x : ℕ) where
   pub edge-back : (x % 2 ≡ 0 → ⊥) → coded (rowEdge G.Flow.back (leftRow table x) (rightRow table x)) ≡ edgeAt table x
   unfolding edgeAt slotEdge
   edge-back e = simp (ne-eqb (x % 2) 0 e)
-
--- ---- the next slot
-
-module _ (n x : ℕ) where
-  -- the slot behind is the next one, or the first of the next row
-  pub following-next : (x + 1) % 1024 < n * 2 → x + 1 ≡ following n x
-  unfolding following
-  following-next h = simp (lt-ltb ((x + 1) % 1024) (n * 2) h)
-
-  pub following-row : n * 2 ≤ (x + 1) % 1024 → x / 1024 * 1024 + 1024 ≡ following n x
-  unfolding following
-  following-row h = simp (le-ltb ((x + 1) % 1024) (n * 2) h)
-
-  -- it is behind, and at most the end
-  pub following-between : x < n * 1024 → (x < following n x) × (following n x ≤ n * 1024)
-  unfolding following
-  following-between h = go (ltb ((x + 1) % 1024) (n * 2))
-    where
-      go : (b : Bool) → (x < cond b (x + 1) (x / 1024 * 1024 + 1024)) × (cond b (x + 1) (x / 1024 * 1024 + 1024) ≤ n * 1024)
-      go true = (omega arith, omega arith)
-      go false = (omega arith, omega arith)
-
-module _ (table : List ℕ) (n x : ℕ) (rows : n ≡ rowCount table) where
-  end-is : n * 1024 ≡ slots table
-  unfolding slots
-  end-is = ap (λ (m : ℕ). m * 1024) rows
-
-  pub next-here : x < n * 1024 → standsAt table x ≡ true → nextFrom table (n * 1024 - x) x ≡ x
-  unfolding nextFrom
-  next-here h e =
-      let s : n * 1024 - x ≡ suc (n * 1024 - suc x) = omega arith in
-      ap (λ (k : ℕ). nextFrom table k x) s ∙ ap (λ (b : Bool). cond b x (nextFrom table (n * 1024 - suc x) (suc x))) e
-
-  pub next-end : n * 1024 ≤ x → nextFrom table (n * 1024 - x) x ≡ n * 1024
-  unfolding nextFrom
-  next-end h =
-      let s : n * 1024 - x ≡ 0 = omega arith in
-      ap (λ (k : ℕ). nextFrom table k x) s ∙ sym end-is
-
-  pub next-all : nextFrom table (n * 1024 - x) x ≡ nextSlot table x
-  unfolding nextSlot
-  next-all = ap (λ (e : ℕ). nextFrom table (e - x) x) end-is
-
--- empty slots are passed over
-next-skip : (table : List ℕ) (end d x : ℕ) → x + d ≤ end → ((y : ℕ) → x ≤ y → y < x + d → standsAt table y ≡ false)
-    → nextFrom table (end - x) x ≡ nextFrom table (end - (x + d)) (x + d)
-unfolding nextFrom
-next-skip table end zero x h empty = ap (λ (y : ℕ). nextFrom table (end - y) y) (sym (add-zero x))
-next-skip table end (suc d) x h empty =
-    let s : end - x ≡ suc (end - suc x) = omega arith in
-    ap (λ (k : ℕ). nextFrom table k x) s
-    ∙ ap (λ (b : Bool). cond b x (nextFrom table (end - suc x) (suc x))) (empty x (omega arith) (omega arith))
-    ∙ next-skip table end d (suc x) (omega arith) (λ y l m. empty y (omega arith) (omega arith))
-    ∙ ap (λ (y : ℕ). nextFrom table (end - y) y) (suc-add x d ∙ sym (add-suc x d))
-
--- behind a slot in which nothing stands
-next-later : (table : List ℕ) (n x : ℕ) → n ≡ rowCount table → x < n * 1024 → standsAt table x ≡ false
-    → nextFrom table (n * 1024 - x) x ≡ nextFrom table (n * 1024 - following n x) (following n x)
-next-later table n x rows h e =
-    let between = following-between n x h in
-    let d : x + (following n x - x) ≡ following n x = omega arith in
-    next-skip table (n * 1024) (following n x - x) x (omega arith) (λ y l m. go (decLt x y) l (omega arith))
-    ∙ ap (λ (y : ℕ). nextFrom table (n * 1024 - y) y) d
-  where
-    passed : (y : ℕ) → x < y → y < following n x → (b : Bool) → ltb ((x + 1) % 1024) (n * 2) ≡ b → standsAt table y ≡ false
-    passed y l m true t = absurd (let s = following-next n x (ltb-true ((x + 1) % 1024) (n * 2) t) in omega arith)
-    passed y l m false t =
-        let most = ltb-false ((x + 1) % 1024) (n * 2) t in
-        let s = following-row n x most in
-        sym (stands-past table y n rows (omega arith))
-
-    go : {y : ℕ} → Dec (x < y) → x ≤ y → y < following n x → standsAt table y ≡ false
-    go {y} (yes l) least m = passed y l m (ltb ((x + 1) % 1024) (n * 2)) refl
-    go {y} (no d) least m = let same : y ≡ x = omega arith in ap (standsAt table) same ∙ e
-
-pub next-turn : (table : List ℕ) (n x y : ℕ) → n ≡ rowCount table → x < n * 1024 → standsAt table x ≡ false → y ≡ following n x
-    → nextFrom table (n * 1024 - y) y ≡ nextFrom table (n * 1024 - x) x
-next-turn table n x y rows h e s = ap (λ (z : ℕ). nextFrom table (n * 1024 - z) z) s ∙ sym (next-later table n x rows h e)
 
 -- ---- counts
 
@@ -335,45 +208,3 @@ counts-none table = refl
 pub counts-turn : (table : List ℕ) (i : ℕ) (counts : Counts) → counts ≡ countsBelow table (i * 1024 + 1024)
     → counts ≡ countsBelow table ((i + 1) * 1024)
 counts-turn table i counts e = let s : i * 1024 + 1024 ≡ (i + 1) * 1024 = omega arith in e ∙ ap (countsBelow table) s
-
--- ---- how many edges are put
-
-pub fitting-all : (table : List ℕ) (room : ℕ) (counts : Counts) → counts ≡ tableCounts table → counts .edges ≤ room
-    → counts .edges ≡ fittingIn table room
-unfolding fittingIn tableCounts
-fitting-all table room counts e h =
-    let same : counts .edges ≡ length (tableEdges table) = ap (λ (c : Counts). c .edges) e in
-    simp (le-leb (length (tableEdges table)) room (rw same at h)) same
-
-pub fitting-none : (table : List ℕ) (room : ℕ) (counts : Counts) → counts ≡ tableCounts table → room < counts .edges → 0 ≡ fittingIn table room
-unfolding fittingIn tableCounts
-fitting-none table room counts e h =
-    let same : counts .edges ≡ length (tableEdges table) = ap (λ (c : Counts). c .edges) e in
-    simp (lt-leb (length (tableEdges table)) room (rw same at h))
-
--- the first edge from a slot on, where there is one and where there is none
-pub from-found : (table : List ℕ) (n x slot : ℕ) (edge : Edge) → n ≡ rowCount table → slot ≡ nextSlot table x → slot < n * 1024
-    → edge ≡ edgeAt table slot
-    → _≡_ {A = EdgeStep} (record { found = true; slot = slot; edge = edge }) (edgeFrom table x)
-unfolding edgeFrom slots
-from-found table n x slot edge rows s h e = λ i. record {
-  found = sym inside i;
-  slot = s i;
-  edge = (e ∙ ap (edgeAt table) s ∙ sym (ap (λ (b : Bool). cond b (edgeAt table (nextSlot table x)) noEdge) inside)) i;
-}
-  where
-    inside : ltb (nextSlot table x) (slots table) ≡ true
-    inside = lt-ltb (nextSlot table x) (slots table) (omega arith)
-
-pub from-none : (table : List ℕ) (n x slot : ℕ) (edge : Edge) → n ≡ rowCount table → slot ≡ nextSlot table x → n * 1024 ≤ slot
-    → edge ≡ noEdge
-    → _≡_ {A = EdgeStep} (record { found = false; slot = slot; edge = edge }) (edgeFrom table x)
-unfolding edgeFrom slots
-from-none table n x slot edge rows s h e = λ i. record {
-  found = sym past i;
-  slot = s i;
-  edge = (e ∙ sym (ap (λ (b : Bool). cond b (edgeAt table (nextSlot table x)) noEdge) past)) i;
-}
-  where
-    past : ltb (nextSlot table x) (slots table) ≡ false
-    past = le-ltb (nextSlot table x) (slots table) (omega arith)

@@ -12,12 +12,9 @@ use Rattle.graph.specs.Graph as G
 use Rattle.graph.specs.Edge as E
 use Rattle.tables.specs.declared.Row.{Row}
 use Rattle.tables.specs.Table.{rowAt, rowCount, rowStands, rowEdge, tableRows, edgesOfRows}
-use Rattle.edges.specs.declared.Letter.{Letter}
-use Rattle.edges.specs.declared.Letter.the-variants.{A, B, C, D, E}
 use Rattle.edges.specs.declared.Edge.{Edge}
 use Rattle.edges.specs.declared.Counts.{Counts}
 use Rattle.edges.specs.declared.Found.{Found}
-use Rattle.edges.specs.declared.EdgeStep.{EdgeStep}
 
 -- ---- what the answers stand for
 
@@ -34,21 +31,6 @@ letterByte E.Letter.C = 0x43
 letterByte E.Letter.D = 0x44
 letterByte E.Letter.E = 0x45
 
--- the code's own letters
-abbrev pub letterCode : E.Letter → Letter
-letterCode E.Letter.A = A
-letterCode E.Letter.B = B
-letterCode E.Letter.C = C
-letterCode E.Letter.D = D
-letterCode E.Letter.E = E
-
-abbrev pub letterMeant : Letter → E.Letter
-letterMeant A = E.Letter.A
-letterMeant B = E.Letter.B
-letterMeant C = E.Letter.C
-letterMeant D = E.Letter.D
-letterMeant E = E.Letter.E
-
 -- E6: an edge as the code holds it
 unfoldable pub coded : E.Edge → Edge
 coded e = record {
@@ -62,7 +44,7 @@ coded e = record {
   letter = letterByte (e .letter);
 }
 
--- E5: one edge asked for by its number
+-- E5: one edge asked for by its number; where there is none, all numbers are 0 and flow and letter are the first ones
 abbrev pub noEdge : Edge
 noEdge = record { node = 0; leaves = 0; into = 0; enters = 0; sharing = 0; lowest = 0; flow = 0x66; letter = 0x41 }
 
@@ -80,10 +62,6 @@ tableCounts table = record { edges = length (tableEdges table); back = count (λ
 -- edges put at the front of an area that has room for them; one that is too short stays as it is
 unfoldable pub putInto : List E.Edge → List Edge → List Edge
 putInto edges area = cond (leb (length edges) (length area)) (map coded edges ++ drop (length edges) area) area
-
--- how many edges are put: all, or none where they do not fit
-unfoldable pub fittingIn : List ℕ → ℕ → ℕ
-fittingIn table room = cond (leb (length (tableEdges table)) room) (length (tableEdges table)) 0
 
 -- ---- slots
 
@@ -110,10 +88,6 @@ slotEdge table x = rowEdge (flowAt x) (leftRow table x) (rightRow table x)
 unfoldable pub edgeAt : List ℕ → ℕ → Edge
 edgeAt table x = coded (slotEdge table x)
 
--- the slot behind x, past the empty slots at the end of a row
-unfoldable pub following : ℕ → ℕ → ℕ
-following n x = cond (ltb ((x + 1) % 1024) (n * 2)) (x + 1) (x / 1024 * 1024 + 1024)
-
 -- the first slot from x on in which an edge stands, or the end
 unfoldable pub nextFrom : List ℕ → ℕ → ℕ → ℕ
 nextFrom table zero x = slots table
@@ -121,14 +95,6 @@ nextFrom table (suc left) x = cond (standsAt table x) x (nextFrom table left (su
 
 unfoldable pub nextSlot : List ℕ → ℕ → ℕ
 nextSlot table x = nextFrom table (slots table - x) x
-
--- E5: the first edge from slot x on, if there is one
-unfoldable pub edgeFrom : List ℕ → ℕ → EdgeStep
-edgeFrom table x = record {
-  found = ltb (nextSlot table x) (slots table);
-  slot = nextSlot table x;
-  edge = cond (ltb (nextSlot table x) (slots table)) (edgeAt table (nextSlot table x)) noEdge;
-}
 
 -- how many edges stand in the slots below x, and how many of them are back edges
 abbrev pub one : Bool → ℕ

@@ -3,7 +3,7 @@ use mathlib.Core.Bool.{Bool, true, false, cond, not, _&&_, _||_}
 use mathlib.Core.List.{List, [], _∷_}
 use mathlib.Core.Option.{Option, none, some}
 use mathlib.Core.Path.{_≡_, refl, sym, _∙_, ap}
-use Prim.Native.Nat.{ℕ, zero, suc, _+_, _*_, _-_, _^_, _≤_, _<_}
+use Prim.Native.Nat.{ℕ, zero, suc, _+_, _*_, _-_, _/_, _%_, _^_, _≤_, _<_}
 use native.Mathlib.Nat.{mul-le-mul, mul-le-mul-right, mul-assoc, pow-suc, pow-succ', pow-le-pow-right, lt-of-lt-of-le}
 use native.Mathlib.Numerals.{add-one}
 use native.Mathlib.Omega.{arith}
@@ -94,6 +94,23 @@ decimal-value b e = go (digit-view b)
     go (decimal l h d x v w) = v ∙ sym w
     go (letter l h d x v w) = v ∙ sym w
     go (neither d x v) = let z : true ≡ false = sym e ∙ d in cc
+
+-- a digit's value from the byte's parts, and no digit
+pub digit-parts : (b : ℕ) → isHexadecimal b ≡ true → b % 16 + b / 64 * 9 ≡ hexadecimal b
+digit-parts b e = go (digit-view b)
+  where
+    go : Digit b → b % 16 + b / 64 * 9 ≡ hexadecimal b
+    go (decimal l h d x v w) = omega arith
+    go (letter l h d x v w) = omega arith
+    go (neither d x v) = let z : true ≡ false = sym e ∙ x in cc
+
+pub digit-none : (b : ℕ) → isHexadecimal b ≡ false → 16 ≡ hexadecimal b
+digit-none b e = go (digit-view b)
+  where
+    go : Digit b → 16 ≡ hexadecimal b
+    go (decimal l h d x v w) = let z : true ≡ false = sym x ∙ e in cc
+    go (letter l h d x v w) = let z : true ≡ false = sym x ∙ e in cc
+    go (neither d x v) = sym v
 
 -- no digit stands for more than 16
 pub hexadecimal-small : (b : ℕ) → hexadecimal b ≤ 16

@@ -1,25 +1,24 @@
 -- A line cut at its spaces from the front gives the fields, the values and the line of the believed definitions.
-use mathlib.Core.Bool.{Bool, true, false, cond, _&&_}
+use mathlib.Core.Bool.{Bool, true, false, cond}
 use mathlib.Core.List.{List, [], _∷_}
 use mathlib.Core.Option.{Option, none, some}
 use mathlib.Core.Path.{_≡_, refl, sym, _∙_, ap}
-use Prim.Native.Nat.{ℕ, suc, _+_, _*_, _-_, _≤_, _<_}
+use Prim.Native.Nat.{ℕ, suc, _+_, _-_, _≤_, _<_}
 use native.Mathlib.Numerals.{add-one}
 use native.Mathlib.Omega.{arith}
-use lib.Dec.{eqb, leb}
+use lib.Dec.{eqb}
 use lib.ListN.{length, take, drop, getD, drop-of-length-le, length-drop}
 use lib.Seq.{drop-cons, drop-drop}
-use borrow.Author.Tests.{leb-true, eqb-true, eq-eqb, ne-eqb}
-use Rattle.base.specs.Basic.{all}
+use borrow.Author.Tests.{eqb-true, eq-eqb, ne-eqb}
 use Rattle.base.specs.BoolLaws.{and-true}
 use Rattle.base.specs.ListLaws.{first-some}
 use Rattle.text.specs.declared.Line.{Line}
 use Rattle.text.specs.declared.LineKind.{LineKind}
 use Rattle.text.specs.declared.LineKind.the-variants.{Rl, Fk, Pr, St, Lo, Br, El, En, Li}
 use Rattle.text.specs.declared.StatementKind.the-variants.{Is, Ks, Ps, Ku, Pu, Kd, Pd}
-use Rattle.text.specs.Text.{space, dash, same, onFirst, fieldsIn, isDecimal, isHexadecimal, digitsForm, valueBehind}
-use Rattle.text.specs.Text.{numberOf, setOf, dashOf, wordOf, kinds, kindOf, Form, formsOf, fieldOf, valuesOf, lineWith, lineOf}
-use Rattle.text.specs.Text.Form.{number, set, nothing}
+use Rattle.text.specs.Text.{space, same, onFirst, fieldsIn}
+use Rattle.text.specs.Text.{wordOf, kinds, kindOf, Form, formsOf, fieldOf, valuesOf, lineWith, lineOf}
+use Rattle.reading.specs.TextLaws.{same-equal, forms-six}
 use Rattle.fields.specs.Field.{fieldLength, othersIn, numberIf, before, stepAt, lineFrom, lineBehind}
 use Rattle.fields.specs.DigitLaws.{number-small, dash-zero}
 
@@ -135,93 +134,7 @@ line-some bytes {k} e = rw (fields-cut bytes, e, lineOf) (go (valuesOf (formsOf 
     go none = refl
     go (some values) = refl
 
--- the bytes of fields, each with the byte that ends it
-total : List (List ℕ) → ℕ
-total [] = 0
-total (field ∷ fields) = suc (length field) + total fields
-
-fields-total : (line : List ℕ) → total (fieldsIn line) ≡ suc (length line)
-unfolding total fieldsIn onFirst
-fields-total [] = refl
-fields-total (b ∷ line) = go (eqb b space) refl (fields-total line)
-  where
-    first-total : (fields : List (List ℕ)) {n : ℕ} → total fields ≡ suc n → total (onFirst b fields) ≡ suc (suc n)
-    first-total [] e = let z : _≡_ {A = ℕ} 0 1 = omega arith in omega arith
-    first-total (field ∷ fields) e = omega arith
-
-    go : (t : Bool) → eqb b space ≡ t → total (fieldsIn line) ≡ suc (length line) → total (fieldsIn (b ∷ line)) ≡ suc (suc (length line))
-    go true e h = rw (e, fieldsIn) (omega arith)
-    go false e h = rw (e, fieldsIn) (first-total (fieldsIn line) h)
-
--- the same bytes are equal
-pub same-equal : (l r : List ℕ) → same l r ≡ true → l ≡ r
-unfolding same
-same-equal [] [] e = refl
-same-equal [] (b ∷ r) e = cc
-same-equal (a ∷ l) [] e = cc
-same-equal (a ∷ l) (b ∷ r) e =
-    let tests = and-true (eqb a b) (same l r) e in
-    let head : a ≡ b = eqb-true a b (tests .0) in
-    let tail : l ≡ r = same-equal l r (tests .1) in
-    cc
-
--- a field of any form has at most 16 bytes
-digits-short : (isDigit : ℕ → Bool) (most : ℕ) (field : List ℕ) → digitsForm isDigit most field ≡ true → length field ≤ most
-unfolding digitsForm
-digits-short isDigit most [] e = omega arith
-digits-short isDigit most (d ∷ more) e =
-    let formed = and-true (all isDigit (d ∷ more) && leb (suc (length more)) most) _ e .0 in
-    leb-true _ most (and-true (all isDigit (d ∷ more)) (leb (suc (length more)) most) formed .1)
-
-field-short : (form : Form) (field : List ℕ) {n : ℕ} → fieldOf form field ≡ some n → length field ≤ 16
-unfolding fieldOf numberOf setOf dashOf
-field-short number field {n} e = go (digitsForm isDecimal 3 field) refl (leb (valueBehind 10 0 field) 255) e
-  where
-    go : (t : Bool) → digitsForm isDecimal 3 field ≡ t → (s : Bool) → cond (t && s) (some (valueBehind 10 0 field)) none ≡ some n
-        → length field ≤ 16
-    go true h s q = let l : length field ≤ 3 = digits-short isDecimal 3 field h in omega arith
-    go false h s q = let z : _≡_ {A = ℕ} 0 1 = cc in omega arith
-field-short set field {n} e = go (digitsForm isHexadecimal 16 field) refl e
-  where
-    go : (t : Bool) → digitsForm isHexadecimal 16 field ≡ t → cond t (some (valueBehind 16 0 field)) none ≡ some n → length field ≤ 16
-    go true h q = digits-short isHexadecimal 16 field h
-    go false h q = let z : _≡_ {A = ℕ} 0 1 = cc in omega arith
-field-short nothing field {n} e = go (same field (dash ∷ [])) refl e
-  where
-    go : (t : Bool) → same field (dash ∷ []) ≡ t → _≡_ {A = Option ℕ} (cond t (some 0) none) (some n) → length field ≤ 16
-    go true h q = let l : length field ≡ 1 = ap length (same-equal field (dash ∷ []) h) in omega arith
-    go false h q = let z : _≡_ {A = ℕ} 0 1 = cc in omega arith
-
-values-short : (forms : List Form) (fields : List (List ℕ)) {values : List ℕ} → valuesOf forms fields ≡ some values
-    → total fields ≤ 17 * length forms
-unfolding valuesOf total
-values-short [] [] e = omega arith
-values-short [] (field ∷ fields) e = let z : _≡_ {A = ℕ} 0 1 = cc in omega arith
-values-short (form ∷ forms) [] e = omega arith
-values-short (form ∷ forms) (field ∷ fields) e =
-    let (n, vs, first-is, others-are, whole) = values-split form forms field fields e in
-    omega (arith, field-short form field first-is, values-short forms fields others-are)
-
--- each kind has six fields behind its word
-pub forms-six : (k : LineKind) → length (formsOf k) ≡ 6
-unfolding formsOf
-forms-six Rl = refl
-forms-six Fk = refl
-forms-six Pr = refl
-forms-six (St Is) = refl
-forms-six (St Ks) = refl
-forms-six (St Ps) = refl
-forms-six (St Ku) = refl
-forms-six (St Pu) = refl
-forms-six (St Kd) = refl
-forms-six (St Pd) = refl
-forms-six Lo = refl
-forms-six Br = refl
-forms-six El = refl
-forms-six En = refl
-forms-six Li = refl
-
--- and a word of two bytes
+-- each kind has a word of two bytes
 pub word-two : (k : LineKind) → length (wordOf k) ≡ 2
 unfolding wordOf
 word-two Rl = refl
@@ -244,26 +157,6 @@ word-two Li = refl
 pub kind-word : (word : List ℕ) {k : LineKind} → kindOf word ≡ some k → word ≡ wordOf k
 unfolding kindOf
 kind-word word {k} e = same-equal word (wordOf k) (first-some (λ j. same word (wordOf j)) kinds e .1)
-
--- a line of over 104 bytes is no line
-pub line-long : (bytes : List ℕ) → 104 < length bytes → lineOf bytes ≡ none
-unfolding total lineFrom lineBehind
-line-long bytes long = go (kindOf (take (fieldLength bytes) bytes)) refl
-  where
-    values : (k : LineKind) → kindOf (take (fieldLength bytes) bytes) ≡ some k
-        → (o : Option (List ℕ)) → valuesOf (formsOf k) (othersIn (drop (fieldLength bytes) bytes)) ≡ o → lineFrom k o ≡ none
-    values k e none h = refl
-    values k e (some vs) h =
-        let word : length (take (fieldLength bytes) bytes) ≡ 2 = ap length (kind-word _ e) ∙ word-two k in
-        let all : total (fieldsIn bytes) ≡ suc (length bytes) = fields-total bytes in
-        let cut : total (fieldsIn bytes) ≡ suc (length (take (fieldLength bytes) bytes)) + total (othersIn (drop (fieldLength bytes) bytes)) =
-        ap total (fields-cut bytes)
-        in
-        absurd (omega (arith, values-short (formsOf k) _ h, forms-six k))
-
-    go : (o : Option LineKind) → kindOf (take (fieldLength bytes) bytes) ≡ o → lineOf bytes ≡ none
-    go none e = line-none bytes e
-    go (some k) e = line-some bytes e ∙ values k e (valuesOf (formsOf k) (othersIn (drop (fieldLength bytes) bytes))) refl
 
 -- going along a field: a byte that is no space, a space, and the end of the line
 pub field-more : (line : List ℕ) (i : ℕ) → i < length line → (getD line i 0 ≡ space → ⊥)

@@ -21,10 +21,11 @@ use Rattle.text.specs.Text.{same, onFirst, fieldsIn, Form, formsOf, fieldOf, va
 use Rattle.text.specs.Text.Form.{number, set, nothing}
 use Rattle.text.specs.Text.{space, dash, newline, isDecimal, isHexadecimal, digitsForm, digitValue, valueBehind, numberOf, setOf, dashOf}
 use Rattle.text.specs.Value.{digit, digitsOf, fieldWritten, fieldsWritten, lineWritten}
-use Rattle.fields.specs.DigitLaws.{Digit, digit-view, digit-small, number-small, set-small, dash-zero}
+use Rattle.reading.specs.TextLaws.{same-equal, forms-six, six-values, fits, allFit, valuesIn, lineFits}
+use Rattle.fields.specs.DigitLaws.{Digit, digit-view, digit-small}
 use Rattle.fields.specs.Field.{fieldLength, othersIn, lineFrom, lineBehind}
-use Rattle.fields.specs.FieldLaws.{same-equal, inFront, withValue, values-cons, values-split}
-use Rattle.fields.specs.FieldLaws.{fields-cut, kind-word, forms-six, line-none, line-some}
+use Rattle.fields.specs.FieldLaws.{inFront, withValue, values-cons, values-split}
+use Rattle.fields.specs.FieldLaws.{fields-cut, kind-word, line-none, line-some}
 use Rattle.fields.specs.KindLaws.{kind-of-word}
 use Rattle.fields.specs.DigitLaws.Digit.{decimal, letter, neither}
 
@@ -192,22 +193,6 @@ values-written (form ∷ forms) (field ∷ fields) e =
     let others = values-written forms fields others-are in
     (rw (← whole, field-written form field first-is, others .0), rw (← whole) (ap suc (others .1)))
 
--- the values of a line
-abbrev pub valuesIn : Line → List ℕ
-valuesIn l = l .id ∷ l .rel ∷ l .to ∷ l .reads ∷ l .writes ∷ l .tests ∷ []
-
--- six values are those of the line that they make
-six-values : (k : LineKind) (values : List ℕ) → length values ≡ 6 → valuesIn (lineWith k values) ≡ values
-unfolding lineWith
-six-values k [] e = absurd (omega arith)
-six-values k (a ∷ []) e = absurd (omega arith)
-six-values k (a ∷ b ∷ []) e = absurd (omega arith)
-six-values k (a ∷ b ∷ d ∷ []) e = absurd (omega arith)
-six-values k (a ∷ b ∷ d ∷ f ∷ []) e = absurd (omega arith)
-six-values k (a ∷ b ∷ d ∷ f ∷ g ∷ []) e = absurd (omega arith)
-six-values k (a ∷ b ∷ d ∷ f ∷ g ∷ h ∷ []) e = refl
-six-values k (a ∷ b ∷ d ∷ f ∷ g ∷ h ∷ i ∷ values) e = absurd (omega arith)
-
 -- a line as text, without the byte that ends it
 unfoldable pub lineText : Line → List ℕ
 lineText l = wordOf (l .kind) ++ fieldsWritten (formsOf (l .kind)) (valuesIn l)
@@ -259,21 +244,6 @@ line-unique bytes {l} e = rw (line-ended l, text-of-line bytes e)
 -- so one line has one text
 pub same-text : (bytes others : List ℕ) {l : Line} → lineOf bytes ≡ some l → lineOf others ≡ some l → bytes ≡ others
 same-text bytes others e f = text-of-line bytes e ∙ sym (text-of-line others f)
-
--- a value fits the form of its field
-unfoldable pub fits : Form → ℕ → Bool
-fits number n = ltb n 256
-fits set n = ltb n (2 ^ 64)
-fits nothing n = eqb n 0
-
-unfoldable pub allFit : List Form → List ℕ → Bool
-allFit [] [] = true
-allFit [] (n ∷ values) = false
-allFit (form ∷ forms) [] = false
-allFit (form ∷ forms) (n ∷ values) = fits form n && allFit forms values
-
-unfoldable pub lineFits : Line → Bool
-lineFits l = allFit (formsOf (l .kind)) (valuesIn l)
 
 -- the digits that a number below the base is written with
 digit-value : (n : ℕ) → n < 16 → (digitValue (digit n) ≡ n) × (isHexadecimal (digit n) ≡ true)
@@ -507,25 +477,3 @@ line-read l e =
       read .0,
       lineOf,
     )
-
--- a value that was read fits its form
-pub field-fits : (form : Form) (field : List ℕ) {n : ℕ} → fieldOf form field ≡ some n → fits form n ≡ true
-unfolding fieldOf fits
-field-fits number field {n} e = lt-ltb n 256 (number-small field e)
-field-fits set field {n} e = lt-ltb n (2 ^ 64) (set-small field e)
-field-fits nothing field {n} e = eq-eqb n 0 (dash-zero field e)
-
-values-fit : (forms : List Form) (fields : List (List ℕ)) {values : List ℕ} → valuesOf forms fields ≡ some values
-    → allFit forms values ≡ true
-unfolding valuesOf allFit
-values-fit [] [] {values} e = let empty : [] ≡ values = cc in rw (← empty)
-values-fit [] (field ∷ fields) e = cc
-values-fit (form ∷ forms) [] e = cc
-values-fit (form ∷ forms) (field ∷ fields) e =
-    let (n, vs, first-is, others-are, whole) = values-split form forms field fields e in
-    rw (← whole) (and-of (field-fits form field first-is) (values-fit forms fields others-are))
-
--- the values of a line that was read fit
-pub line-fits : (bytes : List ℕ) {l : Line} → lineOf bytes ≡ some l → lineFits l ≡ true
-unfolding lineFits
-line-fits bytes {l} e = values-fit (formsOf (l .kind)) _ (line-parts bytes e .1)

@@ -15,7 +15,7 @@ pub record Back (w : Workload) : Type 0 where
   pub isValue : valueOf (linesOf w) ≡ w
 
 pub written-back : (w : Workload) → Given w → Back w
-written-back w g = record { isRead = given-written w g; isValue = sym (given-value w g) }
+written-back w g = record { isRead = given-written w g; isValue = sym (given-value g) }
 
 -- so it does where the answer is yes
 pub decided-back : (w : Workload) {r : Bool} → Decided w r → r ≡ true → Back w

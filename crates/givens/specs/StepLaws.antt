@@ -20,7 +20,7 @@ use Rattle.text.specs.declared.Workload.{Workload}
 use Rattle.text.specs.Text.{unusedLine, namesLine, newline, formsOf}
 use Rattle.text.specs.Reading.{fault, noneOpen}
 use Rattle.text.specs.Value.{linesOf, lineWritten, linesWritten, written}
-use Rattle.fields.specs.Unique.{fits, allFit, lineFits}
+use Rattle.reading.specs.TextLaws.{fits, allFit, lineFits}
 use Rattle.writing.specs.Givens.{SoundLines, SoundValue, sound-given, given-sound}
 use Rattle.readstate.specs.Holds.{faultOf}
 use Rattle.lengths.specs.Size.{sizeOf}

@@ -2,6 +2,7 @@
 use mathlib.Core.Bool.{Bool, true, false, _&&_}
 use mathlib.Core.List.{List, [], _∷_, _++_, map}
 use mathlib.Core.Path.{_≡_, refl}
+use Prim.Native.Nat.{ℕ}
 use lib.Dec.{eqb}
 use Rattle.base.specs.Basic.{keep}
 use Rattle.text.specs.declared.Line.{Line}
@@ -13,7 +14,7 @@ use Rattle.graph.specs.Unfolding.{nodesOf}
 use Rattle.graph.specs.Edge.{Letter, Place, Edge, holds, at, stands, placesOf, placeAt, bothPass}
 use Rattle.graph.specs.Edge.Letter.{A, B, C, D, E}
 use Rattle.graph.specs.ExampleText.{line, rl, fk, pr, is, ks, ps, ku, pu, kd, pd, lo, br, el, en, li, edge}
-use Rattle.graph.specs.ExampleText.{counts, edges, backs, graph, isBackEdge, twice}
+use Rattle.graph.specs.ExampleText.{edges, backs, graph, isBackEdge, twice}
 
 -- ---- E0 to E2, E5, E6: letters, edges and their records
 
@@ -248,9 +249,9 @@ unfolding between
 E2-update = (refl, refl)
 
 -- E0: no edge between statements over two relations
-E0-two-relations : counts (rl 0 3 ∷ rl 1 3 ∷ pr 0 ∷ pu 0 0 3 3 3 ∷ pu 1 1 3 3 3 ∷ [])
-    ≡ record { programs = 1; nodes = 1; edges = 4; back = 2 }
-unfolding counts
+E0-two-relations : map {B = ℕ × ℕ} (λ e. (e .leaves, e .enters)) (edges (rl 0 3 ∷ rl 1 3 ∷ pr 0 ∷ pu 0 0 3 3 3 ∷ pu 1 1 3 3 3 ∷ []))
+    ≡ (0, 0) ∷ (0, 0) ∷ (1, 1) ∷ (1, 1) ∷ []
+unfolding edges
 E0-two-relations = refl
 
 -- E0: an edge may lead from a node to itself, and from a place to itself

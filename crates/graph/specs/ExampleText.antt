@@ -3,8 +3,7 @@ use mathlib.Core.Bool.{Bool}
 use mathlib.Core.List.{List, [], _∷_, map, flatMap}
 use Prim.Native.Nat.{ℕ}
 use lib.Count.{onesIn, trailingZeros}
-use lib.ListN.{length}
-use Rattle.base.specs.Basic.{count, keep, numbers}
+use Rattle.base.specs.Basic.{keep, numbers}
 use Rattle.text.specs.declared.Line.{Line}
 use Rattle.text.specs.declared.LineKind.{LineKind}
 use Rattle.text.specs.declared.LineKind.the-variants.{Rl, Fk, Pr, St, Lo, Br, El, En, Li}
@@ -97,23 +96,6 @@ edge node leaves into enters flow letter sharing lowest =
       letter = letter;
       sharing = sharing;
       lowest = lowest;
-    }
-
--- how many programs, nodes, edges and back edges it has, as the report's line tells them
-pub record Counts : Type 0 where
-  pub programs : ℕ
-  pub nodes : ℕ
-  pub edges : ℕ
-  pub back : ℕ
-
-unfoldable pub counts : List Line → Counts
-unfolding edges
-counts lines =
-    record {
-      programs = length (programsOf lines);
-      nodes = length (nodesOf lines);
-      edges = length (edges lines);
-      back = count (λ e. isBack (e .flow)) (edges lines);
     }
 
 -- the places that its back edges leave and enter

@@ -1,41 +1,11 @@
--- Small workloads that pin each rule of unfoldings (U) and walks (W), and the counts of document 01's examples (G).
+-- Small workloads that pin each rule of unfoldings (U) and walks (W).
 use mathlib.Core.Bool.{true, false}
 use mathlib.Core.List.{List, [], _∷_, map}
 use mathlib.Core.Path.{_≡_, refl}
 use Rattle.text.specs.declared.Line.{Line}
 use Rattle.graph.specs.Graph.{Flow}
-use Rattle.graph.specs.ExampleText.{rl, pr, is, ks, ps, ku, pu, kd, pd, lo, br, el, en, li, step}
-use Rattle.graph.specs.ExampleText.{counts, nodes, ids, dangerous, sizes, station, base, twice, select-first}
-
--- ---- G: document 01's examples
-
-G1-base : counts base ≡ record { programs = 2; nodes = 2; edges = 5; back = 1 }
-unfolding counts
-G1-base = refl
-
-G2-twice : counts twice ≡ record { programs = 2; nodes = 2; edges = 8; back = 2 }
-unfolding counts
-G2-twice = refl
-
-G3-linked : counts (station (ku 0 0 2 2 ∷ ks 1 1 2 ∷ li 0 1 0 ∷ [])) ≡ record { programs = 2; nodes = 2; edges = 7; back = 0 }
-unfolding counts
-G3-linked = refl
-
-G4-unlinked : counts (station (ku 0 0 2 2 ∷ ks 1 1 2 ∷ [])) ≡ record { programs = 2; nodes = 2; edges = 8; back = 1 }
-unfolding counts
-G4-unlinked = refl
-
-G5-select-first : counts select-first ≡ record { programs = 2; nodes = 2; edges = 8; back = 1 }
-unfolding counts
-G5-select-first = refl
-
-G6-names-alone : counts [] ≡ record { programs = 0; nodes = 0; edges = 0; back = 0 }
-unfolding counts
-G6-names-alone = refl
-
-G7-loop : counts (rl 0 3 ∷ rl 1 3 ∷ pr 0 ∷ lo ∷ ku 0 1 0 2 ∷ en ∷ []) ≡ record { programs = 1; nodes = 3; edges = 9; back = 0 }
-unfolding counts
-G7-loop = refl
+use Rattle.graph.specs.ExampleText.{rl, pr, is, ks, ps, ku, pu, kd, pd, lo, br, el, en, step}
+use Rattle.graph.specs.ExampleText.{nodes, ids, dangerous, sizes, base, twice, select-first}
 
 -- ---- U: unfoldings
 

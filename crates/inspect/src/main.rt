@@ -1,10 +1,12 @@
-// Shows what the parts make of workload texts: what is read, the unfoldings, the edges. Arguments are words and file names in order:
-// `--read`, `--unfold` and `--edges` say what is printed of the files behind them.
+// Shows what the parts make of workload texts: what is read, the unfoldings, the edges, the report. Arguments are words and file names in order:
+// `--read`, `--unfold`, `--edges` and `--report` say what is printed of the files behind them.
 
 use check::same;
 use edges::Edge;
 use libc::STDOUT_FILENO;
+use text::Line;
 use text::LineKind;
+use text::StatementKind;
 use text::Workload;
 ghost use Rattle.io.specs.Counts.{Counts};
 
@@ -14,22 +16,13 @@ enum Listing {
     Lines,
     Unfoldings,
     Edges,
+    Report,
 }
 
 // An argument: one of the words, or the name of a file.
 enum Argument {
     Word(Listing),
     File,
-}
-
-// How many lines of each sort there are.
-struct Sorts {
-    relations: u64,
-    keys: u64,
-    programs: u64,
-    statements: u64,
-    flow: u64,
-    links: u64,
 }
 
 // One more; no text has as many of anything as where it stops.
@@ -54,81 +47,75 @@ fn print_next(n: u64) {
     print_number(n);
 }
 
-fn print_refusal(number: u8, line: u64) {
+// A refusal in place of a list.
+fn print_refused(number: u8, line: u64) {
+    print(b"refused line\n");
     print_number(number as u64);
     print_next(line);
     print(b"\n");
 }
 
-// A refusal in place of a list.
-fn print_refused(number: u8, line: u64) {
-    print(b"refused line\n");
-    print_refusal(number, line);
-}
-
-// The counts with one line more.
-fn count_line(before: Sorts, kind: LineKind) -> Sorts {
-    let mut s = before;
+fn statement_number(kind: StatementKind) -> u64 {
     match kind {
-        LineKind::Rl => {
-            s.relations = more(s.relations);
-        }
-        LineKind::Fk => {
-            s.keys = more(s.keys);
-        }
-        LineKind::Pr => {
-            s.programs = more(s.programs);
-        }
-        LineKind::St(_) => {
-            s.statements = more(s.statements);
-        }
-        LineKind::Li => {
-            s.links = more(s.links);
-        }
-        LineKind::Lo | LineKind::Br | LineKind::El | LineKind::En => {
-            s.flow = more(s.flow);
-        }
+        StatementKind::Is => 1,
+        StatementKind::Ks => 2,
+        StatementKind::Ps => 3,
+        StatementKind::Ku => 4,
+        StatementKind::Pu => 5,
+        StatementKind::Kd => 6,
+        StatementKind::Pd => 7,
     }
-    s
 }
 
-// The lines of a workload, counted by sort.
-fn count_lines(w: Workload) -> Sorts {
-    let mut s = Sorts {
-        relations: 0,
-        keys: 0,
-        programs: 0,
-        statements: 0,
-        flow: 0,
-        links: 0,
-    };
-    let n = w.count;
+fn kind_number(kind: LineKind) -> u64 {
+    match kind {
+        LineKind::Rl => 8,
+        LineKind::Fk => 9,
+        LineKind::Pr => 10,
+        LineKind::St(k) => statement_number(k),
+        LineKind::Lo => 11,
+        LineKind::Br => 12,
+        LineKind::El => 13,
+        LineKind::En => 14,
+        LineKind::Li => 15,
+    }
+}
+
+// A sum with one value more; it depends on the order of the values.
+fn mix(sum: u64, value: u64) -> u64 {
+    (sum % 4294967291 * 31 + value % 4294967291) % 4294967291
+}
+
+// A sum with a line's seven values more.
+fn mix_line(before: u64, l: Line) -> u64 {
+    let kind = l.kind;
+    let a = mix(before, kind_number(kind));
+    let b = mix(a, l.id as u64);
+    let c = mix(b, l.rel as u64);
+    let d = mix(c, l.to as u64);
+    let e = mix(d, l.reads);
+    let f = mix(e, l.writes);
+    mix(f, l.tests)
+}
+
+// The sum of all cells, those behind the last line too.
+fn sum_cells(w: Workload) -> u64 {
+    let mut sum: u64 = 0;
     let mut i: usize = 0;
     while i < 1616 {
-        if n <= i {
-            return s;
-        }
         let l = w.lines[i];
-        let kind = l.kind;
-        s = count_line(s, kind);
+        sum = mix_line(sum, l);
         i += 1;
     }
-    s
+    sum
 }
 
-fn print_sorts(s: Sorts) {
-    print(b"accepted relations");
-    print_next(s.relations);
-    print(b" keys");
-    print_next(s.keys);
-    print(b" programs");
-    print_next(s.programs);
-    print(b" statements");
-    print_next(s.statements);
-    print(b" flow");
-    print_next(s.flow);
-    print(b" links");
-    print_next(s.links);
+// How many lines a value has, and the sum of its cells.
+fn list_lines(w: Workload) {
+    print(b"accepted lines");
+    print_next(w.count as u64);
+    print(b" sum");
+    print_next(sum_cells(w));
     print(b"\n");
 }
 
@@ -206,7 +193,7 @@ fn print_edges(table: &[u64]) {
     let mut from: usize = 0;
     let mut k: usize = 0;
     while k < n {
-        let step = edges::edge_from(table, from);
+        let step = finding::edge_from(table, from);
         let edge = step.edge;
         print_edge(edge);
         from = behind(step.slot);
@@ -237,20 +224,23 @@ fn list_edges(w: Workload) {
     print_edges(&table[..n]);
 }
 
-// The lines of a text by sort, or its refusal.
-fn show_lines(text: &[u8]) {
-    let parsed = reader::read_text(text);
-    let number = parsed.number;
-    if number != 0 {
-        print_refusal(number, parsed.line);
-        return;
+fn list_value(w: Workload, listing: Listing) {
+    match listing {
+        Listing::Lines => {
+            list_lines(w);
+        }
+        Listing::Unfoldings => {
+            list_unfoldings(w);
+        }
+        Listing::Edges => {
+            list_edges(w);
+        }
+        Listing::Nothing | Listing::Report => {}
     }
-    let w = parsed.work;
-    let s = count_lines(w);
-    print_sorts(s);
 }
 
-fn show_unfoldings(text: &[u8]) {
+// What a text is read into, or its refusal.
+fn show_value(text: &[u8], listing: Listing) {
     let parsed = reader::read_text(text);
     let number = parsed.number;
     if number != 0 {
@@ -258,31 +248,44 @@ fn show_unfoldings(text: &[u8]) {
         return;
     }
     let w = parsed.work;
-    list_unfoldings(w);
+    list_value(w, listing);
 }
 
-fn show_edges(text: &[u8]) {
-    let parsed = reader::read_text(text);
-    let number = parsed.number;
-    if number != 0 {
-        print_refused(number, parsed.line);
-        return;
+// The place behind the first line end from a place on, or the end.
+fn behind_line(bytes: &[u8], from: usize) -> usize
+    ensures { λ r. ⌜ Counts r (now (bytes .entry)) ⌝ }
+{
+    let mut i = from;
+    while i < bytes.len() {
+        if bytes[i] == b'\n' {
+            return i + 1;
+        }
+        i += 1;
     }
-    let w = parsed.work;
-    list_edges(w);
+    bytes.len()
+}
+
+// The first two lines of a report. Behind them stands a walk, whose choice is free.
+fn print_verdict(report: &[u8]) {
+    let n = behind_line(report, behind_line(report, 0));
+    print(&report[..n]);
+}
+
+fn show_report(text: &[u8]) {
+    let report = reporter::report_of(text);
+    let n = report.length;
+    let bytes = report.bytes;
+    print_verdict(&bytes[..n]);
 }
 
 fn show(text: &[u8], listing: Listing) {
     match listing {
         Listing::Nothing => {}
-        Listing::Lines => {
-            show_lines(text);
+        Listing::Lines | Listing::Unfoldings | Listing::Edges => {
+            show_value(text, listing);
         }
-        Listing::Unfoldings => {
-            show_unfoldings(text);
-        }
-        Listing::Edges => {
-            show_edges(text);
+        Listing::Report => {
+            show_report(text);
         }
     }
 }
@@ -311,6 +314,9 @@ fn argument_of(word: &[u8]) -> Argument {
     }
     if same(word, b"--edges") {
         return Argument::Word(Listing::Edges);
+    }
+    if same(word, b"--report") {
+        return Argument::Word(Listing::Report);
     }
     Argument::File
 }

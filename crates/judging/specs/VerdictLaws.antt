@@ -1,52 +1,49 @@
 -- From what the parts promise to what the verdict promises.
-use mathlib.Core.Bool.{Bool, true, false, cond, not}
-use mathlib.Core.List.{List, [], _∷_, _++_, flatMap}
+use mathlib.Core.Bool.{true, false, not}
+use mathlib.Core.List.{List, [], _∷_, flatMap}
 use mathlib.Core.Logic.{_⊎_, inl, inr}
-use mathlib.Core.Option.{Option, none, some, Option·none-ne-some}
+use mathlib.Core.Option.{Option, none, some}
 use mathlib.Core.Path.{_≡_, refl, sym, ap, subst, _∙_}
 use Prim.Native.Nat.{ℕ, zero, suc, _*_, _/_, _≤_, _<_}
 use native.Mathlib.Omega.{arith}
-use native.Mathlib.Numerals.{unary-clauses}
-use lib.Dec.{eqb, ltb}
+use lib.Dec.{eqb}
 use lib.ListN.{length, take}
-use borrow.Author.Tests.{ltb-true, ltb-false, lt-ltb, le-ltb, eq-eqb, ne-eqb}
-use Rattle.base.specs.BoolLaws.{or-false, true-false}
-use Rattle.text.specs.declared.Line.{Line}
+use borrow.Author.Tests.{ltb-false, lt-ltb, le-ltb, ne-eqb}
 use Rattle.text.specs.declared.Workload.{Workload}
 use Rattle.text.specs.Value.{Given, linesOf}
 use Rattle.graph.specs.Graph.{Graph}
-use Rattle.graph.specs.Unfolding.{nodesOf}
 use Rattle.graph.specs.Walk.{Step, isDangerous}
 use Rattle.soundness.specs.Theorem.{demand-3}
-use Rattle.report.specs.State.{StateRefusal, shortForWalk, statementsIn, tooMany, Counts, countsOf, summaryGraph, Danger, Robust, refusalOf}
-use Rattle.report.specs.State.StateRefusal.{not-given, too-many, too-short, taken}
+use Rattle.report.specs.State.{StateRefusal, shortForWalk, tooMany, Counts, countsOf, summaryGraph, Robust, refusalOf}
+use Rattle.report.specs.State.StateRefusal.{too-short, taken}
 use Rattle.detector.specs.Table.{tableWalk, shownWalk, shownIn, Shown, Answered}
 use Rattle.rows.specs.declared.Rows.{Rows}
 use Rattle.rows.specs.Rows.{RowsSettled}
 use Rattle.rows.specs.Whole.{Whole, whole-refused, whole-filled}
-use Rattle.picking.specs.declared.Picks.{Picks}
+use Rattle.picking.specs.declared.PickedEdges.{PickedEdges}
 use Rattle.picking.specs.Picks.{picksOf}
 use Rattle.deciding.specs.Verdict.{PickedVerdict, given-picked}
-use Rattle.detector.specs.declared.Found.{Found}
+use Rattle.detector.specs.declared.WalkFound.{WalkFound}
 use Rattle.judging.specs.declared.Verdict.{Verdict}
 use Rattle.judging.specs.Verdict.{refusedWith, robustWith, dangerWith, Word, Judged}
 use Rattle.judging.specs.Verdict.Word.{robust, danger}
 
-abbrev pub counted : ℕ → ℕ → ℕ → ℕ → Counts
-counted programs nodes edges back = record { programs = programs; nodes = nodes; edges = edges; back = back }
-
 -- the verdict's numbers as the code makes them: danger where the walk has a step
-unfoldable pub told : Counts → ℕ → Verdict
-told c steps =
+unfoldable pub told : ℕ → ℕ → ℕ → ℕ → ℕ → Verdict
+told programs nodes edges back steps =
     record {
       refusal = 0;
       danger = not (eqb steps 0);
-      programs = c .programs;
-      nodes = c .nodes;
-      edges = c .edges;
-      back = c .back;
+      programs = programs;
+      nodes = nodes;
+      edges = edges;
+      back = back;
       steps = steps;
     }
+
+-- the same with a workload's counts
+abbrev toldOf : Counts → ℕ → Verdict
+toldOf c steps = told (c .programs) (c .nodes) (c .edges) (c .back) steps
 
 -- a refusal leaves the area
 pub judged-refused : (w : Workload) (before : List ℕ) (r : Verdict) (n : ℕ)
@@ -87,10 +84,10 @@ module _ (w : Workload) (given : Given w) (few : tooMany (linesOf w) ≡ false) 
       → ((isDangerous (summaryGraph (linesOf w)) (tableWalk ahead behind) ≡ true) × (length (tableWalk ahead behind) ≤ 65))
       ⊎ ((tableWalk ahead behind ≡ []) × Robust (linesOf w))
       → (after : List ℕ) (steps : ℕ) → Shown (shownWalk ahead behind (length before)) before after steps
-      → Judged w before (told (countsOf (linesOf w)) steps) after
+      → Judged w before (toldOf (countsOf (linesOf w)) steps) after
   unfolding shortForWalk shownWalk told dangerWith robustWith
   judged-given room shows after steps shown =
-      judged-taken w before (told (countsOf (linesOf w)) steps) after refl (taken given few room) (go shows)
+      judged-taken w before (toldOf (countsOf (linesOf w)) steps) after refl (taken given few room) (go shows)
     where
       long : 260 ≤ length before
       long = let h = ltb-false (length before / 4) 65 room in omega arith
@@ -106,7 +103,7 @@ module _ (w : Workload) (given : Given w) (few : tooMany (linesOf w) ≡ false) 
 
       go : ((isDangerous (summaryGraph (linesOf w)) (tableWalk ahead behind) ≡ true) × (length (tableWalk ahead behind) ≤ 65))
           ⊎ ((tableWalk ahead behind ≡ []) × Robust (linesOf w))
-          → Word (linesOf w) before (told (countsOf (linesOf w)) steps) after
+          → Word (linesOf w) before (toldOf (countsOf (linesOf w)) steps) after
       go (inl (d, short)) =
           let word = danger (tableWalk ahead behind) d short in
           let some-step = not-empty (summaryGraph (linesOf w)) (tableWalk ahead behind) d steps many in
@@ -136,20 +133,21 @@ judged-short w table f filled before r settled long z short e =
     judged-refused w before r 19 (too-short (whole .given) (whole .few) (lt-ltb (length before / 4) 65 (omega arith))) e
 
 -- the counts told are the workload's
-counts-same : (w : Workload) (f : Rows) (table : List ℕ) (p : Picks) → Whole w f table → PickedVerdict (linesOf w) p
-    → counted (f .programs) (f .nodes) (p .edges) (p .back) ≡ countsOf (linesOf w)
+counts-same : (w : Workload) (f : Rows) (table : List ℕ) (p : PickedEdges) → Whole w f table → PickedVerdict (linesOf w) p
+    → (steps : ℕ) → told (f .programs) (f .nodes) (p .edges) (p .back) steps ≡ toldOf (countsOf (linesOf w)) steps
 unfolding countsOf
-counts-same w f table p whole picked = rw (whole .programs, whole .nodes, picked .edges, picked .back) refl
+counts-same w f table p whole picked steps = rw (whole .programs, whole .nodes, picked .edges, picked .back) refl
 
 -- what is picked from the table, and the walk that is found in it, are the verdict
-pub judged-picked : (w : Workload) (table : List ℕ) (f : Rows) (filled before after : List ℕ) (p : Picks) (walk : Found) (r : Verdict)
+pub judged-picked : (w : Workload) (table : List ℕ) (f : Rows) (filled before after : List ℕ) (p : PickedEdges) (walk : WalkFound) (r : Verdict)
     → RowsSettled w table f filled → length table ≡ 4096 → f .refusal ≡ 0 → 260 ≤ length before
     → p ≡ picksOf (take (f .places * 8) filled) → Answered (p .ahead) (p .behind) before after walk
-    → r ≡ told (counted (f .programs) (f .nodes) (p .edges) (p .back)) (walk .steps) → Judged w before r after
+    → r ≡ told (f .programs) (f .nodes) (p .edges) (p .back) (walk .steps) → Judged w before r after
 unfolding shortForWalk
 judged-picked w table f filled before after p walk r settled long z room picked answered e =
     let whole = whole-filled w table f filled settled long z in
     let verdict = given-picked w p (whole .given) (whole .few) (picked ∙ ap picksOf (whole .rows)) in
     subst (λ (v : Verdict). Judged w before v after)
-    (sym (e ∙ ap (λ (c : Counts). told c (walk .steps)) (counts-same w f filled p whole verdict)))
-    (judged-given w (whole .given) (whole .few) before (p .ahead) (p .behind) (le-ltb (length before / 4) 65 (omega arith)) (verdict .verdict) after (walk .steps) (answered .shown))
+    (sym (e ∙ counts-same w f filled p whole verdict (walk .steps)))
+    (judged-given w (whole .given) (whole .few) before (p .ahead) (p .behind) (le-ltb (length before / 4) 65 (omega arith)) (verdict .verdict)
+    after (walk .steps) (answered .shown))

@@ -3,9 +3,8 @@
 use rows::Rows;
 use text::Workload;
 ghost use mathlib.Core.Path.{_≡_};
-ghost use Rattle.report.specs.State.{Counts};
 ghost use Rattle.judging.specs.Verdict.{refusedWith, Judged};
-ghost use Rattle.judging.specs.VerdictLaws.{told, counted};
+ghost use Rattle.judging.specs.VerdictLaws.{told};
 
 // The refusal's number, or 0 and the verdict: danger or robust, the counts, and how many steps the shown walk has.
 pub struct Verdict {
@@ -18,6 +17,7 @@ pub struct Verdict {
     pub steps: u64,
 }
 
+// The verdict that is a refusal: its number, and nothing else told.
 fn refused(number: u8) -> Verdict
     ensures { λ r. ⌜ r ≡ refusedWith number ⌝ }
 {
@@ -34,7 +34,7 @@ fn refused(number: u8) -> Verdict
 
 // The verdict without a refusal: danger where the shown walk has a step.
 fn judged(f: Rows, edges: u64, back: u64, steps: usize) -> Verdict
-    ensures { λ r. ⌜ r ≡ told (counted (f .programs) (f .nodes) edges back) steps ⌝ }
+    ensures { λ r. ⌜ r ≡ told (f .programs) (f .nodes) edges back steps ⌝ }
 {
     Verdict {
         refusal: 0,

@@ -223,9 +223,9 @@ roomOf s kind =
       | St k ↦ eqb (s .programs) 0 || (ltb (s .statements .count) 32 && ltb (s .body) 64)
       | Lo ↦ eqb (s .programs) 0 || (ltb (s .body) 64 && ltb (s .stack .depth) 8)
       | Br ↦ eqb (s .programs) 0 || (ltb (s .body) 64 && ltb (s .stack .depth) 8)
-      | El ↦ eqb (s .programs) 0 || (ltb 0 1 && ltb (s .body) 64)
-      | En ↦ eqb (s .programs) 0 || (ltb 0 1 && ltb (s .body) 64)
-      | Li ↦ eqb (s .programs) 0 || (ltb 0 1 && ltb (s .links) 32)
+      | El ↦ eqb (s .programs) 0 || ltb (s .body) 64
+      | En ↦ eqb (s .programs) 0 || ltb (s .body) 64
+      | Li ↦ eqb (s .programs) 0 || ltb (s .links) 32
     ]
 
 abbrev pub inBodyOf : ℕ → ℕ → Bool
@@ -244,9 +244,9 @@ orderedOf s kind =
       | St k ↦ inBodyOf (s .programs) (s .links)
       | Lo ↦ inBodyOf (s .programs) (s .links)
       | Br ↦ inBodyOf (s .programs) (s .links)
-      | El ↦ inBodyOf (s .programs) (s .links) && innermostOf (s .stack) 1 && true
+      | El ↦ inBodyOf (s .programs) (s .links) && innermostOf (s .stack) 1
       | En ↦ inBodyOf (s .programs) (s .links) && (innermostOf (s .stack) 0 || innermostOf (s .stack) 2)
-      | Li ↦ not (eqb (s .programs) 0) && eqb (s .stack .depth) 0 && true
+      | Li ↦ not (eqb (s .programs) 0) && eqb (s .stack .depth) 0
     ]
 
 -- R6
@@ -256,7 +256,7 @@ namedAs s l kind =
       | Rl ↦ eqb (l .id) (s .tables .relations)
       | Fk ↦ eqb (l .id) (s .tables .keys) && ltb (l .rel) (s .tables .relations) && ltb (l .to) (s .tables .relations)
       | Pr ↦ eqb (l .id) (s .programs)
-      | St k ↦ eqb (l .id) (s .statements .count) && ltb (l .rel) (s .tables .relations) && true
+      | St k ↦ eqb (l .id) (s .statements .count) && ltb (l .rel) (s .tables .relations)
       | Lo ↦ true
       | Br ↦ true
       | El ↦ true
@@ -271,7 +271,7 @@ setsFitAs t l kind =
       | Rl ↦ not (eqb (l .reads) 0)
       | St k ↦
           let whole = getD (t .sets) (l .rel) 0 in
-          (within (l .reads) whole && within (l .writes) whole && within (l .tests) whole) && kindSets whole k l && true
+          (within (l .reads) whole && within (l .writes) whole && within (l .tests) whole) && kindSets whole k l
       | Fk ↦ true
       | Pr ↦ true
       | Lo ↦ true
@@ -294,7 +294,6 @@ linkFitsOf t x l =
     && eqb (getD (x .relations) (l .to) 0) (getD (t .parents) (l .id) 0)
     && eqb (getD (x .parental) (l .to) 0) 1)
     && blocksWithinOf x (l .to) (l .rel)
-    && true
 
 unfoldable pub isLinkOf : LineKind → Bool
 isLinkOf kind =

@@ -1,4 +1,4 @@
--- What reading keeps of the lines taken so far.
+-- What reading keeps of the lines taken so far. Each list is an array of 32 words; past the count, and past depth 8, they are not looked at.
 use mathlib.Core.List.{List}
 use Prim.Native.Nat.{ℕ}
 

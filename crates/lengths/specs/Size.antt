@@ -5,7 +5,7 @@ use lib.Dec.{eqb}
 use lib.ListN.{length}
 use Rattle.text.specs.declared.Line.{Line}
 use Rattle.text.specs.Value.{lineWritten}
-use Rattle.fields.specs.Unique.{lineFits}
+use Rattle.reading.specs.TextLaws.{lineFits}
 
 unfoldable pub isZero : ℕ → Bool
 isZero n = eqb n 0

@@ -18,7 +18,7 @@ use Rattle.text.specs.declared.StatementKind.the-variants.{Is, Ks, Ps, Ku, Pu, 
 use Rattle.text.specs.Text.{Form, newline, formsOf, wordOf}
 use Rattle.text.specs.Text.Form.{number, set, nothing}
 use Rattle.text.specs.Value.{digit, digitsOf, fieldWritten, fieldsWritten, lineWritten}
-use Rattle.fields.specs.Unique.{fits, allFit, lineFits, valuesIn}
+use Rattle.reading.specs.TextLaws.{fits, allFit, lineFits, valuesIn}
 use Rattle.fields.specs.Field.{numberIf, setIf, formsWith}
 use Rattle.lengths.specs.Size.{isZero, sizeOf}
 

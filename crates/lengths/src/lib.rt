@@ -10,7 +10,7 @@ ghost use Rattle.base.specs.Basic.{all};
 ghost use Rattle.text.specs.declared.LineKind.the-variants.{St};
 ghost use Rattle.text.specs.Text.{formsOf};
 ghost use Rattle.text.specs.Value.{digitsOf};
-ghost use Rattle.fields.specs.Unique.{allFit, lineFits, valuesIn};
+ghost use Rattle.reading.specs.TextLaws.{allFit, lineFits, valuesIn};
 ghost use Rattle.lengths.specs.Size.{isZero, sizeOf};
 
 fn decimal_digits(n: u8) -> u64

@@ -1,2 +1,4 @@
+pub mod Going
+pub mod GoingLaws
 pub mod Span
 pub mod SpanLaws

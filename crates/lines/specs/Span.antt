@@ -14,7 +14,7 @@ unfoldable pub lineLength : List ℕ → ℕ
 lineLength [] = 0
 lineLength (b ∷ text) = cond (eqb b newline) 0 (suc (lineLength text))
 
--- a line of a text, from a place on: where it ends, the place behind it, and the number of the line there
+-- the line at a place: where it ends, and the place and the number of the next line
 unfoldable pub spanAt : List ℕ → ℕ → ℕ → Span
 spanAt text place line =
     let end = place + lineLength (drop place text) in
@@ -22,7 +22,7 @@ spanAt text place line =
       start = place;
       end = end;
       next = cond (ltb end (length text)) (end + 1) end;
-      line = cond (ltb line 18446744073709551615) (line + 1) line;
+      behind = cond (ltb line 18446744073709551615) (line + 1) line;
     }
 
 abbrev pub pickStep : Bool → Step → Step → Step

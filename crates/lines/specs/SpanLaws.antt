@@ -56,6 +56,6 @@ span-past text at line {span} e h =
     ∙ ap (λ t. cond t (here + 1) here) (lt-ltb here (length text) (omega arith))
     ∙ ap (λ m. m + 1) (sym end)
 
-pub span-line : (text : List ℕ) (at line : ℕ) {span : Span} → span ≡ spanAt text at line → line < 65536 → span .line ≡ line + 1
+pub span-line : (text : List ℕ) (at line : ℕ) {span : Span} → span ≡ spanAt text at line → line < 65536 → span .behind ≡ line + 1
 unfolding spanAt
-span-line text at line e n = ap (λ (x : Span). x .line) e ∙ ap (λ t. cond t (line + 1) line) (lt-ltb line 18446744073709551615 (omega arith))
+span-line text at line e n = ap (λ (x : Span). x .behind) e ∙ ap (λ t. cond t (line + 1) line) (lt-ltb line 18446744073709551615 (omega arith))

@@ -13,12 +13,12 @@ pub struct Reader<'a> {
     pub line: u64,
 }
 
-// A line of a text: where it starts and ends, the place behind it, and the number of the line that begins there.
+// A line of a text: where it starts and ends, the next place, and the number of the line behind, which begins there.
 pub struct Span {
     pub start: usize,
     pub end: usize,
     pub next: usize,
-    pub line: u64,
+    pub behind: u64,
 }
 
 // The next line, where there is one.
@@ -70,12 +70,12 @@ pub fn line_span(text: &[u8], place: usize, line: u64) -> Span
         start: place,
         end,
         next: place_behind(end, text.len()),
-        line: number_behind(line),
+        behind: number_behind(line),
     }
 }
 
-// The line at a place of any text, with the number of the line behind it.
-pub fn line_at(text: &[u8], place: usize, line: u64) -> Step
+// The line at a place of any text, where there is one.
+fn line_at(text: &[u8], place: usize, line: u64) -> Step
     ensures { λ r. ⌜ r ≡ lineAt (now (text .entry)) place line ⌝ }
 {
     if place < text.len() {

@@ -2,7 +2,7 @@
 use mathlib.Core.Bool.{Bool, true, false, cond, _&&_}
 use mathlib.Core.List.{List, [], _∷_, map}
 use mathlib.Core.Option.{Option, none, some}
-use mathlib.Core.Path.{_≡_, refl, sym, ap, _∙_}
+use mathlib.Core.Path.{_≡_, refl, sym, _∙_}
 use Prim.Native.Nat.{ℕ, zero, suc, _+_, _*_, _%_, _^_, _≤_, _<_}
 use native.Mathlib.Nat.{zero-add, one-mul, mod-eq-of-lt}
 use lib.Pow.{pow-lt}
@@ -10,7 +10,6 @@ use native.Mathlib.Numerals.{add-one}
 use native.Mathlib.Omega.{arith}
 use lib.ListN.{length, getD, getElem?, set, take, length-map}
 use lib.Seq.{take-suc, take-suc-set, take-all}
-use lib.Dec.{ltb}
 use borrow.Author.Tests.{lt-ltb, le-ltb}
 use Rattle.base.specs.Basic.{numbers}
 use Rattle.base.specs.ListLaws.{some-injective, length-numbersFrom, getElem?-numbersFrom}
@@ -20,6 +19,7 @@ use Rattle.text.proofs.Workload.{the-type}
 use Rattle.choosing.specs.Codes.{codeOf, codesOf, idsOf, markIn, bitIn, marksOf}
 use Rattle.text.specs.declared.StatementKind.{StatementKind}
 use Rattle.graph.specs.Edge.{shields}
+use Rattle.linetables.specs.Tables.{idTables, placeTables}
 
 -- a value has as many cells as its form in memory, which is known by its type
 pub cells-known : (w : Workload) → length (the-type .to w .1 .0) ≡ 1616 → length (w .lines) ≡ 1616
@@ -96,3 +96,14 @@ bit-small k id x h p e = e ∙ sym (rw (h, lt-ltb id 32 p))
 -- a shifted bit
 pub bit-shifted : (id : ℕ) → id < 32 → (1 * 2 ^ id) % 4294967296 ≡ 2 ^ id
 bit-shifted id h = rw one-mul (mod-eq-of-lt (pow-lt h))
+
+-- the tables put together
+pub ids-made : (lines : List Line) (codes words : List ℕ) → codes ≡ codesOf lines → words ≡ idsOf lines
+    → record { codes = codes; words = words } ≡ idTables lines
+unfolding idTables
+ids-made lines codes words c w = rw (c, w)
+
+pub places-made : (lines : List Line) (codes words marks : List ℕ) → codes ≡ codesOf lines → words ≡ numbers 1616 → marks ≡ marksOf lines
+    → record { codes = codes; words = words; marks = marks } ≡ placeTables lines
+unfolding placeTables
+places-made lines codes words marks c w m = rw (c, w, m)

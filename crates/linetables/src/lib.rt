@@ -7,6 +7,20 @@ ghost use mathlib.Core.Path.{_≡_};
 ghost use Rattle.base.specs.Basic.{numbers};
 ghost use Rattle.graph.specs.Edge.{shields};
 ghost use Rattle.choosing.specs.Codes.{codeOf, codesOf, idsOf, bitIn, markIn, marksOf};
+ghost use Rattle.linetables.specs.Tables.{idTables, placeTables};
+
+// What statement ids are written from: the kinds of the lines as numbers, and their ids.
+pub struct IdTables {
+    pub codes: [u8; 1616],
+    pub words: [u16; 1616],
+}
+
+// What words for places are written from: the kinds of the lines as numbers, their own numbers, and their marks.
+pub struct PlaceTables {
+    pub codes: [u8; 1616],
+    pub words: [u16; 1616],
+    pub marks: [u32; 1616],
+}
 
 fn code_of(k: LineKind) -> u8
     ensures { λ r. ⌜ r ≡ codeOf k ⌝ }
@@ -43,7 +57,7 @@ fn code_of(k: LineKind) -> u8
 }
 
 // The kinds of all cells of a workload value, as numbers.
-pub fn codes_in(w: Workload) -> [u8; 1616]
+fn codes_in(w: Workload) -> [u8; 1616]
     ensures { λ r. ⌜ r ≡ codesOf (w .lines) ⌝ }
 {
     let mut codes = [0u8; 1616];
@@ -64,7 +78,7 @@ fn wide(x: u8) -> u16
 }
 
 // The ids of all cells.
-pub fn ids_in(w: Workload) -> [u16; 1616]
+fn ids_in(w: Workload) -> [u16; 1616]
     ensures { λ r. ⌜ r ≡ idsOf (w .lines) ⌝ }
 {
     let mut ids = [0u16; 1616];
@@ -78,7 +92,7 @@ pub fn ids_in(w: Workload) -> [u16; 1616]
 }
 
 // Each cell's own number.
-pub fn numbers_of_lines() -> [u16; 1616]
+fn numbers_of_lines() -> [u16; 1616]
     ensures { λ r. ⌜ r ≡ numbers 1616 ⌝ }
 {
     let mut words = [0u16; 1616];
@@ -166,7 +180,7 @@ fn mark_of(k: LineKind, id: u8) -> u32
 }
 
 // The marks of all cells: the bit of a statement's id where its kind shields, else 0.
-pub fn marks_in(w: Workload) -> [u32; 1616]
+fn marks_in(w: Workload) -> [u32; 1616]
     ensures { λ r. ⌜ r ≡ marksOf (w .lines) ⌝ }
 {
     let mut marks = [0u32; 1616];
@@ -178,4 +192,28 @@ pub fn marks_in(w: Workload) -> [u32; 1616]
         i += 1;
     }
     marks
+}
+
+pub fn id_tables(w: Workload) -> IdTables
+    ensures { λ r. ⌜ r ≡ idTables (w .lines) ⌝ }
+{
+    let codes = codes_in(w);
+    let words = ids_in(w);
+    IdTables {
+        codes: codes,
+        words: words,
+    }
+}
+
+pub fn place_tables(w: Workload) -> PlaceTables
+    ensures { λ r. ⌜ r ≡ placeTables (w .lines) ⌝ }
+{
+    let codes = codes_in(w);
+    let words = numbers_of_lines();
+    let marks = marks_in(w);
+    PlaceTables {
+        codes: codes,
+        words: words,
+        marks: marks,
+    }
 }

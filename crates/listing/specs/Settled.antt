@@ -1,20 +1,19 @@
 -- What the open functions promise for every workload value.
-use mathlib.Core.Bool.{Bool, true, false}
-use mathlib.Core.List.{List, [], _++_, map}
+use mathlib.Core.Bool.{true, false}
+use mathlib.Core.List.{List, _++_, map}
 use mathlib.Core.Option.{Option, none, some}
 use mathlib.Core.Path.{_≡_}
-use Prim.Native.Nat.{ℕ, _≤_}
-use lib.ListN.{length, take, drop, getElem?}
+use Prim.Native.Nat.{ℕ}
+use lib.ListN.{length, drop, getElem?}
 use Rattle.text.specs.declared.Workload.{Workload}
 use Rattle.text.specs.Value.{linesOf}
 use Rattle.graph.specs.Unfolding.{nodesOf}
 use Rattle.graph.specs.Edge as E
 use Rattle.report.specs.State.{StateRefusal, countsOf, shortForEdges, refusalOf}
 use Rattle.edges.specs.declared.Edge.{Edge}
-use Rattle.edges.specs.Slots.{coded, noEdge, tableEdges}
+use Rattle.edges.specs.Slots.{coded, noEdge}
 use Rattle.listing.specs.declared.EdgeCounts.{EdgeCounts}
 use Rattle.listing.specs.declared.EdgeAnswer.{EdgeAnswer}
-use Rattle.listing.specs.declared.Prepared.{Prepared}
 
 -- the edges of a workload
 abbrev pub edgesIn : Workload → List E.Edge
@@ -49,11 +48,3 @@ pub record PutSettled (w : Workload) (before : List Edge) (r : ℕ) (after : Lis
   pub refusal : StateRefusal w (shortForEdges (linesOf w) (length before)) (refusalOf r)
   pub refused : (n : ℕ) → refusalOf r ≡ some n → after ≡ before
   pub put : refusalOf r ≡ none → after ≡ map coded (edgesIn w) ++ drop (length (edgesIn w)) before
-
--- a step: what is put is what the first words of the table have as edges, and a refusal leaves no word
-pub record PreparedFor (w : Workload) (room : ℕ) (p : Prepared) : Type 0 where
-  pub refusal : StateRefusal w (shortForEdges (linesOf w) room) (refusalOf (p .refusal))
-  pub inside : p .words ≤ 4096
-  pub whole : length (p .table) ≡ 4096
-  pub refused : (n : ℕ) → refusalOf (p .refusal) ≡ some n → tableEdges (take (p .words) (p .table)) ≡ []
-  pub ready : refusalOf (p .refusal) ≡ none → (tableEdges (take (p .words) (p .table)) ≡ edgesIn w) × (length (edgesIn w) ≤ room)

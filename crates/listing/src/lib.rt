@@ -2,12 +2,13 @@
 
 use edges::Edge;
 use edges::count_edges;
-use edges::edge_of_number;
 use edges::no_edge;
-use edges::put_edges;
+use putting::edge_of_number;
+use putting::put_edges;
 use rows::fill_rows;
 use text::Workload;
-ghost use Rattle.listing.specs.Settled.{CountsSettled, EdgeSettled, PutSettled, PreparedFor};
+ghost use Rattle.listing.specs.Settled.{CountsSettled, EdgeSettled, PutSettled};
+ghost use Rattle.listing.specs.Steps.{TabledFor, PreparedFor};
 
 // The number of the refusal, or 0 and how many edges there are, and how many of them are back edges.
 pub struct EdgeCounts {
@@ -16,34 +17,55 @@ pub struct EdgeCounts {
     pub back: u64,
 }
 
-// The number of the refusal, or 0 and the edge asked for, if there is one; else an edge of zeros.
+// The number of the refusal, or 0 and the edge asked for, if there is one; else what `no_edge` gives.
 pub struct EdgeAnswer {
     pub refusal: u8,
     pub found: bool,
     pub edge: Edge,
 }
 
-// A workload's table, ready for an area with some room: the number of the refusal, or 0; the words of the table that count.
+// A workload's table: the number of the refusal, or 0; the words of the table that count.
 struct Prepared {
     refusal: u8,
     words: usize,
     table: [u64; 4096],
 }
 
-// How many edges a workload has.
-pub fn edge_counts(w: Workload) -> EdgeCounts
-    ensures { λ r. ⌜ CountsSettled w r ⌝ }
+// The table of a workload, or the refusal and no words of the table.
+fn tabled(w: Workload) -> Prepared
+    ensures { λ r. ⌜ TabledFor w r ⌝ }
 {
     let mut table = [0u64; 4096];
     let r = fill_rows(w, &mut table);
     if r.refusal != 0 {
-        return EdgeCounts {
+        return Prepared {
             refusal: r.refusal,
+            words: 0,
+            table: table,
+        };
+    }
+    let n = (r.places * 8) as usize;
+    Prepared {
+        refusal: 0,
+        words: n,
+        table: table,
+    }
+}
+
+// How many edges a workload has.
+pub fn edge_counts(w: Workload) -> EdgeCounts
+    ensures { λ r. ⌜ CountsSettled w r ⌝ }
+{
+    let t = tabled(w);
+    if t.refusal != 0 {
+        return EdgeCounts {
+            refusal: t.refusal,
             edges: 0,
             back: 0,
         };
     }
-    let n = (r.places * 8) as usize;
+    let n = t.words;
+    let table = t.table;
     let c = count_edges(&table[..n]);
     EdgeCounts {
         refusal: 0,
@@ -56,17 +78,17 @@ pub fn edge_counts(w: Workload) -> EdgeCounts
 pub fn edge_number(w: Workload, k: u64) -> EdgeAnswer
     ensures { λ r. ⌜ EdgeSettled w k r ⌝ }
 {
-    let mut table = [0u64; 4096];
-    let r = fill_rows(w, &mut table);
-    if r.refusal != 0 {
+    let t = tabled(w);
+    if t.refusal != 0 {
         let none = no_edge();
         return EdgeAnswer {
-            refusal: r.refusal,
+            refusal: t.refusal,
             found: false,
             edge: none,
         };
     }
-    let n = (r.places * 8) as usize;
+    let n = t.words;
+    let table = t.table;
     let f = edge_of_number(&table[..n], k as usize);
     let e = f.edge;
     EdgeAnswer {
@@ -80,16 +102,12 @@ pub fn edge_number(w: Workload, k: u64) -> EdgeAnswer
 fn prepare(w: Workload, room: usize) -> Prepared
     ensures { λ r. ⌜ PreparedFor w room r ⌝ }
 {
-    let mut table = [0u64; 4096];
-    let r = fill_rows(w, &mut table);
-    if r.refusal != 0 {
-        return Prepared {
-            refusal: r.refusal,
-            words: 0,
-            table: table,
-        };
+    let t = tabled(w);
+    if t.refusal != 0 {
+        return t;
     }
-    let n = (r.places * 8) as usize;
+    let n = t.words;
+    let table = t.table;
     let c = count_edges(&table[..n]);
     if room < c.edges {
         return Prepared {
@@ -98,11 +116,7 @@ fn prepare(w: Workload, room: usize) -> Prepared
             table: table,
         };
     }
-    Prepared {
-        refusal: 0,
-        words: n,
-        table: table,
-    }
+    t
 }
 
 // Puts the edges of a workload at the front of an area; the rest of the area stays as it was. A refusal leaves all of it.
@@ -112,6 +126,6 @@ pub fn put_workload_edges<'a>(w: Workload, out: &'a mut [Edge]) -> u8
     let p = prepare(w, out.len());
     let n = p.words;
     let table = p.table;
-    put_edges(&table[..n], out);
+    let _count = put_edges(&table[..n], out);
     p.refusal
 }

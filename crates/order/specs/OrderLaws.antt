@@ -1,8 +1,8 @@
--- The laws of the search for an order: an order is one in which every dependency points forward, a walk is closed, and
--- no order exists where a closed walk does.
-use mathlib.Core.Bool.{Bool, true, false, cond, not, _&&_, _||_, and-eq-true-iff, false≢true, true≢false}
-use mathlib.Core.List.{List, [], _∷_}
-use mathlib.Core.Logic.{_⊎_, inl, inr, _≢_, _↔_}
+-- The laws of the search: an order that is found is one in which every dependency points forward, and a walk that is found is closed.
+use mathlib.Core.Bool.{Bool, true, false, cond, not, _||_, false≢true, true≢false}
+use mathlib.Core.List.{List, [], _∷_, List·Memᴰ}
+use mathlib.Core.List.List·Memᴰ.{List·Memᴰ·head, List·Memᴰ·tail}
+use mathlib.Core.Logic.{_⊎_, inl, inr, _≢_}
 use mathlib.Core.Option.{Option, none, some}
 use mathlib.Core.Path.{_≡_, refl, sym, ap, _∙_}
 use native.Mathlib.Nat.{zero-add}
@@ -12,6 +12,7 @@ use borrow.Author.Tests.{eqb-true, eqb-false, eq-eqb, ne-eqb, ltb-true, ltb-fals
 use lib.Dec.{eqb, ltb}
 use lib.ListN.{length, getElem?}
 use Rattle.base.specs.Basic.{any, all, first, count, pairsTo, around, numbersFrom, numbers}
+use Rattle.base.specs.ListLaws as L
 use Rattle.order.specs.Order.{Found, remove, until, put, precedes, free, predecessor, back, stuck, place, search, InOrder, ClosedWalk}
 use Rattle.order.specs.Order.Found.{ordered, circular}
 
@@ -19,48 +20,35 @@ use Rattle.order.specs.Order.Found.{ordered, circular}
 abbrev Member : ℕ → List ℕ → Type 0
 Member i l = 0 < count (eqb i) l
 
+-- what stands in the list is counted
+member-counted : {l : List ℕ} {i : ℕ} → List·Memᴰ i l → Member i l
+member-counted {i} (List·Memᴰ·head {x = y} {xs = l} e) = rw (eq-eqb i y e) (omega arith)
+member-counted {i} (List·Memᴰ·tail {x = y} {xs = l} m) = omega (arith, member-counted m)
+
+-- what is counted stands in the list
+counted-member : (l : List ℕ) (i : ℕ) → Member i l → List·Memᴰ i l
+counted-member [] i m = absurd (omega arith)
+counted-member (y ∷ l) i m = go (eqb i y) refl (counted-member l i)
+  where
+    go : (t : Bool) → eqb i y ≡ t → (Member i l → List·Memᴰ i l) → List·Memᴰ i (y ∷ l)
+    go true e k = List·Memᴰ·head (eqb-true i y e)
+    go false e k = List·Memᴰ·tail (k (rw (e, zero-add) at m))
+
 -- what is found passes the test and stands in the list
 first-some : (p : ℕ → Bool) (l : List ℕ) (x : ℕ) → first p l ≡ some x → (p x ≡ true) × Member x l
-first-some p [] x e = let z : _≡_ {A = ℕ} 0 1 = cc in absurd (omega arith)
-first-some p (y ∷ l) x e = go (p y) refl e (first-some p l x)
-  where
-    go : (t : Bool) → p y ≡ t → cond t (some y) (first p l) ≡ some x → (first p l ≡ some x → (p x ≡ true) × Member x l) →
-        (p x ≡ true) × Member x (y ∷ l)
-    go true q e h = (cc, rw (eq-eqb x y cc) (omega arith))
-    go false q e h = let m = h e in (m .0, omega arith)
+first-some p l x e = let t = L.first-some p l e in (t .1, member-counted (t .0))
 
 -- where nothing is found, nothing passes the test
 first-none : (p : ℕ → Bool) (l : List ℕ) → first p l ≡ none → any p l ≡ false
-first-none p [] e = refl
-first-none p (y ∷ l) e = go (p y) refl e (first-none p l)
-  where
-    go : (t : Bool) → p y ≡ t → cond t (some y) (first p l) ≡ none → (first p l ≡ none → any p l ≡ false) → any p (y ∷ l) ≡ false
-    go true q e h = let z : _≡_ {A = ℕ} 0 1 = cc in absurd (omega arith)
-    go false q e h = rw q (h e)
+first-none p l e = L.any-none p l (λ x m. L.first-none p e m)
 
--- a test that no element passes fails for each
-any-false : (p : ℕ → Bool) (l : List ℕ) → any p l ≡ false → (x : ℕ) → Member x l → p x ≡ false
-any-false p [] e x m = absurd (omega arith)
-any-false p (y ∷ l) e x m = go (p y) refl (eqb x y) refl (any-false p l)
-  where
-    go : (t : Bool) → p y ≡ t → (u : Bool) → eqb x y ≡ u → (any p l ≡ false → (x : ℕ) → Member x l → p x ≡ false) → p x ≡ false
-    go true q u s h = absurd (true≢false (rw q at e))
-    go false q true s h = rw (eqb-true x y s) q
-    go false q false s h = h (rw q at e) x (rw (s, zero-add) at m)
+-- what stands at a place of the list is an element
+position-member : (l : List ℕ) (a i : ℕ) → getElem? l a ≡ some i → Member i l
+position-member l a i e = member-counted (L.getElem?-member l a e)
 
--- a test that some element passes, with the element
-any-true : (p : ℕ → Bool) (l : List ℕ) → any p l ≡ true → (x : ℕ) × (p x ≡ true) × Member x l
-any-true p [] e = absurd (false≢true e)
-any-true p (y ∷ l) e = go (p y) refl (any-true p l)
-  where
-    go : (t : Bool) → p y ≡ t → (any p l ≡ true → (x : ℕ) × (p x ≡ true) × Member x l) → (x : ℕ) × (p x ≡ true) × Member x (y ∷ l)
-    go true q h = (y, q, rw (eq-eqb y y refl) (omega arith))
-    go false q h = let (x, r, m) = h (rw q at e) in (x, r, omega arith)
-
--- a test that each element passes
-all-true : (p : ℕ → Bool) (l : List ℕ) → ((x : ℕ) → Member x l → p x ≡ true) → all p l ≡ true
-all-true p [] h = refl
-all-true p (y ∷ l) h = rw (h y (rw (eq-eqb y y refl) (omega arith))) (all-true p l (λ x m. h x (omega arith)))
+-- each element has a place
+member-position : (l : List ℕ) (i : ℕ) → Member i l → (a : ℕ) × (getElem? l a ≡ some i)
+member-position l i m = L.member-getElem? (counted-member l i m)
 
 -- a test that passes only where another does counts no more
 count-more : (p q : ℕ → Bool) (l : List ℕ) → ((x : ℕ) → p x ≡ true → q x ≡ true) → count p l ≤ count q l
@@ -85,15 +73,6 @@ count-less p q (y ∷ l) h x m s r = go (eqb x y) refl (count-less p q l h x)
         let g : q y ≡ true = cc in
         rw (f, g) (omega (arith, count-more p q l h))
     go false e k = omega (arith, count-more p q (y ∷ []) h, k (rw (e, zero-add) at m) s r)
-
--- a test counts at most every element
-count-length : (p : ℕ → Bool) (l : List ℕ) → count p l ≤ length l
-count-length p [] = omega arith
-count-length p (y ∷ l) = go (p y) refl (count-length p l)
-  where
-    go : (t : Bool) → p y ≡ t → count p l ≤ length l → count p (y ∷ l) ≤ suc (length l)
-    go true e k = rw e (omega arith)
-    go false e k = rw e (omega arith)
 
 -- the elements of i ∷ l stand in another list if i does and those of l do
 member-cons : (i : ℕ) (l others : List ℕ) → Member i others → ((x : ℕ) → Member x l → Member x others) →
@@ -124,23 +103,6 @@ length-remove (y ∷ l) j m = go (eqb j y) refl (length-remove l j)
     go true e k = rw e refl
     go false e k = rw e (omega (arith, k (rw (e, zero-add) at m)))
 
--- each element is below all that follow it
-abbrev Ascending : List ℕ → Type 0
-Ascending [] = Unit {0}
-Ascending (x ∷ l) = ((y : ℕ) → Member y l → x < y) × Ascending l
-
--- in an ascending list, what is below the first element that passes fails
-first-lowest : (p : ℕ → Bool) (l : List ℕ) → Ascending l → (x : ℕ) → first p l ≡ some x → (y : ℕ) → Member y l → y < x → p y ≡ false
-first-lowest p [] up x e y m h = absurd (omega arith)
-first-lowest p (z ∷ l) up x e y m h = go (p z) refl (eqb y z) refl e (first-lowest p l (up .1) x)
-  where
-    go : (t : Bool) → p z ≡ t → (u : Bool) → eqb y z ≡ u → cond t (some z) (first p l) ≡ some x →
-        (first p l ≡ some x → (y : ℕ) → Member y l → y < x → p y ≡ false) → p y ≡ false
-    go true q true r e k = let same : z ≡ x = cc in absurd (omega (arith, eqb-true y z r))
-    go true q false r e k = let same : z ≡ x = cc in absurd (omega (arith, up .0 y (rw (r, zero-add) at m)))
-    go false q true r e k = rw (eqb-true y z r) q
-    go false q false r e k = k e y (rw (r, zero-add) at m) h
-
 -- what is left once one is removed stood in the list
 count-rest : (p : ℕ → Bool) (l : List ℕ) (i : ℕ) → count (eqb i) (remove p l) ≤ count (eqb i) l
 count-rest p [] i = omega arith
@@ -150,15 +112,6 @@ count-rest p (y ∷ l) i = go (p y) refl (count-rest p l i)
         count (eqb i) (cond (p y) l (y ∷ remove p l)) ≤ count (eqb i) (y ∷ l)
     go true e k = rw e (omega arith)
     go false e k = rw e (omega arith)
-
--- a list stays ascending when one is removed
-ascending-remove : (l : List ℕ) (j : ℕ) → Ascending l → Ascending (remove (eqb j) l)
-ascending-remove [] j up = tt
-ascending-remove (x ∷ l) j up = go (eqb j x) refl (ascending-remove l j (up .1))
-  where
-    go : (t : Bool) → eqb j x ≡ t → Ascending (remove (eqb j) l) → Ascending (cond (eqb j x) l (x ∷ remove (eqb j) l))
-    go true e k = rw e (up .1)
-    go false e k = rw e (λ y m. up .0 y (omega (arith, count-rest (eqb j) l y)), k)
 
 -- what stands before the first element that passes stands in the list
 count-until : (p : ℕ → Bool) (l : List ℕ) (i : ℕ) → count (eqb i) (until p l) ≤ count (eqb i) l
@@ -198,18 +151,6 @@ numbers-once n i = go (ltb i n) refl
     go true e = rw e (numbers-within n 0 i (omega arith) (omega (arith, ltb-true i n e)))
     go false e = rw e (numbers-high n 0 i (omega (arith, ltb-false i n e)))
 
--- the numbers are ascending
-numbers-ascending : (n a : ℕ) → Ascending (numbersFrom a n)
-numbers-ascending zero a = tt
-numbers-ascending (suc n) a = (above, numbers-ascending n (suc a))
-  where
-    above : (y : ℕ) → Member y (numbersFrom (suc a) n) → a < y
-    above y m = go (ltb a y) refl
-      where
-        go : (t : Bool) → ltb a y ≡ t → a < y
-        go true e = ltb-true a y e
-        go false e = absurd (omega (arith, numbers-low n (suc a) y (omega (arith, ltb-false a y e))))
-
 -- in a list that holds each number below n once and nothing else, a number below n stands once
 once-count : (n : ℕ) (l : List ℕ) (i : ℕ) → count (eqb i) l ≡ cond (ltb i n) 1 0 → i < n → count (eqb i) l ≡ 1
 once-count n l i e h = rw (lt-ltb i n h) at e
@@ -221,34 +162,6 @@ once-below n l i e m = go (ltb i n) refl
     go : (t : Bool) → ltb i n ≡ t → i < n
     go true f = ltb-true i n f
     go false f = let z = rw f at e in absurd (omega arith)
-
--- there are n numbers below n
-length-numbers : (a n : ℕ) → length (numbersFrom a n) ≡ n
-length-numbers a zero = refl
-length-numbers a (suc n) = ap suc (length-numbers (suc a) n)
-
--- what stands at a place of the list is an element
-position-member : (l : List ℕ) (a i : ℕ) → getElem? l a ≡ some i → Member i l
-position-member [] a i e = let z : _≡_ {A = ℕ} 0 1 = cc in absurd (omega arith)
-position-member (y ∷ l) zero i e = rw (eq-eqb i y cc) (omega arith)
-position-member (y ∷ l) (suc a) i e = omega (arith, position-member l a i e)
-
--- each element has a place
-member-position : (l : List ℕ) (i : ℕ) → Member i l → (a : ℕ) × (getElem? l a ≡ some i)
-member-position [] i m = absurd (omega arith)
-member-position (y ∷ l) i m = go (eqb i y) refl (member-position l i)
-  where
-    go : (t : Bool) → eqb i y ≡ t → (Member i l → (a : ℕ) × (getElem? l a ≡ some i)) → (a : ℕ) × (getElem? (y ∷ l) a ≡ some i)
-    go true e k = (0, cc (eqb-true i y e))
-    go false e k = let at = k (rw (e, zero-add) at m) in (suc (at .0), at .1)
-
--- an element that stands in the list once has one place
-position-once : (l : List ℕ) (i : ℕ) → count (eqb i) l ≤ 1 → (a b : ℕ) → getElem? l a ≡ some i → getElem? l b ≡ some i → a ≡ b
-position-once [] i once a b e f = let z : _≡_ {A = ℕ} 0 1 = cc in absurd (omega arith)
-position-once (y ∷ l) i once zero zero e f = refl
-position-once (y ∷ l) i once zero (suc b) e f = let k = rw (eq-eqb i y cc) at once in absurd (omega (arith, position-member l b i f))
-position-once (y ∷ l) i once (suc a) zero e f = let k = rw (eq-eqb i y cc) at once in absurd (omega (arith, position-member l a i e))
-position-once (y ∷ l) i once (suc a) (suc b) e f = ap suc (position-once l i (omega arith) a b e f)
 
 -- a test that fails in both ways fails in the second
 not-or : (s t : Bool) → not (s || t) ≡ true → not t ≡ true
@@ -272,13 +185,10 @@ linked-until r i y (x ∷ l) k e = go (eqb i x) refl (linked-until r i x l (k .1
     go false q h = rw (q, k .0) (h (rw q at e))
 
 module _ (before : ℕ → ℕ → Bool) where
-  -- the order holds what was left, as often as it was left; no later one precedes an earlier one; and what is lower than one that
-  -- was taken before it has a predecessor that was not taken yet
+  -- the order holds what was left, as often as it was left; and no later one precedes an earlier one
   record Arranged (unplaced order : List ℕ) : Type 0 where
     same : (i : ℕ) → count (eqb i) order ≡ count (eqb i) unplaced
     rising : (i j a b : ℕ) → getElem? order a ≡ some i → getElem? order b ≡ some j → precedes before i j ≡ true → a < b
-    lowest : (j k a b : ℕ) → getElem? order a ≡ some j → getElem? order b ≡ some k → a < b → k < j →
-        (i c : ℕ) × (a ≤ c) × (getElem? order c ≡ some i) × (precedes before i k ≡ true)
 
   -- the walk is closed and stays among what was left
   record Circuit (unplaced walk : List ℕ) : Type 0 where
@@ -297,7 +207,6 @@ module _ (before : ℕ → ℕ → Bool) where
       record {
         same = λ i. refl;
         rising = λ i j a b p q r. let z : _≡_ {A = ℕ} 0 1 = cc in absurd (omega arith);
-        lowest = λ j k a b p q r h. let z : _≡_ {A = ℕ} 0 1 = cc in absurd (omega arith);
       }
 
   -- a predecessor is another transaction with a dependency
@@ -350,9 +259,9 @@ module _ (before : ℕ → ℕ → Bool) where
       go (some i) e rest = cut i e (any (eqb i) (j ∷ path)) refl rest
 
   -- a transaction that no unplaced one precedes may stand in front of an order of the others
-  put-facts : (unplaced : List ℕ) (j : ℕ) → Ascending unplaced → free before unplaced ≡ some j →
+  put-facts : (unplaced : List ℕ) (j : ℕ) → free before unplaced ≡ some j →
       (f : Found) → Facts (remove (eqb j) unplaced) f → Facts unplaced (put j f)
-  put-facts unplaced j up e (ordered order) h = record { same = same; rising = rising; lowest = lowest }
+  put-facts unplaced j e (ordered order) h = record { same = same; rising = rising }
     where
       found : (not (any (λ i. precedes before i j) unplaced) ≡ true) × Member j unplaced
       found = first-some (λ j. not (any (λ i. precedes before i j) unplaced)) unplaced j e
@@ -366,24 +275,11 @@ module _ (before : ℕ → ℕ → Bool) where
       rising i k (suc a) zero p q r =
           let unpreceded = not-true (any (λ i. precedes before i j) unplaced) (found .0) in
           let inside : Member i unplaced = omega (arith, position-member (j ∷ order) (suc a) i p, same i) in
-          let unrelated = any-false (λ i. precedes before i j) unplaced unpreceded i inside in
+          let unrelated = L.any-false (λ i. precedes before i j) unpreceded (counted-member unplaced i inside) in
           let z : _≡_ {A = ℕ} 0 1 = cc in
           absurd (omega arith)
       rising i k (suc a) (suc b) p q r = omega (arith, h .rising i k a b p q r)
-
-      lowest : (i k a b : ℕ) → getElem? (j ∷ order) a ≡ some i → getElem? (j ∷ order) b ≡ some k → a < b → k < i →
-          (l c : ℕ) × (a ≤ c) × (getElem? (j ∷ order) c ≡ some l) × (precedes before l k ≡ true)
-      lowest i k a zero p q r s = absurd (omega arith)
-      lowest i k zero (suc b) p q r s =
-          let same-one : j ≡ i = cc in
-          let inside : Member k unplaced = omega (arith, position-member (j ∷ order) (suc b) k q, same k) in
-          let preceded = not-false (any (λ i. precedes before i k) unplaced)
-          (first-lowest (λ j. not (any (λ i. precedes before i j) unplaced)) unplaced up j e k inside (omega arith)) in
-          let (l, f, m) = any-true (λ i. precedes before i k) unplaced preceded in
-          let (c, g) = member-position (j ∷ order) l (omega (arith, same l)) in
-          (l, c, omega arith, g, f)
-      lowest i k (suc a) (suc b) p q r s = let (l, c, t, g, f) = h .lowest i k a b p q (omega arith) s in (l, suc c, omega arith, g, f)
-  put-facts unplaced j up e (circular walk) h =
+  put-facts unplaced j e (circular walk) h =
       record {
         not-empty = h .not-empty;
         linked = h .linked;
@@ -395,7 +291,7 @@ module _ (before : ℕ → ℕ → Bool) where
   free-none unplaced e j m f =
       let none-free = first-none (λ j. not (any (λ i. precedes before i j) unplaced)) unplaced e in
       let preceded : any (λ i. precedes before i j) unplaced ≡ true =
-      not-false _ (any-false (λ j. not (any (λ i. precedes before i j) unplaced)) unplaced none-free j m) in
+      not-false _ (L.any-false (λ j. not (any (λ i. precedes before i j) unplaced)) none-free (counted-member unplaced j m)) in
       true≢false (sym preceded ∙ first-none (λ i. precedes before i j) unplaced f)
 
   -- where no unplaced transaction can be taken: none is left, or there is a closed walk
@@ -404,41 +300,30 @@ module _ (before : ℕ → ℕ → Bool) where
   stuck-facts [] e = nothing-left
   stuck-facts (j ∷ l) e =
       let fewer : count (λ i. not (any (eqb i) (j ∷ []))) (j ∷ l) < suc (length l) =
-      rw (eq-eqb j j refl) (omega (arith, count-length (λ i. not (any (eqb i) (j ∷ []))) l)) in
+      rw (eq-eqb j j refl) (omega (arith, L.count-keep (λ i. not (any (eqb i) (j ∷ []))) l, L.length-keep (λ i. not (any (eqb i) (j ∷ []))) l)) in
       back-facts (j ∷ l) (free-none (j ∷ l) e) (suc (length l)) j [] fewer (λ i m. omega arith) tt
 
   -- taking one after the other ends in an order of them all or in a closed walk
-  place-facts : (n : ℕ) (unplaced : List ℕ) → Ascending unplaced → length unplaced ≤ n → Facts unplaced (place before n unplaced)
+  place-facts : (n : ℕ) (unplaced : List ℕ) → length unplaced ≤ n → Facts unplaced (place before n unplaced)
   unfolding place
-  place-facts zero [] up h = nothing-left
-  place-facts zero (j ∷ l) up h = absurd (omega arith)
-  place-facts (suc n) unplaced up h = go (free before unplaced) refl (place-facts n)
+  place-facts zero [] h = nothing-left
+  place-facts zero (j ∷ l) h = absurd (omega arith)
+  place-facts (suc n) unplaced h = go (free before unplaced) refl (place-facts n)
     where
       go : (o : Option ℕ) → free before unplaced ≡ o →
-          ((unplaced : List ℕ) → Ascending unplaced → length unplaced ≤ n → Facts unplaced (place before n unplaced)) →
+          ((unplaced : List ℕ) → length unplaced ≤ n → Facts unplaced (place before n unplaced)) →
           Facts unplaced (place before (suc n) unplaced)
       go none e rest = rw (e, place) (stuck-facts unplaced e)
       go (some j) e rest =
           let found = first-some (λ j. not (any (λ i. precedes before i j) unplaced)) unplaced j e in
           let others = remove (eqb j) unplaced in
           let shorter : length others ≤ n = omega (arith, length-remove unplaced j (found .1)) in
-          rw (e, place) (put-facts unplaced j up e (place before n others) (rest others (ascending-remove unplaced j up) shorter))
+          rw (e, place) (put-facts unplaced j e (place before n others) (rest others shorter))
 
   -- the search ends in an order of all transactions or in a closed walk among them
   search-facts : (n : ℕ) → Facts (numbers n) (search before n)
   unfolding search
-  search-facts n = place-facts n (numbers n) (numbers-ascending n 0) (omega (arith, length-numbers 0 n))
-
-  -- an order in which each dependency points forward has, of two transactions with a dependency, the first at the earlier place
-  pub in-order-rising : (n : ℕ) {order : List ℕ} → InOrder before n order → (i j a b : ℕ) →
-      getElem? order a ≡ some i → getElem? order b ≡ some j → before i j ≡ true → (i ≡ j → ⊥) → a < b
-  in-order-rising n {order} o i j a b p q e d =
-      let i-below = once-below n order i (o .each-once i) (position-member order a i p) in
-      let j-below = once-below n order j (o .each-once j) (position-member order b j q) in
-      let f = o .forward i j i-below j-below d e in
-      let i-place = position-once order i (omega (arith, once-count n order i (o .each-once i) i-below)) a (f .0) p (f .3) in
-      let j-place = position-once order j (omega (arith, once-count n order j (o .each-once j) j-below)) b (f .1) q (f .4) in
-      omega (arith, f .2)
+  search-facts n = place-facts n (numbers n) (omega (arith, L.length-numbersFrom 0 n))
 
   -- each transaction stands in the order exactly once, and nothing else does
   pub ordered-each-once : (n : ℕ) {order : List ℕ} → search before n ≡ ordered order → (i : ℕ) → count (eqb i) order ≡ cond (ltb i n) 1 0
@@ -457,47 +342,13 @@ module _ (before : ℕ → ℕ → Bool) where
       let (b, q) = member-position order j (omega (arith, once-count n order j (ordered-each-once n e j) k)) in
       (a, b, ordered-rising n e i j a b p q f d, p, q)
 
-  -- a transaction lower than one that stands at an earlier place has a predecessor at that place or behind it: always the lowest
-  -- transaction with no unplaced predecessor was taken
-  pub ordered-lowest : (n : ℕ) {order : List ℕ} → search before n ≡ ordered order → (j k a b : ℕ) →
-      getElem? order a ≡ some j → getElem? order b ≡ some k → a < b → k < j →
-      (i c : ℕ) × (a ≤ c) × (getElem? order c ≡ some i) × (before i k ≡ true) × (i ≡ k → ⊥)
-  ordered-lowest n {order} e j k a b p q h l =
-      let (i, c, r, at, f) = (rw e at (search-facts n)) .lowest j k a b p q h l in
-      let (dependency, different) = precedes-parts i k f in
-      (i, c, r, at, dependency, different)
-
   -- the walk is closed
   pub circular-walk : (n : ℕ) {walk : List ℕ} → search before n ≡ circular walk → ClosedWalk before n walk
   circular-walk n {walk} e =
       let c = rw e at (search-facts n) in
       let below : (i : ℕ) → Member i walk → ltb i n ≡ true =
       λ i m. lt-ltb i n (once-below n (numbers n) i (numbers-once n i) (c .unplaced-only i m)) in
-      record { not-empty = c .not-empty; linked = c .linked; below = all-true (λ i. ltb i n) walk below }
-
-  -- along a walk that leads on to `end`, the places in such an order rise
-  walk-rising : (n : ℕ) {order : List ℕ} → InOrder before n order → (end b : ℕ) → getElem? order b ≡ some end →
-      (i : ℕ) (l : List ℕ) → all (λ i. ltb i n) l ≡ true → all (λ pair. precedes before (pair .0) (pair .1)) (pairsTo end (i ∷ l)) ≡ true →
-      (a : ℕ) → getElem? order a ≡ some i → a < b
-  walk-rising n o end b q i [] h e a p =
-      let (first, rest) = and-eq-true-iff (precedes before i end) true .0 e in
-      let (f, d) = precedes-parts i end first in
-      in-order-rising n o i end a b p q f d
-  walk-rising n {order} o end b q i (j ∷ l) h e a p =
-      let later = all (λ pair. precedes before (pair .0) (pair .1)) (pairsTo end (j ∷ l)) in
-      let (first, rest) = and-eq-true-iff (precedes before i j) later .0 e in
-      let (j-below, below) = and-eq-true-iff (ltb j n) (all (λ i. ltb i n) l) .0 h in
-      let (f, d) = precedes-parts i j first in
-      let (k, r) = member-position order j (omega (arith, once-count n order j (o .each-once j) (ltb-true j n j-below))) in
-      omega (arith, in-order-rising n o i j a k p r f d, walk-rising n o end b q j l below rest k r)
-
-  -- where a closed walk exists, no order has every dependency pointing forward
-  pub closed-walk-no-order : (n : ℕ) {walk order : List ℕ} → ClosedWalk before n walk → InOrder before n order → ⊥
-  closed-walk-no-order n {walk = []} c o = c .not-empty refl
-  closed-walk-no-order n {walk = i ∷ l} {order} c o =
-      let (i-below, below) = and-eq-true-iff (ltb i n) (all (λ i. ltb i n) l) .0 (c .below) in
-      let (a, p) = member-position order i (omega (arith, once-count n order i (o .each-once i) (ltb-true i n i-below))) in
-      omega (arith, walk-rising n o i a p i l below (c .linked) a p)
+      record { not-empty = c .not-empty; linked = c .linked; below = L.all-of (λ i. ltb i n) walk (λ i m. below i (member-counted m)) }
 
   -- the search ends in an order or in a closed walk, and says which
   pub search-cases : (n : ℕ) →
@@ -510,28 +361,3 @@ module _ (before : ℕ → ℕ → Bool) where
           ⊎ ((walk : List ℕ) × (search before n ≡ circular walk) × ClosedWalk before n walk)
       go (ordered order) e = inl (order, e, record { each-once = ordered-each-once n e; forward = ordered-forward n e })
       go (circular walk) e = inr (walk, e, circular-walk n e)
-
-  -- where a closed walk exists, the search finds one
-  pub closed-walk-circular : (n : ℕ) {walk : List ℕ} → ClosedWalk before n walk → (found : List ℕ) × (search before n ≡ circular found)
-  closed-walk-circular n {walk} c = elim (search-cases n) [ inl o ↦ absurd (closed-walk-no-order n c (o .2)) | inr w ↦ (w .0, w .1) ]
-
-  -- where an order has every dependency pointing forward, the search finds one
-  pub in-order-ordered : (n : ℕ) {order : List ℕ} → InOrder before n order → (found : List ℕ) × (search before n ≡ ordered found)
-  in-order-ordered n {order} o = elim (search-cases n) [ inl f ↦ (f .0, f .1) | inr w ↦ absurd (closed-walk-no-order n (w .2) o) ]
-
-  -- the search finds a closed walk exactly if no order has every dependency pointing forward
-  pub circular-exactly : (n : ℕ) → ((walk : List ℕ) × (search before n ≡ circular walk)) ↔ ((order : List ℕ) → InOrder before n order → ⊥)
-  circular-exactly n = (λ w order o. closed-walk-no-order n (circular-walk n (w .1)) o, otherwise)
-    where
-      otherwise : ((order : List ℕ) → InOrder before n order → ⊥) → (walk : List ℕ) × (search before n ≡ circular walk)
-      otherwise h = elim (search-cases n) [ inl f ↦ absurd (h (f .0) (f .2)) | inr w ↦ (w .0, w .1) ]
-
--- 3 before 1 and a dependency of 2 on itself: the lowest that can be taken comes next
-search-order : search (λ i j. eqb i 3 && eqb j 1 || eqb i 2 && eqb j 2) 5 ≡ ordered (0 ∷ 2 ∷ 3 ∷ 1 ∷ 4 ∷ [])
-unfolding search place
-search-order = refl
-
--- 3 before 1, 1 before 4, 4 before 3 and 0: 2 is placed, and the steps back start at 0, which is not on the walk
-search-walk : search (λ i j. eqb i 3 && eqb j 1 || eqb i 1 && eqb j 4 || eqb i 4 && (eqb j 3 || eqb j 0)) 5 ≡ circular (4 ∷ 3 ∷ 1 ∷ [])
-unfolding search place stuck back
-search-walk = refl

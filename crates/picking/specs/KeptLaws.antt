@@ -19,7 +19,7 @@ use Rattle.tables.specs.declared.Row.{Row}
 use Rattle.tables.specs.Table.{rowAt, rowCount, rowForward, rowBack, rowEdge, rowEdges, tableRows, edgesOfRows}
 use Rattle.tables.specs.TableLaws.{flatMap-map}
 use Rattle.edges.specs.Slots.{tableEdges, tableCounts}
-use Rattle.picking.specs.declared.Picks.{Picks}
+use Rattle.picking.specs.declared.PickedEdges.{PickedEdges}
 use Rattle.picking.specs.Picks.{forwardWord, backWord, greatest, standsIn, wordFor, between, wordsBetween, picksOf}
 use Rattle.picking.specs.Kept.{keptAt, hasEntries, keptPair, keptRow, keptRows, sumBelow, tallyOf, edgesAt, backAt, rowSum, rowsSum, RowsKept}
 
@@ -269,7 +269,7 @@ pair-back p q = go (rowForward p q) (rowBack p q)
 -- what is promised: all rows with all rows
 pub all-picked : (table : List ℕ) (n i : ℕ) {ahead behind : List ℕ} {edges back : ℕ} → n ≡ rowCount table → i ≤ n → n ≤ i
     → RowsKept table n i ahead behind edges back
-    → _≡_ {A = Picks} (record { ahead = ahead; behind = behind; edges = edges; back = back }) (picksOf table)
+    → _≡_ {A = PickedEdges} (record { ahead = ahead; behind = behind; edges = edges; back = back }) (picksOf table)
 unfolding picksOf tableCounts
 all-picked table n i rows most least h = λ k. record {
   ahead = (h .aheadKept ∙ ap (keptRows forwardWord table n) end ∙ kept-all forwardWord table n rows) k;

@@ -9,7 +9,7 @@ use Rattle.tables.specs.declared.Row.{Row}
 use Rattle.tables.specs.Table.{rowForward, rowBack, tableRows}
 use Rattle.edges.specs.Slots.{tableCounts}
 use Rattle.detector.specs.Coding.{aheadWord, behindWord}
-use Rattle.picking.specs.declared.Picks.{Picks}
+use Rattle.picking.specs.declared.PickedEdges.{PickedEdges}
 
 -- the word of the forward edge between two rows, 0 where none stands; W4: by its kind the left row may be loose
 unfoldable pub forwardWord : Row → Row → ℕ
@@ -41,7 +41,7 @@ unfoldable pub wordsBetween : (Row → Row → ℕ) → List Row → List ℕ
 wordsBetween word rows = map (λ x. between word rows (x / 64) (x % 64)) (numbers 4096)
 
 -- what is promised of a table of rows
-unfoldable pub picksOf : List ℕ → Picks
+unfoldable pub picksOf : List ℕ → PickedEdges
 picksOf table = record {
   ahead = wordsBetween forwardWord (tableRows table);
   behind = wordsBetween backWord (tableRows table);

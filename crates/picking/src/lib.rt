@@ -15,7 +15,7 @@ use tables::Row;
 use text::StatementKind;
 
 // The tables for the detector, the word for nodes u and v at u * 64 + v, and how many edges and back edges there are.
-pub struct Picks {
+pub struct PickedEdges {
     pub ahead: [u64; 4096],
     pub behind: [u64; 4096],
     pub edges: u64,
@@ -28,7 +28,7 @@ struct Tally {
     back: u64,
 }
 
-// Whether an edge that leaves this kind makes a pair dangerous.
+// Whether a place of this kind is loose: an edge that leaves it makes a pair dangerous with any back edge behind it (W4).
 fn is_loose(k: StatementKind) -> bool
     ensures { λ r. ⌜ r ≡ loosens k ⌝ }
 {
@@ -43,7 +43,7 @@ fn is_loose(k: StatementKind) -> bool
     }
 }
 
-// Whether a row has entries in the tables.
+// Whether the tables have room for a row's edges: its node is below 64 and its place below 1024.
 fn has_entries(p: Row) -> bool
     ensures { λ r. ⌜ r ≡ hasEntries p ⌝ }
 {
@@ -53,7 +53,7 @@ fn has_entries(p: Row) -> bool
     false
 }
 
-// The word of a forward edge, 0 where none stands.
+// The word of a forward edge from place i to place j, 0 where none stands. The greater the word, the more back edges make a dangerous pair with it.
 fn ahead_word(stands: bool, loose: bool, i: u64, j: u64) -> u64
     requires { ⌜ (i < 1024) × (j < 1024) ⌝ }
     ensures { λ r. ⌜ r ≡ cond stands (aheadWord loose i j) 0 ⌝ }
@@ -67,7 +67,7 @@ fn ahead_word(stands: bool, loose: bool, i: u64, j: u64) -> u64
     0
 }
 
-// The word of a back edge, 0 where none stands.
+// The word of a back edge from place k to place l, 0 where none stands. The greater the word, the earlier the place that it leaves.
 fn behind_word(stands: bool, k: u64, l: u64) -> u64
     requires { ⌜ (k < 1024) × (l < 1024) ⌝ }
     ensures { λ r. ⌜ r ≡ cond stands (behindWord k l) 0 ⌝ }
@@ -78,7 +78,7 @@ fn behind_word(stands: bool, k: u64, l: u64) -> u64
     0
 }
 
-// Keeps the greater word at x.
+// Keeps at x the greater of the word that stands there and the word given.
 fn keep_word(words: &mut [u64; 4096], x: usize, word: u64)
     requires { ⌜ x < 4096 ⌝ }
     ensures { λ _. ⌜ now (words .exit) ≡ keptAt (now (words .entry)) x word ⌝ }
@@ -88,7 +88,7 @@ fn keep_word(words: &mut [u64; 4096], x: usize, word: u64)
     }
 }
 
-// How many edges stand between two rows.
+// How many edges stand between two rows, by whether a forward and a back edge does.
 fn tally_of(forward: bool, back: bool) -> Tally
     ensures { λ r. ⌜ r ≡ tallyOf forward back ⌝ }
 {
@@ -104,7 +104,7 @@ fn tally_of(forward: bool, back: bool) -> Tally
     Tally { edges: 0, back: 0 }
 }
 
-// Counts the edges between two rows and keeps their words.
+// Counts the edges from row p to row q, and keeps their words for the nodes of the two where the tables have room.
 fn pick_pair(p: Row, q: Row, ahead: &mut [u64; 4096], behind: &mut [u64; 4096]) -> Tally
     ensures { λ r. ⌜ PairKept p q (now (ahead .entry)) (now (behind .entry)) (now (ahead .exit)) (now (behind .exit)) r ⌝ }
 {
@@ -126,7 +126,7 @@ fn pick_pair(p: Row, q: Row, ahead: &mut [u64; 4096], behind: &mut [u64; 4096]) 
     t
 }
 
-// Counts the edges between row i and each of the first n rows, and keeps their words.
+// Counts the edges from row i to each of the first n rows, and keeps their words.
 fn pick_row(
     table: &[u64],
     n: usize,
@@ -152,7 +152,7 @@ fn pick_row(
 }
 
 // Counts the edges of a table, and picks for each pair of nodes below 64 the forward and the back edge that stand for all.
-pub fn pick_edges(table: &[u64]) -> Picks
+pub fn pick_edges(table: &[u64]) -> PickedEdges
     ensures { λ r. ⌜ r ≡ picksOf (now (table .entry)) ⌝ }
 {
     let n = row_count(table);
@@ -167,7 +167,7 @@ pub fn pick_edges(table: &[u64]) -> Picks
         back += t.back;
         i += 1;
     }
-    Picks {
+    PickedEdges {
         ahead,
         behind,
         edges,

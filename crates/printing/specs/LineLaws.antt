@@ -1,17 +1,15 @@
 -- The lines of the reports, written part by part.
 use mathlib.Core.List.{List, [], _∷_, _++_}
-use mathlib.Core.Path.{_≡_, refl, sym, ap, ap₂, _∙_}
+use mathlib.Core.Path.{_≡_, refl, ap}
 use Prim.Native.Nat.{ℕ, _+_, _*_, _≤_, min}
 use native.Mathlib.Omega.{arith}
 use lib.ListN.{length, getD, replicate}
 use Rattle.text.specs.Text.{newline, space}
-use Rattle.graph.specs.Graph.{Flow}
-use Rattle.graph.specs.Walk.{Step}
 use Rattle.report.specs.State.{Counts}
 use Rattle.report.specs.Report.{verdictNames, robustWord, dangerWord, stepNames, refusedNames, decimal, flowLetter, verdictLine, stepLine, stepLines}
 use Rattle.report.specs.Report.{refusalReport, robustReport, dangerReport}
 use Rattle.printing.specs.declared.Printed.{Printed}
-use Rattle.printing.specs.Printed.{printedAs, flowOf, stepAt, stepsIn, walkIn, Put}
+use Rattle.printing.specs.Printed.{printedAs, verdictLines, flowOf, stepAt, stepsIn, walkIn, Put}
 use Rattle.printing.specs.PutLaws.{put-both, put-most, put-same, printed-is}
 
 -- a space and a number
@@ -25,17 +23,18 @@ pub flow-put : (word : ℕ) {letter at a b r : ℕ} {l₀ l₁ l₂ after : List
     → Put (space ∷ flowLetter (flowOf word) ∷ newline ∷ []) 3 at l₀ r after
 flow-put word e p q t = put-same (ap (λ (x : ℕ). space ∷ x ∷ newline ∷ []) e) (put-both (put-both p q) t)
 
--- a word, four counts and the line's end
-pub verdict-put : (k : Counts) {word : List ℕ} {at a b c d e r : ℕ} {l₀ l₁ l₂ l₃ l₄ l₅ after : List ℕ} → length word ≤ 6
+-- the names, then a word, four counts and the line's end
+pub verdict-put : (k : Counts) {word : List ℕ} {at a b c d e r : ℕ} {before l₀ l₁ l₂ l₃ l₄ l₅ after : List ℕ} → length word ≤ 6
+    → Put verdictNames 34 0 before at l₀
     → Put word (length word) at l₀ a l₁
     → Put (space ∷ decimal (k .programs)) 21 a l₁ b l₂
     → Put (space ∷ decimal (k .nodes)) 21 b l₂ c l₃
     → Put (space ∷ decimal (k .edges)) 21 c l₃ d l₄
     → Put (space ∷ decimal (k .back)) 21 d l₄ e l₅
     → Put (newline ∷ []) 1 e l₅ r after
-    → Put (verdictLine word k) 91 at l₀ r after
+    → Put (verdictLines word k) 125 0 before r after
 unfolding verdictLine
-verdict-put k h w p n e b t = put-both (put-both (put-both (put-both (put-both (put-most h w) p) n) e) b) t
+verdict-put k h v w p n e b t = put-both v (put-both (put-both (put-both (put-both (put-both (put-most h w) p) n) e) b) t)
 
 -- the line of a step, whose words are read from the walk
 pub step-put : (words : List ℕ) (k : ℕ) {node leaves enters flow at a b c d r : ℕ} {l₀ l₁ l₂ l₃ l₄ after : List ℕ}
@@ -63,17 +62,17 @@ pub refusal-put : (number line : ℕ) {a b c r : ℕ} {l₀ l₁ l₂ l₃ after
 unfolding refusalReport
 refusal-put number line p q s t = put-both (put-both (put-both p q) s) t
 
-pub robust-put : (k : Counts) {a r : ℕ} {l₀ l₁ after : List ℕ} → Put verdictNames 34 0 l₀ a l₁ → Put (verdictLine robustWord k) 91 a l₁ r after
-    → Put (robustReport k) 125 0 l₀ r after
+pub robust-put : (k : Counts) {r : ℕ} {before after : List ℕ} → Put (verdictLines robustWord k) 125 0 before r after
+    → Put (robustReport k) 125 0 before r after
 unfolding robustReport
-robust-put k p q = put-both p q
+robust-put k p = p
 
-pub danger-put : (k : Counts) (words : List ℕ) (steps : ℕ) {a b c r : ℕ} {l₀ l₁ l₂ l₃ after : List ℕ} → steps ≤ 65 → Put verdictNames 34 0 l₀ a l₁
-    → Put (verdictLine dangerWord k) 91 a l₁ b l₂ → Put stepNames 29 b l₂ c l₃
-    → Put (stepLines 0 (stepsIn words 0 steps)) (steps * 86) c l₃ r after
+pub danger-put : (k : Counts) (words : List ℕ) (steps : ℕ) {a b r : ℕ} {l₀ l₁ l₂ after : List ℕ} → steps ≤ 65
+    → Put (verdictLines dangerWord k) 125 0 l₀ a l₁ → Put stepNames 29 a l₁ b l₂
+    → Put (stepLines 0 (stepsIn words 0 steps)) (steps * 86) b l₂ r after
     → Put (dangerReport k (stepsIn words 0 steps)) 5744 0 l₀ r after
 unfolding dangerReport
-danger-put k words steps h p q s t = put-most (omega arith) (put-both (put-both (put-both p q) s) t)
+danger-put k words steps h p s t = put-most (omega arith) (put-both (put-both p s) t)
 
 -- the report of a walk, where at most 65 steps of it are shown
 pub danger-printed : (k : Counts) (words : List ℕ) (steps : ℕ) {shown r : ℕ} {after : List ℕ} → shown ≡ min steps 65

@@ -7,7 +7,7 @@ use lib.Seq.{sets}
 use Rattle.graph.specs.Graph.{Flow}
 use Rattle.graph.specs.Walk.{Step}
 use Rattle.report.specs.State.{Counts}
-use Rattle.report.specs.Report.{stepLines, dangerReport}
+use Rattle.report.specs.Report.{verdictNames, verdictLine, stepLines, dangerReport}
 use Rattle.printing.specs.declared.Printed.{Printed}
 
 -- the bytes of a report, with zeros behind them
@@ -17,6 +17,10 @@ printedAs bytes = record { length = length bytes; bytes = bytes ++ replicate (81
 -- the four counts
 abbrev pub counted : ℕ → ℕ → ℕ → ℕ → Counts
 counted programs nodes edges back = record { programs = programs; nodes = nodes; edges = edges; back = back }
+
+-- the first two lines of a report that is no refusal
+abbrev pub verdictLines : List ℕ → Counts → List ℕ
+verdictLines word c = verdictNames ++ verdictLine word c
 
 -- a flow's word: 0 is forward, any other back
 unfoldable pub flowOf : ℕ → Flow
@@ -51,13 +55,11 @@ pub record Put (bytes : List ℕ) (most at : ℕ) (before : List ℕ) (r : ℕ) 
 -- what holds in each turn of the loop that copies bytes: i of them are written, and the others are still to be
 pub record Copying (bytes : List ℕ) (at : ℕ) (before : List ℕ) (i : ℕ) (area : List ℕ) : Type 0 where
   pub inside : i ≤ length bytes
-  pub long : length area ≡ length before
   pub written : sets area (at + i) (drop i bytes) ≡ sets before at bytes
 
 -- what holds in each turn of the loop over the steps: the lines of k of them are written
 pub record Stepping (words : List ℕ) (at : ℕ) (before : List ℕ) (steps k place : ℕ) (area : List ℕ) : Type 0 where
   pub few : k ≤ steps
-  pub long : length area ≡ length before
   pub put : Put (stepLines 0 (stepsIn words 0 k)) (k * 86) at before place area
 
 -- the report of a walk is written from the start of an area on

@@ -2,10 +2,10 @@
 use mathlib.Core.List.{List, [], _∷_, _++_}
 use mathlib.Core.Path.{_≡_, refl, sym, ap, ap₂, subst, _∙_}
 use Prim.Native.Nat.{ℕ, zero, suc, _+_, _-_, _≤_, _<_, zero-le}
-use native.Mathlib.Nat.{add-zero, add-assoc, add-suc, suc-add, zero-add, sub-zero}
+use native.Mathlib.Nat.{add-zero, zero-add, sub-zero}
 use native.Mathlib.Numerals.{add-one}
 use native.Mathlib.Omega.{arith}
-use lib.ListN.{length, getD, set, take, drop, replicate, length-append, length-replicate, drop-of-length-le, length-set}
+use lib.ListN.{length, getD, set, drop, replicate, length-append, length-replicate, drop-of-length-le}
 use lib.Seq.{sets, sets-eq, drop-cons}
 use Rattle.printing.specs.declared.Printed.{Printed}
 use Rattle.printing.specs.Printed.{printedAs, Put, Copying}
@@ -42,7 +42,7 @@ put-same {a} {b} {m} {at} {r} {before} {after} e p = subst (λ (l : List ℕ). P
 
 -- the loop that copies bytes begins
 pub copy-first : (bytes area : List ℕ) (at : ℕ) → Copying bytes at area 0 area
-copy-first bytes area at = record { inside = zero-le; long = refl; written = ap (λ (k : ℕ). sets area k bytes) (add-zero at) }
+copy-first bytes area at = record { inside = zero-le; written = ap (λ (k : ℕ). sets area k bytes) (add-zero at) }
 
 -- a turn of it
 pub copy-turn : {bytes before area : List ℕ} {at i : ℕ} → i < length bytes → Copying bytes at before i area
@@ -52,7 +52,6 @@ copy-turn {bytes} {before} {area} {at} {i} h t =
     let more : i + 1 ≡ suc i = add-one i in
     record {
       inside = omega arith;
-      long = length-set area (at + i) (getD bytes i 0) ∙ t .long;
       written =
           ap₂ (λ (k j : ℕ). sets (set area (at + i) (getD bytes i 0)) k (drop j bytes)) next more
           ∙ ap (λ (l : List ℕ). sets area (at + i) l) (sym (drop-cons bytes i 0 h))

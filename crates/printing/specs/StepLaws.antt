@@ -5,7 +5,6 @@ use Prim.Native.Nat.{ℕ, zero, suc, _+_, _*_, _≤_, _<_, zero-le}
 use native.Mathlib.Nat.{add-zero, zero-add}
 use native.Mathlib.Numerals.{add-one}
 use native.Mathlib.Omega.{arith}
-use lib.ListN.{length}
 use Rattle.report.specs.Report.{flowLetter, stepLine, stepLines}
 use Rattle.printing.specs.Printed.{flowOf, stepAt, stepsIn, Put, Stepping}
 use Rattle.printing.specs.PutLaws.{put-both, put-most, put-same}
@@ -37,19 +36,19 @@ lines-next words (suc n) k =
 pub steps-first : (words : List ℕ) (at : ℕ) (before : List ℕ) (steps : ℕ) → Stepping words at before steps 0 at before
 unfolding stepLines stepsIn
 steps-first words at before steps =
-    record { few = zero-le; long = refl; put = record { place = sym (add-zero at); few = zero-le; area = refl } }
+    record { few = zero-le; put = record { place = sym (add-zero at); few = zero-le; area = refl } }
 
 -- a turn of the loop over the steps
-pub steps-turn : {words before mid after : List ℕ} {at steps k r s : ℕ} → k < steps → length after ≡ length mid
+pub steps-turn : {words before mid after : List ℕ} {at steps k r s : ℕ} → k < steps
     → Stepping words at before steps k r mid → Put (stepLine k (stepAt words k)) 86 r mid s after
     → Stepping words at before steps (k + 1) s after
-steps-turn {words} {before} {mid} {after} {at} {steps} {k} {r} {s} h l t q =
+steps-turn {words} {before} {mid} {after} {at} {steps} {k} {r} {s} h t q =
     let more : k + 1 ≡ suc k = add-one k in
     let all =
     put-same
     (sym (lines-next words k 0 ∙ ap (λ (j : ℕ). stepLines 0 (stepsIn words 0 k) ++ stepLine j (stepAt words j)) (zero-add k)))
     (put-both (t .put) q) in
-    record { few = omega arith; long = l ∙ t .long; put = rw more (put-most (omega arith) all) }
+    record { few = omega arith; put = rw more (put-most (omega arith) all) }
 
 -- behind the last step
 pub steps-end : {words before after : List ℕ} {at steps k r : ℕ} → steps ≤ k → Stepping words at before steps k r after

@@ -1,13 +1,14 @@
 // The bytes of the three reports: a refusal, robust, and danger with its walk.
 
+use words::word_at;
 ghost use mathlib.Core.Path.{_≡_};
 ghost use mathlib.Core.List.{[], _∷_};
 ghost use Prim.Native.Nat.{_+_, _*_, _≤_, _<_, min};
-ghost use lib.ListN.{length, getD};
+ghost use lib.ListN.{length};
 ghost use Rattle.text.specs.Text.{space, newline};
 ghost use Rattle.text.specs.Value.{digit};
-ghost use Rattle.report.specs.Report.{decimal, flowLetter, verdictLine, stepLine, stepLines, refusalReport, robustReport, dangerReport};
-ghost use Rattle.printing.specs.Printed.{printedAs, counted, flowOf, stepAt, stepsIn, walkIn, Put, DangerPut};
+ghost use Rattle.report.specs.Report.{decimal, flowLetter, stepLine, stepLines, refusalReport, robustReport, dangerReport};
+ghost use Rattle.printing.specs.Printed.{printedAs, counted, verdictLines, flowOf, stepAt, stepsIn, walkIn, Put, DangerPut};
 
 // A report: how many bytes it has, and the bytes with zeros behind them. No report here has more than 5,744 bytes: a number has at most
 // 20 digits, so a step takes at most 86 bytes and the 65 steps at most 5,590; the lines in front of them take 154.
@@ -16,9 +17,9 @@ pub struct Printed {
     pub bytes: [u8; 8192],
 }
 
-// Writes bytes from a place on; answers the place behind them.
-fn put(out: &mut [u8], at: usize, bytes: &[u8]) -> usize
-    requires { ⌜ at + length (now bytes) ≤ length (now out) ⌝ }
+// Writes bytes from a place on. This and the functions below answer the place behind what they wrote.
+fn put(out: &mut [u8; 8192], at: usize, bytes: &[u8]) -> usize
+    requires { ⌜ at + length (now bytes) ≤ 8192 ⌝ }
     ensures { λ r. ⌜ Put (now (bytes .entry)) (length (now (bytes .entry))) at (now (out .entry)) r (now (out .exit)) ⌝ }
 {
     let mut i: usize = 0;
@@ -29,14 +30,16 @@ fn put(out: &mut [u8], at: usize, bytes: &[u8]) -> usize
     at + i
 }
 
-fn put_byte(out: &mut [u8], at: usize, b: u8) -> usize
-    requires { ⌜ at + 1 ≤ length (now out) ⌝ }
+// Writes one byte.
+fn put_byte(out: &mut [u8; 8192], at: usize, b: u8) -> usize
+    requires { ⌜ at + 1 ≤ 8192 ⌝ }
     ensures { λ r. ⌜ Put (b ∷ []) 1 at (now (out .entry)) r (now (out .exit)) ⌝ }
 {
     out[at] = b;
     at + 1
 }
 
+// The byte of a decimal digit.
 fn digit_byte(n: u64) -> u8
     requires { ⌜ n < 10 ⌝ }
     ensures { λ r. ⌜ r ≡ digit n ⌝ }
@@ -45,8 +48,8 @@ fn digit_byte(n: u64) -> u8
 }
 
 // Writes a number in decimal: the digits in front of the last one, then the last.
-fn put_decimal(out: &mut [u8], at: usize, n: u64) -> usize
-    requires { ⌜ at + 20 ≤ length (now out) ⌝ }
+fn put_decimal(out: &mut [u8; 8192], at: usize, n: u64) -> usize
+    requires { ⌜ at + 20 ≤ 8192 ⌝ }
     ensures { λ r. ⌜ Put (decimal n) 20 at (now (out .entry)) r (now (out .exit)) ⌝ }
 {
     if n < 10 {
@@ -56,29 +59,29 @@ fn put_decimal(out: &mut [u8], at: usize, n: u64) -> usize
     put_byte(out, k, digit_byte(n % 10))
 }
 
-// A space and a number.
-fn put_number(out: &mut [u8], at: usize, n: u64) -> usize
-    requires { ⌜ at + 21 ≤ length (now out) ⌝ }
+// Writes a space and a number in decimal.
+fn put_number(out: &mut [u8; 8192], at: usize, n: u64) -> usize
+    requires { ⌜ at + 21 ≤ 8192 ⌝ }
     ensures { λ r. ⌜ Put (space ∷ decimal n) 21 at (now (out .entry)) r (now (out .exit)) ⌝ }
 {
     let k = put_byte(out, at, 0x20);
     put_decimal(out, k, n)
 }
 
-// A word and the four counts.
+// Writes the two lines of a verdict from the start of the area on: the names, then a word and the four counts.
 fn put_verdict(
-    out: &mut [u8],
-    at: usize,
+    out: &mut [u8; 8192],
     word: &[u8],
     programs: u64,
     nodes: u64,
     edges: u64,
     back: u64,
 ) -> usize
-    requires { ⌜ (length (now word) ≤ 6) × (at + 91 ≤ length (now out)) ⌝ }
-    ensures { λ r. ⌜ Put (verdictLine (now (word .entry)) (counted programs nodes edges back)) 91 at (now (out .entry)) r (now (out .exit)) ⌝ }
+    requires { ⌜ length (now word) ≤ 6 ⌝ }
+    ensures { λ r. ⌜ Put (verdictLines (now (word .entry)) (counted programs nodes edges back)) 125 0 (now (out .entry)) r (now (out .exit)) ⌝ }
 {
-    let a = put(out, at, word);
+    let names = put(out, 0, b"verdict programs nodes edges back\n");
+    let a = put(out, names, word);
     let b = put_number(out, a, programs);
     let c = put_number(out, b, nodes);
     let d = put_number(out, c, edges);
@@ -86,16 +89,7 @@ fn put_verdict(
     put_byte(out, e, 0x0a)
 }
 
-// A word of the walk; 0 past its end.
-fn word_at(walk: &[u64], i: usize) -> u64
-    ensures { λ r. ⌜ r ≡ getD (now (walk .entry)) i 0 ⌝ }
-{
-    if i < walk.len() {
-        return walk[i];
-    }
-    0
-}
-
+// The letter of a flow's word: f for 0, else b.
 fn flow_letter(word: u64) -> u8
     ensures { λ r. ⌜ r ≡ flowLetter (flowOf word) ⌝ }
 {
@@ -105,9 +99,9 @@ fn flow_letter(word: u64) -> u8
     0x62
 }
 
-// A space, the letter of the flow, and the line's end.
-fn put_flow(out: &mut [u8], at: usize, word: u64) -> usize
-    requires { ⌜ at + 3 ≤ length (now out) ⌝ }
+// Writes a space, the letter of the flow, and the line's end.
+fn put_flow(out: &mut [u8; 8192], at: usize, word: u64) -> usize
+    requires { ⌜ at + 3 ≤ 8192 ⌝ }
     ensures { λ r. ⌜ Put (space ∷ flowLetter (flowOf word) ∷ newline ∷ []) 3 at (now (out .entry)) r (now (out .exit)) ⌝ }
 {
     let a = put_byte(out, at, 0x20);
@@ -115,9 +109,9 @@ fn put_flow(out: &mut [u8], at: usize, word: u64) -> usize
     put_byte(out, b, 0x0a)
 }
 
-// The line of step k.
-fn put_step(out: &mut [u8], at: usize, k: usize, walk: &[u64]) -> usize
-    requires { ⌜ (k < 65) × (at + 86 ≤ length (now out)) ⌝ }
+// Writes the line of step k of a walk.
+fn put_step(out: &mut [u8; 8192], at: usize, k: usize, walk: &[u64]) -> usize
+    requires { ⌜ (k < 65) × (at + 86 ≤ 8192) ⌝ }
     ensures { λ r. ⌜ Put (stepLine k (stepAt (now (walk .entry)) k)) 86 at (now (out .entry)) r (now (out .exit)) ⌝ }
 {
     let node = word_at(walk, k * 4);
@@ -131,9 +125,9 @@ fn put_step(out: &mut [u8], at: usize, k: usize, walk: &[u64]) -> usize
     put_flow(out, d, flow)
 }
 
-// The lines of so many steps.
-fn put_steps(out: &mut [u8], at: usize, walk: &[u64], steps: usize) -> usize
-    requires { ⌜ (steps ≤ 65) × (at + steps * 86 ≤ length (now out)) ⌝ }
+// Writes the lines of the first steps of a walk.
+fn put_steps(out: &mut [u8; 8192], at: usize, walk: &[u64], steps: usize) -> usize
+    requires { ⌜ (steps ≤ 65) × (at + steps * 86 ≤ 8192) ⌝ }
     ensures { λ r. ⌜ Put (stepLines 0 (stepsIn (now (walk .entry)) 0 steps)) (steps * 86) at (now (out .entry)) r (now (out .exit)) ⌝ }
 {
     let mut place = at;
@@ -145,8 +139,8 @@ fn put_steps(out: &mut [u8], at: usize, walk: &[u64], steps: usize) -> usize
     place
 }
 
-fn put_refusal(out: &mut [u8], number: u64, line: u64) -> usize
-    requires { ⌜ 8192 ≤ length (now out) ⌝ }
+// Writes the report of a refusal from the start of the area on.
+fn put_refusal(out: &mut [u8; 8192], number: u64, line: u64) -> usize
     ensures { λ r. ⌜ Put (refusalReport number line) 55 0 (now (out .entry)) r (now (out .exit)) ⌝ }
 {
     let a = put(out, 0, b"refused line\n");
@@ -155,16 +149,9 @@ fn put_refusal(out: &mut [u8], number: u64, line: u64) -> usize
     put_byte(out, c, 0x0a)
 }
 
-fn put_robust(out: &mut [u8], programs: u64, nodes: u64, edges: u64, back: u64) -> usize
-    requires { ⌜ 8192 ≤ length (now out) ⌝ }
-    ensures { λ r. ⌜ Put (robustReport (counted programs nodes edges back)) 125 0 (now (out .entry)) r (now (out .exit)) ⌝ }
-{
-    let a = put(out, 0, b"verdict programs nodes edges back\n");
-    put_verdict(out, a, b"robust", programs, nodes, edges, back)
-}
-
+// Writes the report of a dangerous walk from the start of the area on.
 fn put_danger(
-    out: &mut [u8],
+    out: &mut [u8; 8192],
     programs: u64,
     nodes: u64,
     edges: u64,
@@ -172,15 +159,15 @@ fn put_danger(
     walk: &[u64],
     steps: usize,
 ) -> usize
-    requires { ⌜ (steps ≤ 65) × (8192 ≤ length (now out)) ⌝ }
+    requires { ⌜ steps ≤ 65 ⌝ }
     ensures { λ r. ⌜ DangerPut (counted programs nodes edges back) (now (walk .entry)) steps (now (out .entry)) r (now (out .exit)) ⌝ }
 {
-    let a = put(out, 0, b"verdict programs nodes edges back\n");
-    let b = put_verdict(out, a, b"danger", programs, nodes, edges, back);
-    let c = put(out, b, b"step node leaves enters flow\n");
-    put_steps(out, c, walk, steps)
+    let a = put_verdict(out, b"danger", programs, nodes, edges, back);
+    let b = put(out, a, b"step node leaves enters flow\n");
+    put_steps(out, b, walk, steps)
 }
 
+// The number of steps that are shown: W5, at most 65.
 fn at_most_65(steps: usize) -> usize
     ensures { λ r. ⌜ r ≡ min steps 65 ⌝ }
 {
@@ -204,7 +191,7 @@ pub fn robust_printed(programs: u64, nodes: u64, edges: u64, back: u64) -> Print
     ensures { λ r. ⌜ r ≡ printedAs (robustReport (counted programs nodes edges back)) ⌝ }
 {
     let mut bytes = [0u8; 8192];
-    let length = put_robust(&mut bytes, programs, nodes, edges, back);
+    let length = put_verdict(&mut bytes, b"robust", programs, nodes, edges, back);
     Printed { length, bytes }
 }
 

@@ -15,7 +15,7 @@ use lib.Seq.{drop-cons, drop-drop, set-append-seam}
 use borrow.Author.Tests.{eq-eqb, ne-eqb, le-leb, lt-leb}
 use Rattle.text.specs.declared.Line.{Line}
 use Rattle.text.specs.declared.Workload.{Workload}
-use Rattle.text.specs.Text.{newline, same, onFirst, linesIn, namesLine, lineOf, unusedLine}
+use Rattle.text.specs.Text.{newline, same, linesIn, namesLine, lineOf, unusedLine}
 use Rattle.text.specs.Reading.{isAllowed, otherByte, endsLine, noneOpen, fault, readLines, read, Outcome}
 use Rattle.text.specs.Reading.Outcome.{refused, accepted}
 use Rattle.text.specs.Value.{valueOf}
@@ -31,6 +31,7 @@ use Rattle.reader.specs.declared.Seen.{Seen}
 use Rattle.lines.specs.declared.Span.{Span}
 use Rattle.lines.specs.Span.{lineLength, spanAt}
 use Rattle.lines.specs.SpanLaws.{span-past, span-line}
+use Rattle.lines.specs.GoingLaws.{lines-cut}
 use Rattle.reader.specs.Parse.{parsedAs, lineOr, lineBehindByte, numberOf, Saw, EndsAt, Going}
 
 -- ---- bytes
@@ -107,31 +108,23 @@ endsLine-last (b ∷ c ∷ text) h =
 
 -- ---- lines
 
+-- the first line of a text that ends a line ends within it
+line-ends : (text : List ℕ) → endsLine text ≡ true → lineLength text < length text
+unfolding lineLength endsLine
+line-ends [] h = absurd (B.false≢true h)
+line-ends (b ∷ []) h = rw h (omega arith)
+line-ends (b ∷ c ∷ text) h = go (eqb b newline) (line-ends (c ∷ text) h)
+  where
+    go : (t : Bool) → lineLength (c ∷ text) < suc (length text) → cond t 0 (suc (lineLength (c ∷ text))) < suc (suc (length text))
+    go true less = omega arith
+    go false less = omega arith
+
 -- the lines of a text that ends a line: its first and those behind it
 pub lines-first : (text : List ℕ) → endsLine text ≡ true
     → (linesIn text ≡ take (lineLength text) text ∷ linesIn (drop (suc (lineLength text)) text)) × (lineLength text < length text)
-unfolding linesIn lineLength endsLine onFirst
+unfolding endsLine
 lines-first [] h = absurd (B.false≢true h)
-lines-first (b ∷ []) h = go (eqb b newline) h
-  where
-    go : (t : Bool) → t ≡ true
-        → ((elim t as (λ x. List (List ℕ)) [ true ↦ [] ∷ [] | false ↦ (b ∷ []) ∷ [] ])
-        ≡ take (cond t 0 1) (b ∷ []) ∷ linesIn (drop (suc (cond t 0 1)) (b ∷ [])))
-        × (cond t 0 1 < 1)
-    go true e = (refl, omega arith)
-    go false e = absurd (B.false≢true e)
-lines-first (b ∷ c ∷ text) h = go (eqb b newline) (lines-first (c ∷ text) h)
-  where
-    rest : List ℕ
-    rest = c ∷ text
-
-    go : (t : Bool)
-        → (linesIn rest ≡ take (lineLength rest) rest ∷ linesIn (drop (suc (lineLength rest)) rest)) × (lineLength rest < length rest)
-        → ((elim t as (λ x. List (List ℕ)) [ true ↦ [] ∷ linesIn rest | false ↦ onFirst b (linesIn rest) ])
-        ≡ take (cond t 0 (suc (lineLength rest))) (b ∷ rest) ∷ linesIn (drop (suc (cond t 0 (suc (lineLength rest)))) (b ∷ rest)))
-        × (cond t 0 (suc (lineLength rest)) < suc (length rest))
-    go true e = (refl, omega arith)
-    go false e = (ap (onFirst b) (e .0), omega arith)
+lines-first (b ∷ text) h = (lines-cut b text, line-ends (b ∷ text) h)
 
 -- what follows the first line ends a line too, or is nothing
 pub ends-behind : (text : List ℕ) → endsLine text ≡ true
@@ -420,7 +413,7 @@ going-room {words = words} {after = after} {r = r} g saw z =
 pub going-next : {text words after : List ℕ} {start at line : ℕ} {w : Workload} {r : Seen} {span : Span} (g : Going text start w words at line)
     → span ≡ spanAt text at line → LineAt text at (span .end)
     → Saw words (lineOf (take (span .end - at) (drop at text))) after r → r .number ≡ 0
-    → Going text start (record { count = w .count + 1; lines = set (w .lines) (w .count) (r .line) }) after (span .next) (span .line)
+    → Going text start (record { count = w .count + 1; lines = set (w .lines) (w .count) (r .line) }) after (span .next) (span .behind)
 going-next {text} {words} {after} {start} {at} {line} {w} {r} {span} g e here saw z =
     let few = going-few g in
     let next = span-past text at line e (here .inside) in

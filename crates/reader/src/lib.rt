@@ -198,7 +198,7 @@ fn read_lines(text: &[u8], start: usize) -> Parsed
         w.lines[n] = l;
         w.count = n + 1;
         at = span.next;
-        line = span.line;
+        line = span.behind;
     }
     if readstate::depth(&words) != 0 {
         return refused(7, line - 1);

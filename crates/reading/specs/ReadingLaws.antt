@@ -16,9 +16,9 @@ use Rattle.text.specs.declared.Line.{Line}
 use Rattle.text.specs.declared.LineKind.{LineKind}
 use Rattle.text.specs.declared.LineKind.the-variants.{Rl, Fk, Pr, St, Lo, Br, El, En, Li}
 use Rattle.text.specs.declared.StatementKind.{StatementKind}
-use Rattle.text.specs.declared.StatementKind.the-variants.{Is, Ks, Ku, Pu, Kd, Pd}
+use Rattle.text.specs.declared.StatementKind.the-variants.{Is, Kd, Pd}
 use Rattle.text.specs.Text.{same, linesIn, namesLine, formsOf, lineOf, unusedLine}
-use Rattle.reading.specs.TextLaws.{AllFit, valuesIn, line-fits}
+use Rattle.reading.specs.TextLaws.{fits, allFit, valuesIn, lineFits, line-fits}
 use Rattle.text.specs.Reading.{sort, isRelation, isStatement, program, relation, relationSet, withinBounds, noneOpen, ordered}
 use Rattle.text.specs.Reading.{named, kindSets, setsFit, linkFits, testsOf, firstFailed, fault, Outcome, readLines, otherByte}
 use Rattle.text.specs.Reading.{endsLine, read}
@@ -178,9 +178,18 @@ line-bytes text {lines} h {l} m =
     taken-split [] (s .0) l (s .1) (rw (s .2) at (read-taken text lines h)) .0
 
 -- the values of each line of an accepted text fit the forms of its kind
-pub line-forms : (text : List ℕ) {lines : List Line} → read text ≡ accepted lines
-    → {l : Line} → List·Memᴰ l lines → AllFit (formsOf (l .kind)) (valuesIn l)
-line-forms text h {l} m = let b = line-bytes text h m in line-fits (b .bytes) l (b .isLine)
+pub line-forms : (text : List ℕ) {lines : List Line} → read text ≡ accepted lines → {l : Line} → List·Memᴰ l lines → lineFits l ≡ true
+line-forms text h {l} m = let b = line-bytes text h m in line-fits (b .bytes) (b .isLine)
+
+-- T4: the set of a relation's line that fits is one 64-bit word
+relation-word : (l : Line) → l .kind ≡ Rl → lineFits l ≡ true → l .reads < 2 ^ 64
+unfolding lineFits allFit fits formsOf
+relation-word l e h =
+    let six : allFit (formsOf Rl) (valuesIn l) ≡ true = rw e at h in
+    let behind-id = and-true (ltb (l .id) 256) _ six in
+    let behind-rel = and-true (eqb (l .rel) 0) _ (behind-id .1) in
+    let behind-to = and-true (eqb (l .to) 0) _ (behind-rel .1) in
+    ltb-true (l .reads) (2 ^ 64) (and-true (ltb (l .reads) (2 ^ 64)) _ (behind-to .1) .0)
 
 -- a line that counts as a relation is one
 relation-kind : (l : Line) → isRelation l ≡ true → l .kind ≡ Rl
@@ -254,10 +263,9 @@ pub relation-set : (text : List ℕ) {lines : List Line} → read text ≡ accep
 unfolding relationSet setsFit formsOf
 relation-set text {lines} h r b =
     let m = relation-member lines r b in
-    let s = member-split (m .0) in
-    let fits = rw (m .1) at (line-forms text h (m .0)) in (
+    let s = member-split (m .0) in (
       rl-nonempty (s .0) (relation lines r) (m .1) (line-passes text h (s .0) (relation lines r) (s .1) (s .2) .sets),
-      fits .1 .1 .1 .0,
+      relation-word (relation lines r) (m .1) (line-forms text h (m .0)),
     )
 
 -- T9: the sets of a statement over a relation with this set
@@ -268,7 +276,6 @@ pub record SetsLawful (whole : ℕ) (k : StatementKind) (l : Line) : Type 0 wher
   pub writes-within : within (l .writes) whole ≡ true
   pub tests-within : within (l .tests) whole ≡ true
   pub kind-sets : kindSets whole k l ≡ true
-  pub forms : AllFit (formsOf (St k)) (valuesIn l)
 
 -- T7: the relation that a statement of an accepted text names is there
 pub statement-relation : (text : List ℕ) {lines : List Line} → read text ≡ accepted lines
@@ -299,7 +306,6 @@ statement-sets text {lines} h {l} m k e =
       writes-within = rw same (fits .1);
       tests-within = rw same (fits .2);
       kind-sets = rw same (fits .3);
-      forms = rw e at (line-forms text h m);
     }
 
 -- T9: writes of is, kd, pd are the whole relation
@@ -314,16 +320,3 @@ key-delete-whole s = eqb-true _ _ (s .kind-sets)
 pub predicate-delete-whole : {whole : ℕ} {l : Line} → SetsLawful whole Pd l → l .writes ≡ whole
 unfolding kindSets
 predicate-delete-whole s = eqb-true _ _ (s .kind-sets)
-
--- T9: reads of ks and writes of ku and pu are not 0
-pub key-select-reads : {whole : ℕ} {l : Line} → SetsLawful whole Ks l → l .reads ≡ 0 → ⊥
-unfolding kindSets
-key-select-reads s = eqb-false _ 0 (not-true _ (s .kind-sets))
-
-pub key-update-writes : {whole : ℕ} {l : Line} → SetsLawful whole Ku l → l .writes ≡ 0 → ⊥
-unfolding kindSets
-key-update-writes s = eqb-false _ 0 (not-true _ (s .kind-sets))
-
-pub predicate-update-writes : {whole : ℕ} {l : Line} → SetsLawful whole Pu l → l .writes ≡ 0 → ⊥
-unfolding kindSets
-predicate-update-writes s = eqb-false _ 0 (not-true _ (s .kind-sets))

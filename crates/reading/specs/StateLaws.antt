@@ -2,16 +2,16 @@
 use mathlib.Core.Path.{_≡_, refl, sym, ap, ap₂, _∙_}
 use mathlib.Core.Bool.{Bool, true, false, cond, not, _&&_, _||_}
 use mathlib.Core.Bool as B
-use mathlib.Core.List.{List, [], _∷_, _++_, append-nil}
-use mathlib.Core.Option.{Option, none, some, Option·none-ne-some}
-use Prim.Native.Nat.{ℕ, zero, suc, _+_, _≤_, _<_}
+use mathlib.Core.List.{List, [], _∷_, _++_}
+use mathlib.Core.Option.{none}
+use Prim.Native.Nat.{ℕ, zero, suc, _+_, _<_}
 use native.Mathlib.Omega.{arith}
 use native.Mathlib.Numerals.{add-one}
 use native.Mathlib.Nat.{add-zero, zero-add, suc-add, add-suc, not-suc-le-zero, le-of-suc-le-suc}
-use lib.Dec.{eqb, leb, ltb, eqb·suc-suc}
+use lib.Dec.{eqb, ltb, eqb·suc-suc}
 use lib.ListN.{length, getD, length-append}
 use borrow.Author.Tests.{eqb-true, ltb-true, ne-eqb, eq-eqb}
-use Rattle.base.specs.Basic.{any, all, keep, count, within}
+use Rattle.base.specs.Basic.{any, all, keep, count}
 use Rattle.base.specs.BoolLaws.{and-true, and-of}
 use Rattle.base.specs.ListLaws.{keep-append, count-append, count-keep, any-append, length-keep}
 use Rattle.text.specs.declared.Line.{Line}
@@ -19,10 +19,11 @@ use Rattle.text.specs.declared.LineKind.{LineKind}
 use Rattle.text.specs.declared.LineKind.the-variants.{Rl, Fk, Pr, St, Lo, Br, El, En, Li}
 use Rattle.text.specs.Text.{unusedLine}
 use Rattle.text.specs.Reading.{sort, isRelation, isKey, isProgram, isStatementOrFlow, isLink, isStatement, isStatementOf, canBeParent}
-use Rattle.text.specs.Reading.{Block, sameBlock, blocksAfter, blocksBehind, openBlocks, program, loop, firstArm, secondArm, kindSets}
+use Rattle.text.specs.Reading.{Block, sameBlock, blocksAfter, blocksBehind, openBlocks, program, loop, firstArm, secondArm}
 use Rattle.text.specs.Reading.{beforeStatement, blocksAround, statement, key, relation, relationSet, bounded, withinBounds, inBody}
 use Rattle.text.specs.Reading.{noneOpen, innermost, ordered, named, setsFit, linkFits, allAround, testsOf, firstFailed, fault}
-use Rattle.reading.specs.State.{Own, State, aroundFrom, ownOf, stateOf, emptyOwn, emptyState, ownAfter, ownBehind, stateAfter}
+use Rattle.reading.specs.ReadingLaws.{fault-none}
+use Rattle.reading.specs.State.{aroundFrom, ownOf, stateOf, emptyOwn, emptyState, ownAfter, ownBehind, stateAfter}
 use Rattle.reading.specs.State.{stateBounded, stateInBody, stateNoneOpen, stateInnermost, stateOrdered, stateNamed, stateSetsFit}
 use Rattle.reading.specs.State.{blocksWithin, stateLinkFits, stateTests, stateFault, numberedFrom, numbered}
 
@@ -476,29 +477,6 @@ fault-state lines l h =
     sym (firstFailed-same _ _ _ _ _ _ (linkFits-state lines l h)
     ∙ rw (withinBounds-state lines l, ordered-state lines l, named-state lines l, setsFit-state lines l))
 
--- a line with no fault passes each test
-pub record Passes (lines : List Line) (l : Line) : Type 0 where
-  pub isWithin : withinBounds lines l ≡ true
-  pub isOrdered : ordered lines l ≡ true
-  pub isNamed : named lines l ≡ true
-  pub haveFit : setsFit lines l ≡ true
-  pub linkHasFit : linkFits lines l ≡ true
-
-pub fault-none : (lines : List Line) (l : Line) → fault lines l ≡ none → Passes lines l
-unfolding fault testsOf firstFailed
-fault-none lines l h = go (withinBounds lines l) (ordered lines l) (named lines l) (setsFit lines l) (linkFits lines l) refl refl refl refl refl h
-  where
-    go : (a b c d e : Bool)
-        → withinBounds lines l ≡ a → ordered lines l ≡ b → named lines l ≡ c → setsFit lines l ≡ d → linkFits lines l ≡ e
-        → firstFailed ((9, a) ∷ (7, b) ∷ (6, c) ∷ (5, d) ∷ (8, e) ∷ []) ≡ none → Passes lines l
-    go false b c d e p q r s t f = absurd (Option·none-ne-some _ (sym f))
-    go true false c d e p q r s t f = absurd (Option·none-ne-some _ (sym f))
-    go true true false d e p q r s t f = absurd (Option·none-ne-some _ (sym f))
-    go true true true false e p q r s t f = absurd (Option·none-ne-some _ (sym f))
-    go true true true true false p q r s t f = absurd (Option·none-ne-some _ (sym f))
-    go true true true true true p q r s t f =
-        record { isWithin = p; isOrdered = q; isNamed = r; haveFit = s; linkHasFit = t }
-
 -- the numbering of lines and one more
 pub numberedFrom-append : (n : ℕ) (lines : List Line) (l : Line)
     → numberedFrom n (lines ++ (l ∷ []))
@@ -538,7 +516,7 @@ numbered-more lines l h f =
     ap (numberedFrom 0) (program-append lines l) ∙ go (isProgram l) (any isProgram lines)
   where
     next : (b : Bool) → isStatement l ≡ b → not b || eqb (l .id) (0 + length (keep isStatement (program lines))) ≡ true
-    next true e = rw (zero-add (length (keep isStatement (program lines)))) (statement-named lines l e (fault-none lines l f .isNamed))
+    next true e = rw (zero-add (length (keep isStatement (program lines)))) (statement-named lines l e (fault-none lines l f .names))
     next false e = refl
 
     go : (b a : Bool) → numberedFrom 0 (elim b [ true ↦ [] | false ↦ cond a (program lines ++ (l ∷ [])) [] ]) ≡ true

@@ -6,11 +6,11 @@ use mathlib.Core.Option.{Option, none, some}
 use Prim.Native.Nat.{ℕ, suc, _+_, _*_, _-_, _^_, _≤_, _<_}
 use native.Mathlib.Nat.{pow-le-pow-right}
 use native.Mathlib.Omega.{arith}
-use borrow.Author.Tests.{leb-true}
-use lib.Dec.{leb}
+use borrow.Author.Tests.{leb-true, eqb-true, lt-ltb, eq-eqb}
+use lib.Dec.{eqb, leb, ltb}
 use lib.ListN.{length}
 use Rattle.base.specs.Basic.{all}
-use Rattle.base.specs.BoolLaws.{and-true}
+use Rattle.base.specs.BoolLaws.{and-true, and-of}
 use Rattle.base.specs.ListLaws.{some-injective}
 use Rattle.text.specs.declared.Line.{Line}
 use Rattle.text.specs.declared.LineKind.{LineKind}
@@ -20,18 +20,26 @@ use Rattle.text.specs.Text.{dash, isDecimal, isHexadecimal, same, fieldsIn, dig
 use Rattle.text.specs.Text.{dashOf, kindOf, Form, formsOf, fieldOf, valuesOf, lineWith, lineOf}
 use Rattle.text.specs.Text.Form.{number, set, nothing}
 
--- a value fits a form
-abbrev pub Fits : Form → ℕ → Type 0
-Fits number n = n ≤ 255
-Fits set n = n < 2 ^ 64
-Fits nothing n = n ≡ 0
+-- a value fits the form of its field
+unfoldable pub fits : Form → ℕ → Bool
+fits number n = ltb n 256
+fits set n = ltb n (2 ^ 64)
+fits nothing n = eqb n 0
 
 -- as many values as forms, each fitting its form
-abbrev pub AllFit : List Form → List ℕ → Type 0
-AllFit [] [] = Unit {0}
-AllFit [] (n ∷ values) = ⊥
-AllFit (form ∷ forms) [] = ⊥
-AllFit (form ∷ forms) (n ∷ values) = Fits form n × AllFit forms values
+unfoldable pub allFit : List Form → List ℕ → Bool
+allFit [] [] = true
+allFit [] (n ∷ values) = false
+allFit (form ∷ forms) [] = false
+allFit (form ∷ forms) (n ∷ values) = fits form n && allFit forms values
+
+-- the six values of a line
+abbrev pub valuesIn : Line → List ℕ
+valuesIn l = l .id ∷ l .rel ∷ l .to ∷ l .reads ∷ l .writes ∷ l .tests ∷ []
+
+-- the values of a line fit the forms of its kind
+unfoldable pub lineFits : Line → Bool
+lineFits l = allFit (formsOf (l .kind)) (valuesIn l)
 
 -- nothing is no value
 pub none-some : {A : Type 0} {x : A} → none ≡ some x → ⊥
@@ -41,6 +49,18 @@ none-some h = let wrong : _≡_ {A = ℕ} 0 1 = cc in omega arith
 pub given-by : (b : Bool) {v n : ℕ} → cond b (some v) none ≡ some n → (b ≡ true) × (v ≡ n)
 given-by true h = (refl, some-injective h)
 given-by false h = absurd (none-some h)
+
+-- the same bytes are equal
+pub same-equal : (l r : List ℕ) → same l r ≡ true → l ≡ r
+unfolding same
+same-equal [] [] e = refl
+same-equal [] (b ∷ r) e = cc
+same-equal (a ∷ l) [] e = cc
+same-equal (a ∷ l) (b ∷ r) e =
+    let tests = and-true (eqb a b) (same l r) e in
+    let head : a ≡ b = eqb-true a b (tests .0) in
+    let tail : l ≡ r = same-equal l r (tests .1) in
+    cc
 
 -- a hexadecimal digit stands for a number below 16
 digit-below : (d : ℕ) → isHexadecimal d ≡ true → digitValue d < 16
@@ -97,27 +117,31 @@ number-below field n h =
     omega arith
 
 -- T2: the value of a field fits its form
-field-fits : (form : Form) (field : List ℕ) (n : ℕ) → fieldOf form field ≡ some n → Fits form n
-unfolding fieldOf dashOf
-field-fits number field n h = number-below field n h
-field-fits set field n h = set-below field n h
-field-fits nothing field n h = sym (given-by (same field (dash ∷ [])) h .1)
+field-fits : (form : Form) (field : List ℕ) (n : ℕ) → fieldOf form field ≡ some n → fits form n ≡ true
+unfolding fieldOf dashOf fits
+field-fits number field n h = let most = number-below field n h in lt-ltb n 256 (omega arith)
+field-fits set field n h = lt-ltb n (2 ^ 64) (set-below field n h)
+field-fits nothing field n h = eq-eqb n 0 (sym (given-by (same field (dash ∷ [])) h .1))
 
 -- T2: the values of fields fit their forms
-values-fit : (forms : List Form) (fields : List (List ℕ)) (values : List ℕ) → valuesOf forms fields ≡ some values → AllFit forms values
-unfolding valuesOf
-values-fit [] [] values h = rw (sym (some-injective h)) tt
+values-fit : (forms : List Form) (fields : List (List ℕ)) (values : List ℕ) → valuesOf forms fields ≡ some values
+    → allFit forms values ≡ true
+unfolding valuesOf allFit
+values-fit [] [] values h = rw (sym (some-injective h)) refl
 values-fit [] (field ∷ fields) values h = absurd (none-some h)
 values-fit (form ∷ forms) [] values h = absurd (none-some h)
 values-fit (form ∷ forms) (field ∷ fields) values h =
     first-value (fieldOf form field) refl h (λ others e. values-fit forms fields others e)
   where
+    Rest : Type 0
+    Rest = (others : List ℕ) → valuesOf forms fields ≡ some others → allFit forms others ≡ true
+
     rest-values : (n : ℕ) → fieldOf form field ≡ some n → (o : Option (List ℕ)) → valuesOf forms fields ≡ o
         → elim o [ none ↦ none | some others ↦ some (n ∷ others) ] ≡ some values
-        → ((others : List ℕ) → valuesOf forms fields ≡ some others → AllFit forms others)
-        → AllFit (form ∷ forms) values
+        → Rest
+        → allFit (form ∷ forms) values ≡ true
     rest-values n e none f h next = absurd (none-some h)
-    rest-values n e (some others) f h next = rw (sym (some-injective h)) (field-fits form field n e, next others f)
+    rest-values n e (some others) f h next = rw (sym (some-injective h)) (and-of (field-fits form field n e) (next others f))
 
     first-value : (a : Option ℕ) → fieldOf form field ≡ a
         → elim a [
@@ -125,40 +149,37 @@ values-fit (form ∷ forms) (field ∷ fields) values h =
           | some value ↦ elim (valuesOf forms fields) [ none ↦ none | some values ↦ some (value ∷ values) ]
         ]
         ≡ some values
-        → ((others : List ℕ) → valuesOf forms fields ≡ some others → AllFit forms others)
-        → AllFit (form ∷ forms) values
+        → Rest
+        → allFit (form ∷ forms) values ≡ true
     first-value none e h next = absurd (none-some h)
     first-value (some n) e h next = rest-values n e (valuesOf forms fields) refl h next
 
--- the six values of a line
-abbrev pub valuesIn : Line → List ℕ
-valuesIn l = l .id ∷ l .rel ∷ l .to ∷ l .reads ∷ l .writes ∷ l .tests ∷ []
-
 -- there are as many values as forms
-fit-length : (forms : List Form) (values : List ℕ) → AllFit forms values → length values ≡ length forms
+fit-length : (forms : List Form) (values : List ℕ) → allFit forms values ≡ true → length values ≡ length forms
+unfolding allFit
 fit-length [] [] h = refl
-fit-length [] (n ∷ values) h = absurd h
-fit-length (form ∷ forms) [] h = absurd h
-fit-length (form ∷ forms) (n ∷ values) h = ap suc (fit-length forms values (h .1))
+fit-length [] (n ∷ values) h = absurd (false≢true h)
+fit-length (form ∷ forms) [] h = absurd (false≢true h)
+fit-length (form ∷ forms) (n ∷ values) h = ap suc (fit-length forms values (and-true (fits form n) (allFit forms values) h .1))
 
 -- T1: each kind has six forms
-six-forms : (k : LineKind) → length (formsOf k) ≡ 6
+pub forms-six : (k : LineKind) → length (formsOf k) ≡ 6
 unfolding formsOf
-six-forms Rl = refl
-six-forms Fk = refl
-six-forms Pr = refl
-six-forms (St Is) = refl
-six-forms (St Ks) = refl
-six-forms (St Ps) = refl
-six-forms (St Ku) = refl
-six-forms (St Pu) = refl
-six-forms (St Kd) = refl
-six-forms (St Pd) = refl
-six-forms Lo = refl
-six-forms Br = refl
-six-forms El = refl
-six-forms En = refl
-six-forms Li = refl
+forms-six Rl = refl
+forms-six Fk = refl
+forms-six Pr = refl
+forms-six (St Is) = refl
+forms-six (St Ks) = refl
+forms-six (St Ps) = refl
+forms-six (St Ku) = refl
+forms-six (St Pu) = refl
+forms-six (St Kd) = refl
+forms-six (St Pd) = refl
+forms-six Lo = refl
+forms-six Br = refl
+forms-six El = refl
+forms-six En = refl
+forms-six Li = refl
 
 -- the values of a line that is made of six values are those
 pub six-values : (k : LineKind) (values : List ℕ) → length values ≡ 6 → valuesIn (lineWith k values) ≡ values
@@ -191,7 +212,7 @@ value-line bytes l h = by-fields (fieldsIn bytes) refl h
         → ValueLine bytes l
     by-values word others k none e f g h = absurd (none-some h)
     by-values word others k (some values) e f g h =
-        let six : length values ≡ 6 = fit-length (formsOf k) values (values-fit (formsOf k) others values g) ∙ six-forms k in
+        let six : length values ≡ 6 = fit-length (formsOf k) values (values-fit (formsOf k) others values g) ∙ forms-six k in
         subst (ValueLine bytes) (some-injective h)
         (record { word = word; others = others; fields = e; kind-word = f; values = g ∙ ap some (sym (six-values k values six)) })
 
@@ -221,5 +242,6 @@ value-line bytes l h = by-fields (fieldsIn bytes) refl h
     by-fields (word ∷ others) e h = by-kind word others (kindOf word) e refl h
 
 -- T2, T5: what a value line gives fits the forms of its kind
-pub line-fits : (bytes : List ℕ) (l : Line) → lineOf bytes ≡ some l → AllFit (formsOf (l .kind)) (valuesIn l)
-line-fits bytes l h = let v = value-line bytes l h in values-fit (formsOf (l .kind)) (v .others) (valuesIn l) (v .values)
+pub line-fits : (bytes : List ℕ) {l : Line} → lineOf bytes ≡ some l → lineFits l ≡ true
+unfolding lineFits
+line-fits bytes {l} h = let v = value-line bytes l h in values-fit (formsOf (l .kind)) (v .others) (valuesIn l) (v .values)

@@ -2,27 +2,24 @@
 use mathlib.Core.Path.{_≡_, refl, sym, ap, ap₂, subst, _∙_}
 use mathlib.Core.Bool.{Bool, true, false, cond, not, _&&_, _||_}
 use mathlib.Core.Bool as B
-use mathlib.Core.Logic.{_⊎_, inl, inr}
 use mathlib.Core.List.{List, [], _∷_, _++_, map, tail, append-nil, map-append, List·Memᴰ}
-use mathlib.Core.List.List·Memᴰ.{List·Memᴰ·head, List·Memᴰ·tail}
-use mathlib.Core.Option.{Option, none, some, Option·none-ne-some}
+use mathlib.Core.Option.{none, some, Option·none-ne-some}
 use Prim.Native.Nat.{ℕ, zero, suc, _+_, _-_, _*_, _^_, _≤_, _<_}
 use native.Mathlib.Omega.{arith}
 use native.Mathlib.Numerals.{add-one}
-use native.Mathlib.Nat.{add-zero, zero-add, suc-add, add-suc}
-use lib.Bits.{bitAnd, bitOr}
+use native.Mathlib.Nat.{add-zero}
+use lib.Bits.{bitOr}
 use lib.Dec.{eqb, leb, ltb, eqb·suc-zero}
-use lib.ListN.{length, getD, set, take, replicate, length-append, length-set, length-map, List·getD-map, List·getD-append}
+use lib.ListN.{length, getD, set, take, replicate, length-append, length-set, length-map, List·getD-map}
 use lib.Seq.{getD-take, take-suc-set, getD-set-same, getD-set-other}
-use borrow.Author.Tests.{eqb-true, eqb-false, ltb-true, ltb-false, leb-true, eq-eqb, ne-eqb, lt-ltb, le-ltb, le-leb}
+use borrow.Author.Tests.{eqb-true, eqb-false, ltb-true, ltb-false, leb-true, eq-eqb, ne-eqb, lt-ltb, le-leb}
 use Rattle.base.specs.Basic.{any, all, keep, count, within, has}
-use Rattle.base.specs.BoolLaws.{and-true, and-of, same-test, not-of-false, not-of-true, not-true, decide, true-false, or-true}
+use Rattle.base.specs.BoolLaws.{and-true, and-of, same-test, not-true}
 use Rattle.base.specs.ListLaws.{all-true, all-of, any-true, any-of, all-append}
 use Rattle.base.specs.WordLaws.{within-has, has-within, has-bitOr, has-one, has-one-other, has-empty}
 use Rattle.text.specs.declared.Line.{Line}
 use Rattle.text.specs.declared.LineKind.{LineKind}
 use Rattle.text.specs.declared.LineKind.the-variants.{Rl, Fk, Pr, St, Lo, Br, El, En, Li}
-use Rattle.text.specs.declared.StatementKind.{StatementKind}
 use Rattle.text.specs.Text.{unusedLine}
 use Rattle.text.specs.Reading.{sort, isRelation, isKey, isProgram, isStatementOrFlow, isLink, isStatement, isStatementOf, canBeParent}
 use Rattle.text.specs.Reading.{Block, sameBlock, blocksAfter, toSecondArm, kindSets, firstFailed, fault, noneOpen, program}
@@ -31,8 +28,9 @@ use Rattle.reading.specs.State.{stateNoneOpen, stateInnermost, stateOrdered, st
 use Rattle.reading.specs.State.{stateTests, stateFault, numbered, numberedFrom, emptyState}
 use Rattle.reading.specs.StateLaws.{fault-state, numbered-more, stateOf-append, stateOf-empty, noneOpen-state}
 use Rattle.kept.specs.Records.{Tables, Stack, Statements, State}
-use Rattle.kept.specs.Kept.{nextOf, markOf, takeAs, roomOf, orderedOf, namedAs, setsFitAs, isLinkOf, checkOf, checkBy, emptyKept, emptyStack, emptyStatements}
-use Rattle.kept.specs.Kept.{inBodyOf, innermostOf, blocksWithinOf, linkFitsOf, pushedOf, poppedOf, secondOf, withStatement}
+use Rattle.kept.specs.Kept.{nextOf, markOf, takeAs, roomOf, orderedOf, namedAs}
+use Rattle.kept.specs.Kept.{setsFitAs, isLinkOf, checkOf, checkBy, emptyKept, emptyStack, emptyStatements}
+use Rattle.kept.specs.Kept.{inBodyOf, innermostOf, linkFitsOf, pushedOf, poppedOf, secondOf, withStatement}
 use Rattle.readstate.specs.Holds.{maskOf, placeOf, partOf, parentalOf, Cells, Levels, Depths, TablesHold, StackHolds}
 use Rattle.readstate.specs.Holds.{StatementsHold, Keeps, fitting, Good, Holds, faultOf}
 
@@ -325,9 +323,6 @@ ordered-kept s b k l = go (l .kind) (l .id) (l .rel) (l .to) (l .reads) (l .writ
     body : inBodyOf (s .programs) (s .links) ≡ not (eqb (b .programs) 0) && eqb (b .own .links) 0
     body = ap₂ inBodyOf (n .programs) (n .links)
 
-    last : (x y : Bool) → x && y && true ≡ x && y
-    last x y = B.and-true (x && y)
-
     go : (kind : LineKind) (id rel to reads writes tests : ℕ)
         → orderedOf s kind ≡ stateOrdered b (lineBy kind id rel to reads writes tests)
     go Rl id rel to reads writes tests = ap₂ eqb (n .lines) (n .relations)
@@ -338,15 +333,13 @@ ordered-kept s b k l = go (l .kind) (l .id) (l .rel) (l .to) (l .reads) (l .writ
     go Lo id rel to reads writes tests = body
     go Br id rel to reads writes tests = body
     go El id rel to reads writes tests =
-        last (inBodyOf (s .programs) (s .links)) (innermostOf (s .stack) 1)
-        ∙ ap₂ _&&_ body (innermost-kept (s .stack) (b .own .open-blocks) 1 (k .stack))
+        ap₂ _&&_ body (innermost-kept (s .stack) (b .own .open-blocks) 1 (k .stack))
     go En id rel to reads writes tests =
         ap₂ _&&_ body
         (ap₂ _||_ (innermost-kept (s .stack) (b .own .open-blocks) 0 (k .stack))
         (innermost-kept (s .stack) (b .own .open-blocks) 2 (k .stack)))
     go Li id rel to reads writes tests =
-        last (not (eqb (s .programs) 0)) (eqb (s .stack .depth) 0)
-        ∙ ap₂ _&&_ (ap (λ p. not (eqb p 0)) (n .programs)) (ap (λ d. eqb d 0) (n .depth))
+        ap₂ _&&_ (ap (λ p. not (eqb p 0)) (n .programs)) (ap (λ d. eqb d 0) (n .depth))
 
 pub named-kept : (s : State) (b : Before) → Keeps s b → (l : Line) → namedAs s l (l .kind) ≡ stateNamed b l
 unfolding namedAs stateNamed
@@ -362,8 +355,7 @@ named-kept s b k l = go (l .kind) (l .id) (l .rel) (l .to) (l .reads) (l .writes
         ap₂ (λ f r. eqb id f && ltb rel r && ltb to r) (n .keys) (n .relations)
     go Pr id rel to reads writes tests = ap (eqb id) (n .programs)
     go (St j) id rel to reads writes tests =
-        B.and-true (eqb id (s .statements .count) && ltb rel (s .tables .relations))
-        ∙ ap₂ (λ f r. eqb id f && ltb rel r) (n .statements) (n .relations)
+        ap₂ (λ f r. eqb id f && ltb rel r) (n .statements) (n .relations)
     go Lo id rel to reads writes tests = refl
     go Br id rel to reads writes tests = refl
     go El id rel to reads writes tests = refl
@@ -398,9 +390,7 @@ setsFit-kept s b k l = go (l .kind) (l .id) (l .rel) (l .to) (l .reads) (l .writ
     go Fk id rel to reads writes tests h = refl
     go Pr id rel to reads writes tests h = refl
     go (St j) id rel to reads writes tests h =
-        let w = getD (s .tables .sets) rel 0 in
-        B.and-true ((within reads w && within writes w && within tests w) && kindSets w j (lineBy (St j) id rel to reads writes tests))
-        ∙ ap
+        ap
         (λ v. within reads v && within writes v && within tests v && kindSets v j (lineBy (St j) id rel to reads writes tests))
         (whole rel (and-true (eqb id (length (b .own .statements))) (ltb rel (length (b .relations))) h .1))
     go Lo id rel to reads writes tests h = refl
@@ -447,8 +437,7 @@ link-kept s b k g l id-below rel-below to-below =
     = cells-at (λ (x : Line). x .rel) unusedLine refl (b .keys) (k .tables .children) (l .id) (omega arith) in
     let key-to : getD (s .tables .parents) (l .id) 0 ≡ getD (b .keys) (l .id) unusedLine .to
     = cells-at (λ (x : Line). x .to) unusedLine refl (b .keys) (k .tables .parents) (l .id) (omega arith) in
-    B.and-true _
-    ∙ ap₂ _&&_
+    ap₂ _&&_
     (ap₂ _&&_ (ap₂ _&&_ (ap₂ eqb (statement-at (l .rel) rel-below) key-at) (ap₂ eqb (statement-at (l .to) to-below) key-to)) parental-at)
     (ap₂ _&&_ (ap₂ _&&_ (within-at 0 (s .statements .loops) (k .statements .loops))
     (within-at 1 (s .statements .firsts) (k .statements .firsts)))
@@ -562,8 +551,10 @@ lengths b l =
 
 -- the test for room is the test of the bounds with one line more
 pub room-kept : (s : State) (b : Before) → Keeps s b → Good b → (l : Line) → roomOf s (l .kind) ≡ stateBounded (stateAfter b l)
-unfolding roomOf stateBounded stateAfter ownBehind ownAfter emptyOwn boundsTest isRelation isKey isProgram isStatementOrFlow isLink isStatement isStatementOf sort blocksAfter toSecondArm
-room-kept s b k g l = go (l .kind) (l .id) (l .rel) (l .to) (l .reads) (l .writes) (l .tests) (eqb (b .programs) 0) (ap (λ p. eqb p 0) (numbers-of k .programs))
+unfolding roomOf stateBounded stateAfter ownBehind ownAfter emptyOwn boundsTest isRelation isKey isProgram isStatementOrFlow isLink
+    isStatement isStatementOf sort blocksAfter toSecondArm
+room-kept s b k g l = go (l .kind) (l .id) (l .rel) (l .to) (l .reads) (l .writes) (l .tests) (eqb (b .programs) 0)
+    (ap (λ p. eqb p 0) (numbers-of k .programs))
   where
     n : Numbers s b
     n = numbers-of k
@@ -636,7 +627,8 @@ room-kept s b k g l = go (l .kind) (l .id) (l .rel) (l .to) (l .reads) (l .write
         let w = within-bounds in
         let m = n in
         let f = lengths b l in
-        ap (λ t. t || (ltb (s .statements .count) 32 && ltb (s .body) 64)) e ∙ bounds-same true (length (b .relations ++ keep isRelation (l ∷ []))) (length (b .keys ++ keep isKey (l ∷ [])))
+        ap (λ t. t || (ltb (s .statements .count) 32 && ltb (s .body) 64)) e ∙ bounds-same true
+        (length (b .relations ++ keep isRelation (l ∷ []))) (length (b .keys ++ keep isKey (l ∷ [])))
         (b .programs + cond (isProgram l) 1 0) (length (o .statements)) (o .body) (o .links) (length (o .open-blocks))
         (λ h. omega arith) (λ h. refl)
     go (St j) id rel to reads writes tests false e =
@@ -646,7 +638,8 @@ room-kept s b k g l = go (l .kind) (l .id) (l .rel) (l .to) (l .reads) (l .write
         let m = n in
         let f = lengths b l in
         ap (λ t. t || (ltb (s .statements .count) 32 && ltb (s .body) 64)) e
-        ∙ two-bounds (s .statements .count) 32 (s .body) 64 (length (b .relations ++ keep isRelation (l ∷ []))) (length (b .keys ++ keep isKey (l ∷ [])))
+        ∙ two-bounds (s .statements .count) 32 (s .body) 64 (length (b .relations ++ keep isRelation (l ∷ [])))
+        (length (b .keys ++ keep isKey (l ∷ [])))
         (b .programs + cond (isProgram l) 1 0) (length (o .statements)) (o .body) (o .links) (length (o .open-blocks))
         (λ h h′. omega arith) (λ h. omega arith)
     go Lo id rel to reads writes tests true e =
@@ -655,7 +648,8 @@ room-kept s b k g l = go (l .kind) (l .id) (l .rel) (l .to) (l .reads) (l .write
         let w = within-bounds in
         let m = n in
         let f = lengths b l in
-        ap (λ t. t || (ltb (s .body) 64 && ltb (s .stack .depth) 8)) e ∙ bounds-same true (length (b .relations ++ keep isRelation (l ∷ []))) (length (b .keys ++ keep isKey (l ∷ [])))
+        ap (λ t. t || (ltb (s .body) 64 && ltb (s .stack .depth) 8)) e ∙ bounds-same true (length (b .relations ++ keep isRelation (l ∷ [])))
+        (length (b .keys ++ keep isKey (l ∷ [])))
         (b .programs + cond (isProgram l) 1 0) (length (o .statements)) (o .body) (o .links) (length (o .open-blocks))
         (λ h. omega arith) (λ h. refl)
     go Lo id rel to reads writes tests false e =
@@ -674,7 +668,8 @@ room-kept s b k g l = go (l .kind) (l .id) (l .rel) (l .to) (l .reads) (l .write
         let w = within-bounds in
         let m = n in
         let f = lengths b l in
-        ap (λ t. t || (ltb (s .body) 64 && ltb (s .stack .depth) 8)) e ∙ bounds-same true (length (b .relations ++ keep isRelation (l ∷ []))) (length (b .keys ++ keep isKey (l ∷ [])))
+        ap (λ t. t || (ltb (s .body) 64 && ltb (s .stack .depth) 8)) e ∙ bounds-same true (length (b .relations ++ keep isRelation (l ∷ [])))
+        (length (b .keys ++ keep isKey (l ∷ [])))
         (b .programs + cond (isProgram l) 1 0) (length (o .statements)) (o .body) (o .links) (length (o .open-blocks))
         (λ h. omega arith) (λ h. refl)
     go Br id rel to reads writes tests false e =
@@ -693,7 +688,8 @@ room-kept s b k g l = go (l .kind) (l .id) (l .rel) (l .to) (l .reads) (l .write
         let w = within-bounds in
         let m = n in
         let f = lengths b l in
-        ap (λ t. t || (ltb 0 1 && ltb (s .body) 64)) e ∙ bounds-same true (length (b .relations ++ keep isRelation (l ∷ []))) (length (b .keys ++ keep isKey (l ∷ [])))
+        ap (λ t. t || ltb (s .body) 64) e ∙ bounds-same true (length (b .relations ++ keep isRelation (l ∷ [])))
+        (length (b .keys ++ keep isKey (l ∷ [])))
         (b .programs + cond (isProgram l) 1 0) (length (o .statements)) (o .body) (o .links) (length (o .open-blocks))
         (λ h. omega arith) (λ h. refl)
     go El id rel to reads writes tests false e =
@@ -702,17 +698,18 @@ room-kept s b k g l = go (l .kind) (l .id) (l .rel) (l .to) (l .reads) (l .write
         let w = within-bounds in
         let m = n in
         let f = lengths b l in
-        ap (λ t. t || (ltb 0 1 && ltb (s .body) 64)) e
-        ∙ two-bounds 0 1 (s .body) 64 (length (b .relations ++ keep isRelation (l ∷ []))) (length (b .keys ++ keep isKey (l ∷ [])))
+        ap (λ t. t || ltb (s .body) 64) e
+        ∙ one-bound (s .body) 64 (length (b .relations ++ keep isRelation (l ∷ []))) (length (b .keys ++ keep isKey (l ∷ [])))
         (b .programs + cond (isProgram l) 1 0) (length (o .statements)) (o .body) (o .links) (length (o .open-blocks))
-        (λ h h′. omega arith) (λ h. omega arith)
+        (λ h. omega arith) (λ h. omega arith)
     go En id rel to reads writes tests true e =
         let l = lineBy En id rel to reads writes tests in
         let o = after true l in
         let w = within-bounds in
         let m = n in
         let f = lengths b l in
-        ap (λ t. t || (ltb 0 1 && ltb (s .body) 64)) e ∙ bounds-same true (length (b .relations ++ keep isRelation (l ∷ []))) (length (b .keys ++ keep isKey (l ∷ [])))
+        ap (λ t. t || ltb (s .body) 64) e ∙ bounds-same true (length (b .relations ++ keep isRelation (l ∷ [])))
+        (length (b .keys ++ keep isKey (l ∷ [])))
         (b .programs + cond (isProgram l) 1 0) (length (o .statements)) (o .body) (o .links) (length (o .open-blocks))
         (λ h. omega arith) (λ h. refl)
     go En id rel to reads writes tests false e =
@@ -721,17 +718,18 @@ room-kept s b k g l = go (l .kind) (l .id) (l .rel) (l .to) (l .reads) (l .write
         let w = within-bounds in
         let m = n in
         let f = lengths b l in
-        ap (λ t. t || (ltb 0 1 && ltb (s .body) 64)) e
-        ∙ two-bounds 0 1 (s .body) 64 (length (b .relations ++ keep isRelation (l ∷ []))) (length (b .keys ++ keep isKey (l ∷ [])))
+        ap (λ t. t || ltb (s .body) 64) e
+        ∙ one-bound (s .body) 64 (length (b .relations ++ keep isRelation (l ∷ []))) (length (b .keys ++ keep isKey (l ∷ [])))
         (b .programs + cond (isProgram l) 1 0) (length (o .statements)) (o .body) (o .links) (length (o .open-blocks))
-        (λ h h′. omega arith) (λ h. omega arith)
+        (λ h. omega arith) (λ h. omega arith)
     go Li id rel to reads writes tests true e =
         let l = lineBy Li id rel to reads writes tests in
         let o = after true l in
         let w = within-bounds in
         let m = n in
         let f = lengths b l in
-        ap (λ t. t || (ltb 0 1 && ltb (s .links) 32)) e ∙ bounds-same true (length (b .relations ++ keep isRelation (l ∷ []))) (length (b .keys ++ keep isKey (l ∷ [])))
+        ap (λ t. t || ltb (s .links) 32) e ∙ bounds-same true (length (b .relations ++ keep isRelation (l ∷ [])))
+        (length (b .keys ++ keep isKey (l ∷ [])))
         (b .programs + cond (isProgram l) 1 0) (length (o .statements)) (o .body) (o .links) (length (o .open-blocks))
         (λ h. omega arith) (λ h. refl)
     go Li id rel to reads writes tests false e =
@@ -740,10 +738,10 @@ room-kept s b k g l = go (l .kind) (l .id) (l .rel) (l .to) (l .reads) (l .write
         let w = within-bounds in
         let m = n in
         let f = lengths b l in
-        ap (λ t. t || (ltb 0 1 && ltb (s .links) 32)) e
-        ∙ two-bounds 0 1 (s .links) 32 (length (b .relations ++ keep isRelation (l ∷ []))) (length (b .keys ++ keep isKey (l ∷ [])))
+        ap (λ t. t || ltb (s .links) 32) e
+        ∙ one-bound (s .links) 32 (length (b .relations ++ keep isRelation (l ∷ []))) (length (b .keys ++ keep isKey (l ∷ [])))
         (b .programs + cond (isProgram l) 1 0) (length (o .statements)) (o .body) (o .links) (length (o .open-blocks))
-        (λ h h′. omega arith) (λ h. omega arith)
+        (λ h. omega arith) (λ h. omega arith)
 
 -- ---- the fault of a line
 
@@ -992,7 +990,8 @@ own-line s b l body links k x kept g next no-relation no-key no-program begun h 
 pub step-kept : (s : State) (b : Before) → Keeps s b → Good b → (l : Line)
     → stateBounded (stateAfter b l) ≡ true → stateOrdered b l ≡ true
     → Keeps (takeAs s l (l .kind)) (stateAfter b l) × Good (stateAfter b l)
-unfolding takeAs stateOrdered stateInBody stateInnermost isProgram isRelation isKey isStatement isStatementOf isStatementOrFlow isLink sort ownAfter emptyOwn blocksAfter toSecondArm fitting parentalOf placeOf partOf maskOf ownBehind
+unfolding takeAs stateOrdered stateInBody stateInnermost isProgram isRelation isKey isStatement isStatementOf isStatementOrFlow isLink sort
+    ownAfter emptyOwn blocksAfter toSecondArm fitting parentalOf placeOf partOf maskOf ownBehind
 step-kept s b k g l = go (l .kind) (l .id) (l .rel) (l .to) (l .reads) (l .writes) (l .tests)
   where
     n : Numbers s b
@@ -1144,7 +1143,8 @@ step-kept s b k g l = go (l .kind) (l .id) (l .rel) (l .to) (l .reads) (l .write
         let l = lineBy (St j) id rel to reads writes tests in
         let t = and-true (not (eqb (b .programs) 0)) (eqb (b .own .links) 0) e in
         let no-link = eqb-true (b .own .links) 0 (t .1) in
-        own-line s b l (nextOf (s .body)) (s .links) (s .stack) (withStatement (s .statements) (s .stack) rel (cond (canBeParent j) 1 0)) k g lines-next refl refl refl (t .0) h
+        own-line s b l (nextOf (s .body)) (s .links) (s .stack) (withStatement (s .statements) (s .stack) rel (cond (canBeParent j) 1 0)) k g
+        lines-next refl refl refl (t .0) h
         (λ fits.
         let m = n in
         let w = bounds in
@@ -1155,7 +1155,8 @@ step-kept s b k g l = go (l .kind) (l .id) (l .rel) (l .to) (l .reads) (l .write
           body-kept = body-next;
           links-kept = same (s .links) (b .own .links) (n .links);
           stack-kept = k .stack;
-          statements-kept = statement-kept (s .statements) (s .stack) (b .own .statements) (b .own .around) (b .own .open-blocks) l (k .statements) (k .stack) (omega arith);
+          statements-kept = statement-kept (s .statements) (s .stack) (b .own .statements) (b .own .around) (b .own .open-blocks) l
+              (k .statements) (k .stack) (omega arith);
           place-more = refl;
           place-sum = omega arith;
           blocks-fit = g .open-fit;

@@ -2,20 +2,19 @@
 use mathlib.Core.Bool.{Bool, true, false}
 use mathlib.Core.List.{List, [], _∷_, _++_, flatMap}
 use mathlib.Core.Option.{some}
-use mathlib.Core.Path.{_≡_, refl}
+use mathlib.Core.Path.{_≡_, refl, ap}
 use Prim.Native.Nat.{ℕ, zero, suc}
 use Prim.Native.String.{String}
 use native.Mathlib.Omega.{arith}
 use lib.Count.{onesIn, trailingZeros}
-use lib.ListN.{replicate}
+use lib.ListN.{length, replicate}
 use Rattle.base.specs.BoolLaws.{true-false}
 use Rattle.text.specs.declared.Line.{Line}
 use Rattle.text.specs.declared.LineKind.{LineKind}
 use Rattle.text.specs.declared.LineKind.the-variants.{Pr, St, Lo, Br, El, En}
 use Rattle.text.specs.declared.StatementKind.the-variants.{Ku}
-use Rattle.text.specs.Reading.{Outcome}
 use Rattle.text.specs.Reading.Outcome.{refused, accepted}
-use Rattle.text.specs.Value.{digit, digitsOf}
+use Rattle.text.specs.Value.{digit, digitsOf, valueOf}
 use Rattle.text.specs.Quoted.{bytes, text, readBytes}
 use Rattle.graph.specs.Graph.{Flow}
 use Rattle.graph.specs.Program.{statementOf, behind, runOf, linksOf, programsOf}
@@ -23,7 +22,8 @@ use Rattle.graph.specs.Unfolding.{inside, occurrences, pairs, unfoldings, nodes
 use Rattle.graph.specs.Edge.{W, R, T, holds, sameRelation, leads, binds, guarded, shielded, forward, back, placesFrom, placesOf, letterOf}
 use Rattle.graph.specs.Edge.{shared, edgeOf, edgesBetween, edgesOf, placeAt, graphOf}
 use Rattle.graph.specs.Walk.{Step, isEdge, dangerousPair, isDangerous}
-use Rattle.report.specs.State.{Counts, countsOf, statementsIn, tooMany, shortForUnfoldings, shortForEdges, shortForWalk, summaryGraph, StateRefusal}
+use Rattle.report.specs.State.{Counts, countsOf, statementsIn, tooMany, summaryGraph, StateRefusal}
+use Rattle.report.specs.State.{shortForUnfoldings, shortForEdges, shortForWalk}
 use Rattle.report.specs.State.StateRefusal.{not-given}
 use Rattle.report.specs.Report.{verdictNames, robustWord, dangerWord, stepNames, refusedNames, decimal, verdictLine, stepLine, stepLines}
 use Rattle.report.specs.Report.{refusalReport, robustReport, dangerReport, Report}
@@ -136,9 +136,14 @@ edges-enough : edgesShort 0 ≡ false
 unfolding edgesShort
 edges-enough = refl
 
--- S21: a value that counts more lines than it has cells is given by no text
-not-a-workload : StateRefusal (record { count = 2000; lines = [] }) true (some 21)
-not-a-workload = not-given (λ g. omega (arith, g .fits))
+-- S21: a value without cells is given by no text
+not-a-workload : StateRefusal (record { count = 0; lines = [] }) true (some 21)
+unfolding valueOf
+not-a-workload = not-given (λ g. go (g .lines) (g .value))
+  where
+    go : (lines : List Line) → record { count = 0; lines = [] } ≡ valueOf lines → ⊥
+    go [] e = omega (arith, ap (λ w. length (w .lines)) e)
+    go (l ∷ lines) e = omega (arith, ap (λ w. w .count) e)
 
 -- ---- reports of texts
 

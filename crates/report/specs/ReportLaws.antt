@@ -1,21 +1,21 @@
 -- What a report says: its word is the verdict's, and no refusal is a verdict.
-use mathlib.Core.List.{List, [], _∷_, _++_}
+use mathlib.Core.List.{List, []}
 use mathlib.Core.Path.{_≡_, refl, sym, ap, _∙_}
-use Prim.Native.Nat.{ℕ, zero, suc}
+use Prim.Native.Nat.{ℕ}
 use native.Mathlib.Omega.{arith}
 use lib.ListN.{getD}
 use Rattle.text.specs.declared.Line.{Line}
 use Rattle.text.specs.declared.Workload.{Workload}
 use Rattle.text.specs.Reading.{read}
 use Rattle.text.specs.Reading.Outcome.{accepted}
-use Rattle.text.specs.Value.{Given, linesOf}
 use Rattle.graph.specs.Walk.{Step}
 use Rattle.report.specs.State.{Counts, Robust, tooMany, StateRefusal}
 use Rattle.report.specs.State.StateRefusal.{not-given, too-many, too-short, taken}
-use Rattle.report.specs.Report.{verdictNames, robustWord, dangerWord, refusedNames, verdictLine, refusalReport, robustReport, dangerReport, Report}
+use Rattle.report.specs.Report.{verdictNames, robustWord, dangerWord, refusedNames, verdictLine}
+use Rattle.report.specs.Report.{refusalReport, robustReport, dangerReport, Report}
 use Rattle.report.specs.Report.Report.{refusal, unfolding-refusal, robust, danger}
-use mathlib.Core.Option.{Option, none, some}
-use mathlib.Core.Bool.{Bool, true, false, false≢true}
+use mathlib.Core.Option.{Option}
+use mathlib.Core.Bool.{Bool, false, false≢true}
 
 -- the first byte of a report, and the first of its word
 first-of-refusal : (number line : ℕ) → getD (refusalReport number line) 0 0 ≡ 0x72

@@ -9,17 +9,17 @@
 -- `Schedule` (schedule/Schedule), `Serialisable` (schedule/Serial).
 use mathlib.Core.Bool.{Bool, true, false, cond}
 use mathlib.Core.List.{List, [], _∷_, _++_, append-assoc}
-use mathlib.Core.Path.{_≡_, refl, sym, ap, subst, _∙_}
+use mathlib.Core.Path.{_≡_, refl, sym, ap, subst}
 use Prim.Native.Nat.{ℕ, zero, suc, _+_, _/_, _%_, _<_}
 use native.Mathlib.Omega.{arith}
 use lib.Dec.{eqb, ltb}
 use lib.ListN.{length, getD, take}
-use borrow.Author.Tests.{lt-ltb, le-ltb, ltb-true, ltb-false}
+use borrow.Author.Tests.{lt-ltb, ltb-true}
 use Rattle.text.specs.declared.Line.{Line}
 use Rattle.text.specs.Text.{newline, space}
 use Rattle.text.specs.Reading.{read}
 use Rattle.text.specs.Reading.Outcome.{accepted}
-use Rattle.text.specs.Value.{Given, linesOf, valueOf, digit, digitsOf}
+use Rattle.text.specs.Value.{valueOf, digit, digitsOf}
 use Rattle.graph.specs.Walk.{Step}
 use Rattle.schedule.specs.Schedule.{Schedule}
 use Rattle.schedule.specs.Serial.{Serialisable}

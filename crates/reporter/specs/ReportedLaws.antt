@@ -1,25 +1,23 @@
 -- The printed report of a text, case by case.
-use mathlib.Core.Bool.{Bool, true, false}
-use mathlib.Core.List.{List, [], _∷_, _++_}
+use mathlib.Core.Bool.{true, false}
+use mathlib.Core.List.{List}
 use mathlib.Core.Option.{Option, none, some}
-use mathlib.Core.Path.{_≡_, refl, sym, ap, ap₂, subst, _∙_}
-use Prim.Native.Nat.{ℕ, zero, suc, _-_, _/_, _≤_}
+use mathlib.Core.Path.{_≡_, refl, sym, ap, subst, _∙_}
+use Prim.Native.Nat.{ℕ, zero, suc, _-_, _/_}
 use native.Mathlib.Omega.{arith}
-use lib.ListN.{length, take, drop, replicate, length-append, length-replicate}
+use lib.ListN.{length, replicate, length-append, length-replicate}
 use lib.Seq.{take-at, drop-at}
 use Rattle.base.specs.BoolLaws.{true-false}
-use Rattle.text.specs.declared.Line.{Line}
 use Rattle.text.specs.declared.Workload.{Workload}
 use Rattle.text.specs.Reading.{read}
-use Rattle.text.specs.Reading.Outcome.{refused, accepted}
-use Rattle.text.specs.Value.{Given, linesOf, valueOf}
+use Rattle.text.specs.Reading.Outcome.{accepted}
+use Rattle.text.specs.Value.{Given, linesOf}
 use Rattle.graph.specs.Walk.{Step}
 use Rattle.reading.specs.ValueLaws.{lines-of-value, value-given}
-use Rattle.report.specs.State.{Counts, countsOf, tooMany, shortForWalk, StateRefusal, refusalOf}
+use Rattle.report.specs.State.{countsOf, tooMany, shortForWalk, StateRefusal, refusalOf}
 use Rattle.report.specs.State.StateRefusal.{not-given, too-many, too-short, taken}
 use Rattle.report.specs.Report.{Report, refusalReport, robustReport, dangerReport}
 use Rattle.report.specs.Report.Report.{refusal, unfolding-refusal, robust, danger}
-use Rattle.detector.specs.Table.{shownIn}
 use Rattle.reader.specs.declared.Parsed.{Parsed}
 use Rattle.reader.specs.Parse.{parsedAs}
 use Rattle.judging.specs.declared.Verdict.{Verdict}

@@ -7,22 +7,22 @@ use Prim.Native.Nat.{ℕ, zero, suc, _+_, _*_, _-_, _/_, _≤_, _<_}
 use native.Mathlib.Omega.{arith}
 use lib.Dec.{ltb}
 use lib.ListN.{length, getD, getElem?, take, drop, replicate, length-take, length-map, List·getD-append}
-use borrow.Author.Tests.{ltb-true, ltb-false, lt-ltb, le-ltb}
-use Rattle.base.specs.BoolLaws.{or-false}
+use borrow.Author.Tests.{lt-ltb, le-ltb}
 use Rattle.base.specs.ListLaws.{getElem?-lt, getElem?-member, getElem?-map-some}
 use Rattle.text.specs.declared.Line.{Line}
 use Rattle.text.specs.declared.Workload.{Workload}
 use Rattle.text.specs.Value.{Given, linesOf}
+use Rattle.reading.specs.ValueLaws.{given-read, given-fits, given-cells}
 use Rattle.graph.specs.Program.{programsOf}
 use Rattle.graph.specs.Unfolding.{Node, nodesOf}
 use Rattle.report.specs.State.{StateRefusal, statementsIn, tooMany, shortForUnfoldings, refusalOf}
-use Rattle.report.specs.State.StateRefusal.{not-given, too-many, too-short, taken}
+use Rattle.report.specs.State.StateRefusal.{too-short, taken}
 use Rattle.tables.specs.Table.{rowsOf, tableOf}
 use Rattle.choosing.specs.Table.{cells}
 use Rattle.unfolder.specs.declared.Unfolded.{Unfolded}
 use Rattle.unfolder.specs.Result.{refusedWith, nodesTold}
 use Rattle.unfolder.specs.Settled.{PlacesStand, PlacesSettled}
-use Rattle.rows.specs.Edges.{taken-given}
+use Rattle.rows.specs.Refusals.{refusal-some, refusal-none, same-number, not-both, places-few, taken-given, other-area}
 use Rattle.rows.specs.declared.Begun.{Begun}
 use Rattle.rows.specs.declared.Rows.{Rows}
 use Rattle.rows.specs.Lines.{lineTable}
@@ -55,40 +55,6 @@ filled-by w words e programs lengths places n before b h total t after s =
 
 -- ---- refusals
 
-no-refusal : (m : ℕ) → (refusalOf m ≡ none → ⊥) → (n : ℕ) → refusalOf m ≡ some n → n ≡ m
-unfolding refusalOf
-no-refusal zero d n e = absurd (d refl)
-no-refusal (suc m) d n e = cc
-
-module _ (w : Workload) where
-  -- S22 leaves at most 512 statements
-  few : tooMany (linesOf w) ≡ false → statementsIn (nodesOf (linesOf w)) ≤ 512
-  unfolding tooMany
-  few h =
-      let nodes = nodesOf (linesOf w) in
-      ltb-false 512 (statementsIn nodes) (or-false (ltb 64 (length nodes)) (ltb 512 (statementsIn nodes)) h .1)
-
-  -- 512 words are never too few, so a refusal is for another reason
-  other-area : (room : ℕ) → room ≡ 512 → (short : Bool) (o : Option ℕ) → StateRefusal w (shortForUnfoldings (linesOf w) room) o
-      → (o ≡ none → ⊥) → StateRefusal w short o
-  unfolding shortForUnfoldings
-  other-area room e short o (not-given h) d = not-given h
-  other-area room e short o (too-many g t) d = too-many g t
-  other-area room e short o (too-short g t s) d =
-      let most = few t in
-      let less = ltb-true room (statementsIn (nodesOf (linesOf w))) s in
-      absurd (omega arith)
-  other-area room e short o (taken g t s) d = absurd (d refl)
-
-refused-none : (m : ℕ) → (m ≡ 0 → ⊥) → refusalOf m ≡ none → ⊥
-unfolding refusalOf
-refused-none zero d e = d refl
-refused-none (suc m) d e = let z : _≡_ {A = ℕ} 0 1 = cc in absurd (omega arith)
-
-none-refused : (m : ℕ) → m ≡ 0 → refusalOf m ≡ none
-unfolding refusalOf
-none-refused m e = rw e refl
-
 refused-at : (w : Workload) (before : List ℕ) (m : ℕ) (r : Rows)
     → StateRefusal w (ltb (length before) (8 * statementsIn (nodesOf (linesOf w)))) (refusalOf m) → (m ≡ 0 → ⊥) → r ≡ rowsRefused m
     → RowsSettled w before r before
@@ -96,9 +62,14 @@ unfolding rowsRefused
 refused-at w before m r h d e =
     rw e (record {
       refusal = h;
-      refused = λ n p. (ap rowsRefused (sym (no-refusal m (refused-none m d) n p)), refl);
-      filled = λ p. absurd (refused-none m d p);
+      refused = λ n p. (ap rowsRefused (same-number d p), refl);
+      filled = λ p. absurd (not-both (refusal-some m d) p);
     })
+
+-- 512 words are never too few
+roomy : (w : Workload) (room : ℕ) → room ≡ 512 → tooMany (linesOf w) ≡ false → shortForUnfoldings (linesOf w) room ≡ false
+unfolding shortForUnfoldings
+roomy w room e t = let most = places-few w t in le-ltb room (statementsIn (nodesOf (linesOf w))) (omega arith)
 
 module _ (w : Workload) (zeros : List ℕ) (size : length zeros ≡ 512) (told : Unfolded) (area : List ℕ) (settled : PlacesSettled w zeros told area)
     (before : List ℕ) where
@@ -106,8 +77,7 @@ module _ (w : Workload) (zeros : List ℕ) (size : length zeros ≡ 512) (told :
   pub refused-number : (told .refusal ≡ 0 → ⊥) → (r : Rows) → r ≡ rowsRefused (told .refusal) → RowsSettled w before r before
   refused-number d r e =
       refused-at w before (told .refusal) r
-      (other-area w (length zeros) size (ltb (length before) (8 * statementsIn (nodesOf (linesOf w)))) (refusalOf (told .refusal)) (settled .refusal)
-      (refused-none (told .refusal) d)) d e
+      (other-area (roomy w (length zeros) size) (ltb (length before) (8 * statementsIn (nodesOf (linesOf w)))) (refusal-some (told .refusal) d) (settled .refusal)) d e
 
   module _ (none-told : told .refusal ≡ 0) where
     abbrev lines : List Line
@@ -117,15 +87,13 @@ module _ (w : Workload) (zeros : List ℕ) (size : length zeros ≡ 512) (told :
     nodes = nodesOf (linesOf w)
 
     both : Given w × (tooMany (linesOf w) ≡ false)
-    both =
-        taken-given w (shortForUnfoldings (linesOf w) (length zeros)) (refusalOf (told .refusal)) (settled .refusal)
-        (none-refused (told .refusal) none-told)
+    both = taken-given (settled .refusal) (refusal-none (told .refusal) none-told)
 
     is-told : told ≡ nodesTold nodes
-    is-told = settled .unfolded (none-refused (told .refusal) none-told) .0
+    is-told = settled .unfolded (refusal-none (told .refusal) none-told) .0
 
     stand : PlacesStand lines zeros area
-    stand = settled .unfolded (none-refused (told .refusal) none-told) .1
+    stand = settled .unfolded (refusal-none (told .refusal) none-told) .1
 
     -- a cell of a table of nodes
     cell-of : (f : Node → ℕ) (j : ℕ) (n : Node) → getElem? nodes j ≡ some n → getD (cells (map f nodes)) j 0 ≡ f n
@@ -140,7 +108,7 @@ module _ (w : Workload) (zeros : List ℕ) (size : length zeros ≡ 512) (told :
         → Told lines nodes (begunIn (lineTable lines) .firsts) (told .program) (told .length) j n
     unfolding nodesTold
     all-told j n e =
-        let begins = node-begins (both .0 .text) lines (both .0 .isRead) n (getElem?-member nodes j e) in
+        let begins = node-begins (both .0 .text) lines (given-read (both .0)) n (getElem?-member nodes j e) in
         record {
           program = ap (λ (u : Unfolded). getD (u .program) j 0) is-told ∙ cell-of (λ x. x .program) j n e;
           places = ap (λ (u : Unfolded). getD (u .length) j 0) is-told ∙ cell-of (λ x. length (x .places)) j n e;
@@ -155,17 +123,17 @@ module _ (w : Workload) (zeros : List ℕ) (size : length zeros ≡ 512) (told :
     pub total-told : totalOf (told .length) (told .count) ≡ statementsIn nodes
     total-told =
         ap (totalOf (told .length)) count-told
-        ∙ places-told (both .0 .text) lines (both .0 .isRead) nodes (stand .words) (drop (length (stand .words)) zeros)
+        ∙ places-told (both .0 .text) lines (given-read (both .0)) nodes (stand .words) (drop (length (stand .words)) zeros)
         (begunIn (lineTable lines) .firsts) (told .program) (told .length) (stand .fits) all-told
 
     pub total-few : totalOf (told .length) (told .count) ≤ 512
-    total-few = let a = total-told in let b = few w (both .1) in omega arith
+    total-few = let a = total-told in let b = places-few w (both .1) in omega arith
 
     pub workload-cells : length (w .lines) ≡ 1616
-    workload-cells = both .0 .cells
+    workload-cells = given-cells (both .0)
 
     pub workload-count : w .count ≤ 1616
-    workload-count = both .0 .fits
+    workload-count = given-fits (both .0)
 
     -- S20
     pub refused-short : (places : ℕ) → places ≡ totalOf (told .length) (told .count) → length before < places * 8 → (r : Rows) → r ≡ rowsRefused 20
@@ -186,7 +154,7 @@ module _ (w : Workload) (zeros : List ℕ) (size : length zeros ≡ 512) (told :
         let rest = drop (length (stand .words)) zeros in
         ap (λ (a : List ℕ). allRows (lineTable lines) firsts (told .program) (told .length) a (told .count)) (stand .stands)
         ∙ ap (allRows (lineTable lines) firsts (told .program) (told .length) (stand .words ++ rest)) count-told
-        ∙ table-filled (both .0 .text) lines (both .0 .isRead) nodes (stand .words) rest firsts (told .program) (told .length) (stand .fits) all-told
+        ∙ table-filled (both .0 .text) lines (given-read (both .0)) nodes (stand .words) rest firsts (told .program) (told .length) (stand .fits) all-told
 
     -- the table is filled
     pub filled-table : (places : ℕ) → places ≡ totalOf (told .length) (told .count) → places * 8 ≤ length before → (r : Rows) (after : List ℕ)

@@ -1,5 +1,5 @@
 pub mod Lines
 pub mod Words
 pub mod Rows
-pub mod Edges
+pub mod Refusals
 pub mod Whole

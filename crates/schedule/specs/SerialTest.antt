@@ -1,8 +1,8 @@
 -- A test of an order of the transactions that computes, and that it says what `SerialOrder` says: an order that passes serves, and
 -- every order that serves passes.
 use mathlib.Core.Bool.{Bool, true, false, cond, not, _&&_, _||_, false≢true}
-use mathlib.Core.List.{List, [], _∷_, map, flatMap, reverseAux}
-use mathlib.Core.List.{List·Memᴰ, List·Memᴰ·not-nil, List·Memᴰ·cases-cons, List·Memᴰ·append-cases, Memᴰ·cast, Memᴰ·map}
+use mathlib.Core.List.{List, [], _∷_, map}
+use mathlib.Core.List.{List·Memᴰ, Memᴰ·cast, Memᴰ·map}
 use mathlib.Core.List.List·Memᴰ.{List·Memᴰ·head, List·Memᴰ·tail}
 use mathlib.Core.Logic.{_⊎_, inl, inr}
 use mathlib.Core.Option.{Option, none, some}
@@ -13,9 +13,9 @@ use lib.Dec.{eqb, ltb}
 use lib.ListN.{length, getD, getElem?, take}
 use borrow.Author.Tests.{eqb-true, eq-eqb, ne-eqb, ltb-true, ltb-false, lt-ltb, le-ltb}
 use Rattle.base.specs.Basic.{any, all, keep, count, numbers, has}
-use Rattle.base.specs.BoolLaws.{decide, and-true, and-of, true-of, true-false}
+use Rattle.base.specs.BoolLaws.{implied, implies, decide, and-true, and-of, true-of, true-false}
 use Rattle.base.specs.ListLaws.{any-true, any-false, all-true, all-of, keep-none, keep-member, member-keep, first-of-none}
-use Rattle.base.specs.ListLaws.{getElem?-lt, getElem?-member, take-member}
+use Rattle.base.specs.ListLaws.{getElem?-lt, getElem?-member, take-member, reverse-member, flatMap-member}
 use Rattle.base.specs.ListLaws.{all-numbers, all-numbers-of, any-numbers, any-numbers-of}
 use Rattle.base.specs.WordLaws.{has-below, has-past, has-every}
 use Rattle.schedule.specs.Event.{Action, Event, by, isWrite, isRead, isPredicateRead}
@@ -24,15 +24,6 @@ use Rattle.schedule.specs.Event.Action.{read, write, insert, delete, pre
 use Rattle.schedule.specs.Schedule.{everyAttribute}
 use Rattle.schedule.specs.Examples.{openRules}
 use Rattle.schedule.specs.Serial.{serialRun, stateAt, SameRead, SamePredicateRead, SerialOrder}
-
--- `not a || b` is what `a` asks of `b`
-implied : (a b : Bool) → not a || b ≡ true → a ≡ true → b ≡ true
-implied true b h s = h
-implied false b h s = absurd (false≢true s)
-
-implies : (a b : Bool) → (a ≡ true → b ≡ true) → not a || b ≡ true
-implies true b f = f refl
-implies false b f = refl
 
 -- ---- the same event
 
@@ -195,38 +186,16 @@ whole-same set v w h = true-whole set v w (ap existence h) (λ a b. ap (λ x. so
 
 -- ---- tuples that no event writes
 
--- what a list has turned round is in it
-reverse-member : {A : Type 0} (l r : List A) {x : A} → List·Memᴰ x (reverseAux l r) → List·Memᴰ x l ⊎ List·Memᴰ x r
-reverse-member [] r m = inr m
-reverse-member {A} (y ∷ l) r {x} m = go (reverse-member l (y ∷ r) m)
-  where
-    last : (x ≡ y) ⊎ List·Memᴰ x r → List·Memᴰ x (y ∷ l) ⊎ List·Memᴰ x r
-    last (inl e) = inl (List·Memᴰ·head e)
-    last (inr n) = inr n
-
-    go : List·Memᴰ x l ⊎ List·Memᴰ x (y ∷ r) → List·Memᴰ x (y ∷ l) ⊎ List·Memᴰ x r
-    go (inl n) = inl (List·Memᴰ·tail n)
-    go (inr n) = last (List·Memᴰ·cases-cons n)
-
 -- what is past is one of the events
 past-member : (events : List Event) (n : ℕ) {e : Event} → List·Memᴰ e (pastAt events n) → List·Memᴰ e events
 unfolding pastAt
-past-member events n {e} m = go (reverse-member (take n events) [] m)
-  where
-    go : List·Memᴰ e (take n events) ⊎ List·Memᴰ e [] → List·Memᴰ e events
-    go (inl k) = take-member n events k
-    go (inr k) = absurd (List·Memᴰ·not-nil k)
+past-member events n m = take-member n events (reverse-member (take n events) m)
 
 -- what is in the serial run is one of the events
-run-member : (order : List ℕ) (events : List Event) {e : Event} → List·Memᴰ e (serialRun order events) → List·Memᴰ e events
-unfolding serialRun flatMap
-run-member [] events m = absurd (List·Memᴰ·not-nil m)
-run-member (i ∷ order) events {e} m = go (λ k. run-member order events k) (List·Memᴰ·append-cases (keep (by i) events) m)
-  where
-    go : (List·Memᴰ e (serialRun order events) → List·Memᴰ e events)
-        → List·Memᴰ e (keep (by i) events) ⊎ List·Memᴰ e (serialRun order events) → List·Memᴰ e events
-    go rest (inl k) = keep-member (by i) events k .0
-    go rest (inr k) = rest k
+pub run-member : (order : List ℕ) (events : List Event) {e : Event} → List·Memᴰ e (serialRun order events) → List·Memᴰ e events
+unfolding serialRun
+run-member order events m =
+    let t = flatMap-member (λ (i : ℕ). keep (by i) events) order m in keep-member (by (t .0)) events (t .2) .0
 
 -- a tuple that no event writes has no writes in any part of the events
 unwritten : (r t : ℕ) (events part : List Event) → any (writesTo r t) events ≡ false

@@ -131,7 +131,8 @@ module _ {lines : List Line} (s : Schedule lines) (set : ℕ → ℕ)
     unfolding forward sameRelation Related
     forward-edge =
         let t = related dependency in
-        let e : (at (p .spot) .relation ≡ at (q .spot) .relation) = ap (λ (s : Statement). s .relation) (p .statement) ∙ t .0 ∙ ap (λ (s : Statement). s .relation) (sym (q .statement)) in
+        let e : (at (p .spot) .relation ≡ at (q .spot) .relation) =
+        ap (λ (s : Statement). s .relation) (p .statement) ∙ t .0 ∙ ap (λ (s : Statement). s .relation) (sym (q .statement)) in
         and-of (eq-eqb (at (p .spot) .relation) (at (q .spot) .relation) e)
         (any-letter (t .1) (at (p .spot)) (at (q .spot))
         (subst (λ (x : Statement). holds (t .1) x (at (q .spot)) ≡ true) (sym (p .statement))
@@ -157,7 +158,8 @@ module _ {lines : List Line} (s : Schedule lines) (set : ℕ → ℕ)
         go (write-read apart wb ra t x see) = write-left (schedule-lawful s) atB atA dependency wb commit-b
         go (write-predicate apart wb pa t see) = write-left (schedule-lawful s) atB atA dependency wb commit-b
         go (read-write apart rb wa t x see) =
-            update-commits rb (kind-implies (λ k. hasReads k && not (loosens k)) updates refl k (and-of (does-read-what doesB rb .1) (not-of-false h)))
+            update-commits rb
+            (kind-implies (λ k. hasReads k && not (loosens k)) updates refl k (and-of (does-read-what doesB rb .1) (not-of-false h)))
         go (predicate-write apart pb wa t see) =
             absurd (true-false (kind-implies hasTests loosens refl k (does-test-what doesB pb .1)) h)
 

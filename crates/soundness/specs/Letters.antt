@@ -150,7 +150,8 @@ module _ {p : Performed} {o : Operation} where
   does-delete-what (does-read a u t m) w = absurd (other isWrite a refl w)
 
   -- what a write writes where it neither inserts nor deletes
-  pub does-update-what : Does p o → isWrite (o .action) ≡ true → inserts (kindOf p) ≡ false → deletes (kindOf p) ≡ false → o .attributes ≡ W (statementOf p)
+  pub does-update-what : Does p o → isWrite (o .action) ≡ true → inserts (kindOf p) ≡ false → deletes (kindOf p) ≡ false
+      → o .attributes ≡ W (statementOf p)
   does-update-what (does-write a u t m) w i d = t
   does-update-what (does-insert a u t m) w i d = absurd (true-false u i)
   does-update-what (does-delete a u t m) w i d = absurd (true-false u d)

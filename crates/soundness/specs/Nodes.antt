@@ -25,7 +25,8 @@ member-nodes : (number : ℕ) (programs : List Program) (p : Program) → List·
 unfolding nodesOfProgram nodesFrom
 member-nodes number programs p (List·Memᴰ·head {x} {xs} e) =
     subst
-    (λ (p : Program). (u : Execution (p .body)) → List·Memᴰ u (unfoldings (p .body)) → (k : ℕ) × List·Memᴰ (nodeFor k p u) (nodesFrom number (x ∷ xs)))
+    (λ (p : Program). (u : Execution (p .body)) → List·Memᴰ u (unfoldings (p .body))
+    → (k : ℕ) × List·Memᴰ (nodeFor k p u) (nodesFrom number (x ∷ xs)))
     (sym e) (λ u m. (number, Memᴰ·append-left (nodesFrom (suc number) xs) (Memᴰ·map (λ u. nodeFor number x u) m)))
 member-nodes number programs p (List·Memᴰ·tail {x} {xs} m) =
     λ u v.

@@ -205,8 +205,8 @@ module _ {lines : List Line} (s : Schedule lines) where
       → Sets set (o .statement)) where
     -- a tie between two nodes fits the summary graph
     module _ {j : ℕ} (g : Stage) (w : Visit s j) (r k : ℕ) (t : Tie) (e : g .leaving ≡ t) (ofA : t .a .transaction ≡ j)
-        (arrival : At s w r (t .a)) (next : Event) (position : ℕ) (atNext : getElem? (s .events) position ≡ some next) (ofNext : next .transaction ≡ j)
-        (departure : At s w k next) where
+        (arrival : At s w r (t .a)) (next : Event) (position : ℕ) (atNext : getElem? (s .events) position ≡ some next)
+        (ofNext : next .transaction ≡ j) (departure : At s w k next) where
       abbrev u : Tie
       u = g .leaving
 

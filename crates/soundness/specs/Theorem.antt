@@ -4,6 +4,7 @@ use mathlib.Core.Logic.{_⊎_, inl, inr}
 use Rattle.text.specs.declared.Workload.{Workload}
 use Rattle.text.specs.Value.{Given, linesOf}
 use Rattle.text.specs.Reading.{relationSet}
+use Rattle.reading.specs.ValueLaws.{given-read}
 use Rattle.report.specs.State.{Danger, Robust, summaryGraph}
 use Rattle.schedule.specs.Schedule.{Schedule}
 use Rattle.schedule.specs.Serial.{Serialisable}
@@ -18,7 +19,7 @@ pub demand-3 : Demand3
 unfolding summaryGraph
 demand-3 w given robust s =
     go
-    (serialisable-or-dangerous s (relationSet (linesOf w)) (schedule-sets (given .text) (linesOf w) (given .isRead) s))
+    (serialisable-or-dangerous s (relationSet (linesOf w)) (schedule-sets (given .text) (linesOf w) (given-read given) s))
   where
     go : Serialisable s ⊎ Danger (linesOf w) → Serialisable s
     go (inl order) = order

@@ -180,7 +180,8 @@ module _ {lines : List Line} (s : Schedule lines) where
           let sameParent : o .statement ≡ q .0 .occurrence .statement =
           v .folded .keeps k o (o′ .0) atO (o′ .1) ∙ ap (λ (o : Occurrence). o .statement) (sym (q .2)) in
           let parts = binds-parts l (p .spot .occurrence) o b in
-          let leading = v .folded .binding k place o (p .spot .occurrence) (o′ .0) (child .occurrence) atO (p .occurrence) (o′ .1) childAt (parts .2) in
+          let leading =
+          v .folded .binding k place o (p .spot .occurrence) (o′ .0) (child .occurrence) atO (p .occurrence) (o′ .1) childAt (parts .2) in
           let bound =
           binds-of l (child .occurrence) (q .0 .occurrence) (parts .0 ∙ ap (λ (s : Statement). s .id) (p .statement))
           (parts .1 ∙ ap (λ (s : Statement). s .id) sameParent)
@@ -212,12 +213,16 @@ module _ {lines : List Line} (s : Schedule lines) where
           }
 
       linked : (l : Link) × List·Memᴰ l (p .spot .node .links)
-          × (eqb (l .key) key && any (λ parent. binds l (p .spot .occurrence) parent && shields (parent .statement .kind)) (take (p .spot .place) (p .spot .node .places)) ≡ true)
+          × (eqb (l .key) key
+          && any (λ parent. binds l (p .spot .occurrence) parent && shields (parent .statement .kind))
+          (take (p .spot .place) (p .spot .node .places))
+          ≡ true)
           → Guard v key e
       linked (l, inLinks, h) =
           let two =
           and-true (eqb (l .key) key)
-          (any (λ parent. binds l (p .spot .occurrence) parent && shields (parent .statement .kind)) (take (p .spot .place) (p .spot .node .places))) h in
+          (any (λ parent. binds l (p .spot .occurrence) parent && shields (parent .statement .kind))
+          (take (p .spot .place) (p .spot .node .places))) h in
           let found =
           any-true (λ parent. binds l (p .spot .occurrence) parent && shields (parent .statement .kind))
           (take (p .spot .place) (p .spot .node .places)) (two .1) in

@@ -2,7 +2,8 @@
 
 use text::StatementKind;
 
-// Node and place count from 0. Sets that the kind lacks hold 0. Bit f of `keys` is set where key f shields the place.
+// Node and place count from 0. In the row of a place the sets that the kind lacks hold 0; what a row holds is taken as it stands. Bit f of
+// `keys` is set where key f shields the place.
 pub struct Row {
     pub node: u64,
     pub place: u64,

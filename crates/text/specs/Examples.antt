@@ -1,26 +1,48 @@
 -- Closed cases of the rules on the text: each is computed from the definitions.
 use mathlib.Core.Bool.{Bool, true, false}
 use mathlib.Core.List.{List, [], _∷_, _++_, map, headD}
-use mathlib.Core.Option.{none, some}
+use mathlib.Core.Option.{Option, none, some}
 use mathlib.Core.Path.{_≡_, refl, ap}
-use Prim.Native.Nat.{ℕ, zero, suc, _-_, _^_, zero-le}
+use Prim.Native.Nat.{ℕ, zero, suc, _-_, _^_}
 use Prim.Native.String.{String}
 use native.Mathlib.Omega.{arith}
-use lib.ListN.{replicate}
-use Rattle.base.specs.Basic.{all, any, keep, numbers, has}
+use lib.ListN.{length, replicate}
+use Rattle.base.specs.Basic.{all, any, keep, numbers, numbersFrom, has}
 use Rattle.text.specs.declared.Line.{Line}
 use Rattle.text.specs.declared.LineKind.{LineKind}
 use Rattle.text.specs.declared.LineKind.the-variants.{Rl, Fk, Pr, St, Lo, Br, El, En, Li}
 use Rattle.text.specs.declared.StatementKind.the-variants.{Is, Ks, Ps, Ku, Pu, Kd, Pd}
-use Rattle.text.specs.Text.{newline, namesLine, lineWith, numberOf, setOf, unusedLine, lineOf}
-use Rattle.text.specs.Reading.{isAllowed}
+use Rattle.text.specs.declared.Workload.{Workload}
+use Rattle.text.specs.Text.{namesLine, lineWith, numberOf, setOf, unusedLine, lineOf}
+use Rattle.text.specs.Reading.{Outcome, isAllowed, otherByte, fault, readLines, read}
 use Rattle.text.specs.Reading.Outcome.{refused, accepted}
-use Rattle.text.specs.Value.{linesOf, Given, written}
-use Rattle.text.specs.Quoted.{bytes, text, readBytes, given, accepts, rereads}
+use Rattle.text.specs.Value.{valueOf, Given, written}
+use Rattle.text.specs.Quoted.{bytes, text, readBytes, given, rereads}
 
--- two relations, a key from relation 1 to relation 0, one from relation 0 to itself, and a program; the next line is line 7
-abbrev base : List String
+-- two relations, a key from relation 1 to relation 0, one from relation 0 to itself, and a program
+base : List String
 base = "rl 0 - - 3 - -" ∷ "rl 1 - - 3 - -" ∷ "fk 0 1 0 - - -" ∷ "fk 1 0 0 - - -" ∷ "pr 0 - - - - -" ∷ []
+
+baseLines : List Line
+unfolding lineWith
+baseLines =
+    lineWith Rl (0 ∷ 0 ∷ 0 ∷ 3 ∷ 0 ∷ 0 ∷ []) ∷ lineWith Rl (1 ∷ 0 ∷ 0 ∷ 3 ∷ 0 ∷ 0 ∷ [])
+    ∷ lineWith Fk (0 ∷ 1 ∷ 0 ∷ 0 ∷ 0 ∷ 0 ∷ []) ∷ lineWith Fk (1 ∷ 0 ∷ 0 ∷ 0 ∷ 0 ∷ 0 ∷ [])
+    ∷ lineWith Pr (0 ∷ 0 ∷ 0 ∷ 0 ∷ 0 ∷ 0 ∷ []) ∷ []
+
+base-read : given base ≡ accepted baseLines
+unfolding given base baseLines
+base-read = refl
+
+-- what is read of lines behind `base`: the first of them is line 7
+behind : List String → Outcome
+unfolding given baseLines
+behind lines = readLines baseLines (map bytes lines)
+
+-- lines behind `base` are accepted
+taken : List String → Bool
+unfolding behind
+taken lines = elim (behind lines) [ refused number line ↦ false | accepted lines′ ↦ true ]
 
 -- lines of flow, and two inserts into relation 0
 abbrev lo : String
@@ -51,15 +73,15 @@ names-alone : given [] ≡ accepted []
 unfolding given
 names-alone = refl
 
--- R1
-bytes-over : readBytes (replicate 32769 0) ≡ refused 1 0
-unfolding readBytes
-bytes-over = refl
+-- R1: one byte over the bound
+bytes-over : (text : List ℕ) → length text ≡ 32769 → read text ≡ refused 1 0
+unfolding read
+bytes-over text over = rw (over, read) refl
 
--- R1: as many as the bound, so the first line is tested
-bytes-most : readBytes (replicate 32768 newline) ≡ refused 3 1
-unfolding readBytes
-bytes-most = refl
+-- R1: as many as the bound, so the bytes themselves are tested
+bytes-most : (text : List ℕ) {line : ℕ} → length text ≡ 32768 → otherByte 1 text ≡ some line → read text ≡ refused 2 line
+unfolding read
+bytes-most text most other = rw (most, other, read) refl
 
 -- R2: no byte
 no-byte : readBytes [] ≡ refused 2 0
@@ -202,143 +224,133 @@ value-for-dash : given ("rl 0 - - 3 0 -" ∷ []) ≡ refused 4 2
 unfolding given
 value-for-dash = refl
 
-tests-of-ku : given (base ++ ("ku 0 0 - 1 1 1" ∷ [])) ≡ refused 4 7
-unfolding given
+tests-of-ku : behind ("ku 0 0 - 1 1 1" ∷ []) ≡ refused 4 7
+unfolding behind
 tests-of-ku = refl
 
-id-of-flow : given (base ++ ("lo 0 - - - - -" ∷ [])) ≡ refused 4 7
-unfolding given
+id-of-flow : behind ("lo 0 - - - - -" ∷ []) ≡ refused 4 7
+unfolding behind
 id-of-flow = refl
 
--- R9: 32 relations, 32 keys, 16 programs; in a program 32 statements, 64 statement and flow lines, 32 links
-relations : ℕ → List Line
+-- R9: lines of each sort, the first with this id
+relations : ℕ → ℕ → List Line
 unfolding lineWith
-relations n = map (λ i. lineWith Rl (i ∷ 0 ∷ 0 ∷ 1 ∷ 0 ∷ 0 ∷ [])) (numbers n)
+relations i n = map (λ id. lineWith Rl (id ∷ 0 ∷ 0 ∷ 1 ∷ 0 ∷ 0 ∷ [])) (numbersFrom i n)
 
-keys : ℕ → List Line
+keys : ℕ → ℕ → List Line
 unfolding lineWith
-keys n = map (λ i. lineWith Fk (i ∷ 0 ∷ 0 ∷ 0 ∷ 0 ∷ 0 ∷ [])) (numbers n)
+keys i n = map (λ id. lineWith Fk (id ∷ 0 ∷ 0 ∷ 0 ∷ 0 ∷ 0 ∷ [])) (numbersFrom i n)
 
-programs : ℕ → List Line
+programs : ℕ → ℕ → List Line
 unfolding lineWith
-programs n = map (λ i. lineWith Pr (i ∷ 0 ∷ 0 ∷ 0 ∷ 0 ∷ 0 ∷ [])) (numbers n)
+programs i n = map (λ id. lineWith Pr (id ∷ 0 ∷ 0 ∷ 0 ∷ 0 ∷ 0 ∷ [])) (numbersFrom i n)
 
-statements : ℕ → List Line
+statements : ℕ → ℕ → List Line
 unfolding lineWith
-statements n = map (λ i. lineWith (St Is) (i ∷ 0 ∷ 0 ∷ 0 ∷ 1 ∷ 0 ∷ [])) (numbers n)
+statements i n = map (λ id. lineWith (St Is) (id ∷ 0 ∷ 0 ∷ 0 ∷ 1 ∷ 0 ∷ [])) (numbersFrom i n)
+
+links : ℕ → List Line
+unfolding lineWith
+links n = replicate n (lineWith Li (0 ∷ 0 ∷ 0 ∷ 0 ∷ 0 ∷ 0 ∷ []))
 
 -- a line of flow
 flow : LineKind → Line
 unfolding lineWith
 flow k = lineWith k (0 ∷ 0 ∷ 0 ∷ 0 ∷ 0 ∷ 0 ∷ [])
 
+-- loops one behind the other
 loops : ℕ → List Line
 unfolding flow
 loops zero = []
 loops (suc n) = flow Lo ∷ flow En ∷ loops n
 
-branch : List Line
+-- the first lines of blocks one inside the other, loops and branches in turn
+openers : ℕ → List Line
 unfolding flow
-branch = flow Br ∷ flow El ∷ flow En ∷ []
+openers zero = []
+openers (suc zero) = flow Lo ∷ []
+openers (suc (suc n)) = flow Br ∷ flow Lo ∷ openers n
 
--- blocks one inside the other
-nested : ℕ → List Line
-unfolding flow
-nested zero = []
-nested (suc zero) = flow Lo ∷ flow En ∷ []
-nested (suc (suc n)) = flow Br ∷ flow Lo ∷ nested n ++ (flow En ∷ flow El ∷ flow En ∷ [])
+-- the faults of lines behind these, each of them read behind those before it
+faults : List Line → List Line → List (Option ℕ)
+unfolding readBytes
+faults before [] = []
+faults before (l ∷ lines) = fault before l ∷ faults (before ++ (l ∷ [])) lines
 
--- a program of one statement and n links
-linked : ℕ → List Line
-unfolding lineWith relations keys programs statements
-linked n =
-    relations 1 ++ keys 1 ++ programs 1 ++ statements 1 ++ replicate n (lineWith Li (0 ∷ 0 ∷ 0 ∷ 0 ∷ 0 ∷ 0 ∷ []))
-
--- two programs of n statements
-twice : ℕ → List Line
-unfolding lineWith relations programs statements
-twice n = relations 1 ++ programs 1 ++ statements n ++ (lineWith Pr (1 ∷ 0 ∷ 0 ∷ 0 ∷ 0 ∷ 0 ∷ []) ∷ statements n)
-
-relations-most : rereads (relations 32) ≡ accepted (relations 32)
-unfolding rereads relations
+-- R9: 32 relations
+relations-most : faults (relations 0 31) (relations 31 1) ≡ none ∷ []
+unfolding faults relations
 relations-most = refl
 
-relations-over : rereads (relations 33) ≡ refused 9 34
-unfolding rereads relations
+relations-over : faults (relations 0 32) (relations 32 1) ≡ some 9 ∷ []
+unfolding faults relations
 relations-over = refl
 
 -- R9 comes before R7
-relations-over-late : rereads (relations 32 ++ programs 1 ++ relations 1) ≡ refused 9 35
-unfolding rereads relations programs
+relations-over-late : faults (relations 0 32 ++ programs 0 1) (relations 32 1) ≡ some 9 ∷ []
+unfolding faults relations programs
 relations-over-late = refl
 
-keys-most : rereads (relations 1 ++ keys 32) ≡ accepted (relations 1 ++ keys 32)
-unfolding rereads relations keys
+-- R9: 32 keys
+keys-most : faults (relations 0 1 ++ keys 0 31) (keys 31 1) ≡ none ∷ []
+unfolding faults relations keys
 keys-most = refl
 
-keys-over : rereads (relations 1 ++ keys 33) ≡ refused 9 35
-unfolding rereads relations keys
+keys-over : faults (relations 0 1 ++ keys 0 32) (keys 32 1) ≡ some 9 ∷ []
+unfolding faults relations keys
 keys-over = refl
 
-programs-most : rereads (programs 16) ≡ accepted (programs 16)
-unfolding rereads programs
+-- R9: 16 programs
+programs-most : faults (programs 0 15) (programs 15 1) ≡ none ∷ []
+unfolding faults programs
 programs-most = refl
 
-programs-over : rereads (programs 17) ≡ refused 9 18
-unfolding rereads programs
+programs-over : faults (programs 0 16) (programs 16 1) ≡ some 9 ∷ []
+unfolding faults programs
 programs-over = refl
 
-statements-most
-    : rereads (relations 1 ++ programs 1 ++ statements 32) ≡ accepted (relations 1 ++ programs 1 ++ statements 32)
-unfolding rereads relations programs statements
+-- R9: in a program 32 statements
+statements-most : faults (relations 0 1 ++ programs 0 1 ++ statements 0 31) (statements 31 1) ≡ none ∷ []
+unfolding faults relations programs statements
 statements-most = refl
 
-statements-over : rereads (relations 1 ++ programs 1 ++ statements 33) ≡ refused 9 36
-unfolding rereads relations programs statements
+statements-over : faults (relations 0 1 ++ programs 0 1 ++ statements 0 32) (statements 32 1) ≡ some 9 ∷ []
+unfolding faults relations programs statements
 statements-over = refl
 
-flow-most : rereads (programs 1 ++ loops 32) ≡ accepted (programs 1 ++ loops 32)
-unfolding rereads programs loops
-flow-most = refl
-
--- R9: the 65th line of a program, though it only closes a block
-flow-over : rereads (programs 1 ++ loops 31 ++ branch) ≡ refused 9 67
-unfolding rereads programs loops branch
-flow-over = refl
+-- R9: in a program 64 statement and flow lines: the 65th is one too many, though it only closes a block
+flow-bound : faults (programs 0 1 ++ loops 31 ++ (flow Br ∷ [])) (flow El ∷ flow En ∷ []) ≡ none ∷ some 9 ∷ []
+unfolding faults programs loops flow
+flow-bound = refl
 
 -- R9: a new program counts anew
-counts-anew : rereads (twice 32) ≡ accepted (twice 32)
-unfolding rereads twice
+counts-anew
+    : faults (relations 0 1 ++ programs 0 1 ++ statements 0 32 ++ loops 16) (programs 1 1 ++ statements 0 1 ++ loops 1)
+    ≡ none ∷ none ∷ none ∷ none ∷ []
+unfolding faults relations programs statements loops
 counts-anew = refl
 
-links-most : rereads (linked 32) ≡ accepted (linked 32)
-unfolding rereads linked
-links-most = refl
-
-links-over : rereads (linked 33) ≡ refused 9 38
-unfolding rereads linked
-links-over = refl
+-- R9: in a program 32 links
+links-bound : faults (relations 0 1 ++ keys 0 1 ++ programs 0 1 ++ statements 0 1 ++ links 31) (links 2) ≡ none ∷ some 9 ∷ []
+unfolding faults relations keys programs statements links
+links-bound = refl
 
 -- R9: blocks 8 deep, a loop or a branch counts one
-deep-most : rereads (programs 1 ++ nested 8) ≡ accepted (programs 1 ++ nested 8)
-unfolding rereads programs nested
-deep-most = refl
-
-deep-over : rereads (programs 1 ++ nested 9) ≡ refused 9 11
-unfolding rereads programs nested
-deep-over = refl
+deep-bound : faults (programs 0 1 ++ openers 7) (flow Br ∷ flow Lo ∷ []) ≡ none ∷ some 9 ∷ []
+unfolding faults programs openers flow
+deep-bound = refl
 
 -- R7, T6: rl, then fk, then programs; in a program statements and flow, then links
 rl-after-fk : given ("rl 0 - - 3 - -" ∷ "fk 0 0 0 - - -" ∷ "rl 1 - - 3 - -" ∷ []) ≡ refused 7 4
 unfolding given
 rl-after-fk = refl
 
-rl-after-pr : given (base ++ ("rl 2 - - 3 - -" ∷ [])) ≡ refused 7 7
-unfolding given
+rl-after-pr : behind ("rl 2 - - 3 - -" ∷ []) ≡ refused 7 7
+unfolding behind
 rl-after-pr = refl
 
-fk-after-pr : given (base ++ ("fk 2 0 0 - - -" ∷ [])) ≡ refused 7 7
-unfolding given
+fk-after-pr : behind ("fk 2 0 0 - - -" ∷ []) ≡ refused 7 7
+unfolding behind
 fk-after-pr = refl
 
 statement-before-pr : given ("rl 0 - - 3 - -" ∷ "ks 0 0 - 1 - -" ∷ []) ≡ refused 7 3
@@ -353,60 +365,60 @@ li-before-pr : given ("rl 0 - - 3 - -" ∷ "fk 0 0 0 - - -" ∷ "li 0 0 0 - - -"
 unfolding given
 li-before-pr = refl
 
-statement-after-li : given (base ++ (is0 ∷ "li 1 0 0 - - -" ∷ is1 ∷ [])) ≡ refused 7 9
-unfolding given
+statement-after-li : behind (is0 ∷ "li 1 0 0 - - -" ∷ is1 ∷ []) ≡ refused 7 9
+unfolding behind
 statement-after-li = refl
 
-flow-after-li : given (base ++ (is0 ∷ "li 1 0 0 - - -" ∷ lo ∷ [])) ≡ refused 7 9
-unfolding given
+flow-after-li : behind (is0 ∷ "li 1 0 0 - - -" ∷ lo ∷ []) ≡ refused 7 9
+unfolding behind
 flow-after-li = refl
 
 -- R7, T8: a run may be empty, blocks may stand in blocks
-empty-runs : accepts (base ++ (lo ∷ en ∷ br ∷ el ∷ en ∷ [])) ≡ true
-unfolding accepts
+empty-runs : taken (lo ∷ en ∷ br ∷ el ∷ en ∷ []) ≡ true
+unfolding taken
 empty-runs = refl
 
-blocks-in-blocks : accepts (base ++ (lo ∷ br ∷ lo ∷ en ∷ el ∷ br ∷ el ∷ en ∷ is0 ∷ en ∷ en ∷ "pr 1 - - - - -" ∷ [])) ≡ true
-unfolding accepts
+blocks-in-blocks : taken (lo ∷ br ∷ lo ∷ en ∷ el ∷ br ∷ el ∷ en ∷ is0 ∷ en ∷ en ∷ "pr 1 - - - - -" ∷ []) ≡ true
+unfolding taken
 blocks-in-blocks = refl
 
 -- R7, T8: el or en without its opener
-el-alone : given (base ++ (el ∷ [])) ≡ refused 7 7
-unfolding given
+el-alone : behind (el ∷ []) ≡ refused 7 7
+unfolding behind
 el-alone = refl
 
-en-alone : given (base ++ (lo ∷ en ∷ en ∷ [])) ≡ refused 7 9
-unfolding given
+en-alone : behind (lo ∷ en ∷ en ∷ []) ≡ refused 7 9
+unfolding behind
 en-alone = refl
 
-en-in-next-program : given (base ++ ("pr 1 - - - - -" ∷ en ∷ [])) ≡ refused 7 8
-unfolding given
+en-in-next-program : behind ("pr 1 - - - - -" ∷ en ∷ []) ≡ refused 7 8
+unfolding behind
 en-in-next-program = refl
 
 -- R7: a loop has no el
-el-in-loop : given (base ++ (lo ∷ el ∷ en ∷ [])) ≡ refused 7 8
-unfolding given
+el-in-loop : behind (lo ∷ el ∷ en ∷ []) ≡ refused 7 8
+unfolding behind
 el-in-loop = refl
 
-el-twice : given (base ++ (br ∷ el ∷ el ∷ en ∷ [])) ≡ refused 7 9
-unfolding given
+el-twice : behind (br ∷ el ∷ el ∷ en ∷ []) ≡ refused 7 9
+unfolding behind
 el-twice = refl
 
-br-without-el : given (base ++ (br ∷ en ∷ [])) ≡ refused 7 8
-unfolding given
+br-without-el : behind (br ∷ en ∷ []) ≡ refused 7 8
+unfolding behind
 br-without-el = refl
 
 -- R7: a block open at a pr, at an li, at the end
-open-at-pr : given (base ++ (lo ∷ "pr 1 - - - - -" ∷ [])) ≡ refused 7 8
-unfolding given
+open-at-pr : behind (lo ∷ "pr 1 - - - - -" ∷ []) ≡ refused 7 8
+unfolding behind
 open-at-pr = refl
 
-open-at-li : given (base ++ (is0 ∷ br ∷ el ∷ "li 1 0 0 - - -" ∷ en ∷ [])) ≡ refused 7 10
-unfolding given
+open-at-li : behind (is0 ∷ br ∷ el ∷ "li 1 0 0 - - -" ∷ en ∷ []) ≡ refused 7 10
+unfolding behind
 open-at-li = refl
 
-open-at-end : given (base ++ (lo ∷ is0 ∷ [])) ≡ refused 7 8
-unfolding given
+open-at-end : behind (lo ∷ is0 ∷ []) ≡ refused 7 8
+unfolding behind
 open-at-end = refl
 
 -- R6, T7: ids count from 0
@@ -418,21 +430,21 @@ id-of-fk : given ("rl 0 - - 3 - -" ∷ "fk 1 0 0 - - -" ∷ []) ≡ refused 6 3
 unfolding given
 id-of-fk = refl
 
-id-of-pr : given (base ++ ("pr 0 - - - - -" ∷ [])) ≡ refused 6 7
-unfolding given
+id-of-pr : behind ("pr 0 - - - - -" ∷ []) ≡ refused 6 7
+unfolding behind
 id-of-pr = refl
 
-id-of-statement : given (base ++ (is0 ∷ is0 ∷ [])) ≡ refused 6 8
-unfolding given
+id-of-statement : behind (is0 ∷ is0 ∷ []) ≡ refused 6 8
+unfolding behind
 id-of-statement = refl
 
 -- R6, T7: statements in their program
-id-in-program : accepts (base ++ (is0 ∷ "pr 1 - - - - -" ∷ is0 ∷ is1 ∷ [])) ≡ true
-unfolding accepts
+id-in-program : taken (is0 ∷ "pr 1 - - - - -" ∷ is0 ∷ is1 ∷ []) ≡ true
+unfolding taken
 id-in-program = refl
 
-id-past-program : given (base ++ (is0 ∷ "pr 1 - - - - -" ∷ is1 ∷ [])) ≡ refused 6 9
-unfolding given
+id-past-program : behind (is0 ∷ "pr 1 - - - - -" ∷ is1 ∷ []) ≡ refused 6 9
+unfolding behind
 id-past-program = refl
 
 -- R6: naming nothing
@@ -444,25 +456,25 @@ parent-of-fk : given ("rl 0 - - 3 - -" ∷ "fk 0 0 1 - - -" ∷ []) ≡ refused 
 unfolding given
 parent-of-fk = refl
 
-relation-of-statement : given (base ++ ("is 0 2 - - 3 -" ∷ [])) ≡ refused 6 7
-unfolding given
+relation-of-statement : behind ("is 0 2 - - 3 -" ∷ []) ≡ refused 6 7
+unfolding behind
 relation-of-statement = refl
 
-key-of-li : given (base ++ (is0 ∷ "li 2 0 0 - - -" ∷ [])) ≡ refused 6 8
-unfolding given
+key-of-li : behind (is0 ∷ "li 2 0 0 - - -" ∷ []) ≡ refused 6 8
+unfolding behind
 key-of-li = refl
 
-child-of-li : given (base ++ (is0 ∷ "li 1 1 0 - - -" ∷ [])) ≡ refused 6 8
-unfolding given
+child-of-li : behind (is0 ∷ "li 1 1 0 - - -" ∷ []) ≡ refused 6 8
+unfolding behind
 child-of-li = refl
 
-parent-of-li : given (base ++ (is0 ∷ "li 1 0 1 - - -" ∷ [])) ≡ refused 6 8
-unfolding given
+parent-of-li : behind (is0 ∷ "li 1 0 1 - - -" ∷ []) ≡ refused 6 8
+unfolding behind
 parent-of-li = refl
 
 -- R7 comes before R6, R6 before R5
-order-before-id : given (base ++ ("rl 9 - - 3 - -" ∷ [])) ≡ refused 7 7
-unfolding given
+order-before-id : behind ("rl 9 - - 3 - -" ∷ []) ≡ refused 7 7
+unfolding behind
 order-before-id = refl
 
 id-before-set : given ("rl 9 - - 0 - -" ∷ []) ≡ refused 6 2
@@ -475,168 +487,168 @@ unfolding given
 rl-of-nothing = refl
 
 -- R5, T9: sets lie within the relation's
-reads-outside : given (base ++ ("ks 0 0 - 4 - -" ∷ [])) ≡ refused 5 7
-unfolding given
+reads-outside : behind ("ks 0 0 - 4 - -" ∷ []) ≡ refused 5 7
+unfolding behind
 reads-outside = refl
 
-writes-outside : given (base ++ ("ku 0 0 - 1 5 -" ∷ [])) ≡ refused 5 7
-unfolding given
+writes-outside : behind ("ku 0 0 - 1 5 -" ∷ []) ≡ refused 5 7
+unfolding behind
 writes-outside = refl
 
-tests-outside : given (base ++ ("ps 0 0 - 1 - 8" ∷ [])) ≡ refused 5 7
-unfolding given
+tests-outside : behind ("ps 0 0 - 1 - 8" ∷ []) ≡ refused 5 7
+unfolding behind
 tests-outside = refl
 
 -- R5, T9: reads of ks and writes of ku and pu are not 0
-ks-of-nothing : given (base ++ ("ks 0 0 - 0 - -" ∷ [])) ≡ refused 5 7
-unfolding given
+ks-of-nothing : behind ("ks 0 0 - 0 - -" ∷ []) ≡ refused 5 7
+unfolding behind
 ks-of-nothing = refl
 
-ku-of-nothing : given (base ++ ("ku 0 0 - 1 0 -" ∷ [])) ≡ refused 5 7
-unfolding given
+ku-of-nothing : behind ("ku 0 0 - 1 0 -" ∷ []) ≡ refused 5 7
+unfolding behind
 ku-of-nothing = refl
 
-pu-of-nothing : given (base ++ ("pu 0 0 - 1 0 1" ∷ [])) ≡ refused 5 7
-unfolding given
+pu-of-nothing : behind ("pu 0 0 - 1 0 1" ∷ []) ≡ refused 5 7
+unfolding behind
 pu-of-nothing = refl
 
 -- T9: other sets may be 0
-sets-of-nothing : accepts (base ++ ("ps 0 0 - 0 - 0" ∷ "ku 1 0 - 0 1 -" ∷ "pu 2 0 - 0 1 0" ∷ "pd 3 0 - - 3 0" ∷ [])) ≡ true
-unfolding accepts
+sets-of-nothing : taken ("ps 0 0 - 0 - 0" ∷ "ku 1 0 - 0 1 -" ∷ "pu 2 0 - 0 1 0" ∷ "pd 3 0 - - 3 0" ∷ []) ≡ true
+unfolding taken
 sets-of-nothing = refl
 
 -- R5, T9: writes of is, kd, pd are the whole relation
-is-of-part : given (base ++ ("is 0 0 - - 1 -" ∷ [])) ≡ refused 5 7
-unfolding given
+is-of-part : behind ("is 0 0 - - 1 -" ∷ []) ≡ refused 5 7
+unfolding behind
 is-of-part = refl
 
-kd-of-part : given (base ++ ("kd 0 0 - - 2 -" ∷ [])) ≡ refused 5 7
-unfolding given
+kd-of-part : behind ("kd 0 0 - - 2 -" ∷ []) ≡ refused 5 7
+unfolding behind
 kd-of-part = refl
 
-pd-of-part : given (base ++ ("pd 0 0 - - 1 1" ∷ [])) ≡ refused 5 7
-unfolding given
+pd-of-part : behind ("pd 0 0 - - 1 1" ∷ []) ≡ refused 5 7
+unfolding behind
 pd-of-part = refl
 
 -- R8, T10: a link fits its key's relations
-link-fits : accepts (base ++ ("is 0 1 - - 3 -" ∷ is1 ∷ "li 0 0 1 - - -" ∷ [])) ≡ true
-unfolding accepts
+link-fits : taken ("is 0 1 - - 3 -" ∷ is1 ∷ "li 0 0 1 - - -" ∷ []) ≡ true
+unfolding taken
 link-fits = refl
 
-child-of-other-relation : given (base ++ (is0 ∷ is1 ∷ "li 0 0 1 - - -" ∷ [])) ≡ refused 8 9
-unfolding given
+child-of-other-relation : behind (is0 ∷ is1 ∷ "li 0 0 1 - - -" ∷ []) ≡ refused 8 9
+unfolding behind
 child-of-other-relation = refl
 
-parent-of-other-relation : given (base ++ ("is 0 1 - - 3 -" ∷ "is 1 1 - - 3 -" ∷ "li 0 0 1 - - -" ∷ [])) ≡ refused 8 9
-unfolding given
+parent-of-other-relation : behind ("is 0 1 - - 3 -" ∷ "is 1 1 - - 3 -" ∷ "li 0 0 1 - - -" ∷ []) ≡ refused 8 9
+unfolding behind
 parent-of-other-relation = refl
 
 -- R8, T10: the parent is of kind is, ks, ku or kd, the child of any
 parents
-    : accepts (base
-    ++ (is0 ∷ "ks 1 0 - 1 - -" ∷ "ku 2 0 - 0 1 -" ∷ "kd 3 0 - - 3 -" ∷ "ps 4 0 - 1 - 1" ∷ "pu 5 0 - 1 1 1" ∷ "pd 6 0 - - 3 1"
-    ∷ "li 1 4 0 - - -" ∷ "li 1 5 1 - - -" ∷ "li 1 6 2 - - -" ∷ "li 1 0 3 - - -" ∷ []))
+    : taken (is0 ∷ "ks 1 0 - 1 - -" ∷ "ku 2 0 - 0 1 -" ∷ "kd 3 0 - - 3 -" ∷ "ps 4 0 - 1 - 1" ∷ "pu 5 0 - 1 1 1" ∷ "pd 6 0 - - 3 1"
+    ∷ "li 1 4 0 - - -" ∷ "li 1 5 1 - - -" ∷ "li 1 6 2 - - -" ∷ "li 1 0 3 - - -" ∷ [])
     ≡ true
-unfolding accepts
+unfolding taken
 parents = refl
 
-parent-ps : given (base ++ (is0 ∷ "ps 1 0 - 1 - 1" ∷ "li 1 0 1 - - -" ∷ [])) ≡ refused 8 9
-unfolding given
+parent-ps : behind (is0 ∷ "ps 1 0 - 1 - 1" ∷ "li 1 0 1 - - -" ∷ []) ≡ refused 8 9
+unfolding behind
 parent-ps = refl
 
-parent-pu : given (base ++ (is0 ∷ "pu 1 0 - 1 1 1" ∷ "li 1 0 1 - - -" ∷ [])) ≡ refused 8 9
-unfolding given
+parent-pu : behind (is0 ∷ "pu 1 0 - 1 1 1" ∷ "li 1 0 1 - - -" ∷ []) ≡ refused 8 9
+unfolding behind
 parent-pu = refl
 
-parent-pd : given (base ++ (is0 ∷ "pd 1 0 - - 3 1" ∷ "li 1 0 1 - - -" ∷ [])) ≡ refused 8 9
-unfolding given
+parent-pd : behind (is0 ∷ "pd 1 0 - - 3 1" ∷ "li 1 0 1 - - -" ∷ []) ≡ refused 8 9
+unfolding behind
 parent-pd = refl
 
 -- T10: a link of a statement to itself, and a link twice
-link-to-itself : accepts (base ++ (is0 ∷ "li 1 0 0 - - -" ∷ "li 1 0 0 - - -" ∷ [])) ≡ true
-unfolding accepts
+link-to-itself : taken (is0 ∷ "li 1 0 0 - - -" ∷ "li 1 0 0 - - -" ∷ []) ≡ true
+unfolding taken
 link-to-itself = refl
 
 -- R8, T11: each loop around the parent is around the child
-child-in-loop : accepts (base ++ (is0 ∷ lo ∷ is1 ∷ en ∷ "li 1 1 0 - - -" ∷ [])) ≡ true
-unfolding accepts
+child-in-loop : taken (is0 ∷ lo ∷ is1 ∷ en ∷ "li 1 1 0 - - -" ∷ []) ≡ true
+unfolding taken
 child-in-loop = refl
 
-both-in-loop : accepts (base ++ (lo ∷ is0 ∷ lo ∷ is1 ∷ en ∷ en ∷ "li 1 1 0 - - -" ∷ [])) ≡ true
-unfolding accepts
+both-in-loop : taken (lo ∷ is0 ∷ lo ∷ is1 ∷ en ∷ en ∷ "li 1 1 0 - - -" ∷ []) ≡ true
+unfolding taken
 both-in-loop = refl
 
-parent-in-loop : given (base ++ (is0 ∷ lo ∷ is1 ∷ en ∷ "li 1 0 1 - - -" ∷ [])) ≡ refused 8 11
-unfolding given
+parent-in-loop : behind (is0 ∷ lo ∷ is1 ∷ en ∷ "li 1 0 1 - - -" ∷ []) ≡ refused 8 11
+unfolding behind
 parent-in-loop = refl
 
-parent-in-inner-loop : given (base ++ (lo ∷ is0 ∷ lo ∷ is1 ∷ en ∷ en ∷ "li 1 0 1 - - -" ∷ [])) ≡ refused 8 13
-unfolding given
+parent-in-inner-loop : behind (lo ∷ is0 ∷ lo ∷ is1 ∷ en ∷ en ∷ "li 1 0 1 - - -" ∷ []) ≡ refused 8 13
+unfolding behind
 parent-in-inner-loop = refl
 
-parent-in-other-loop : given (base ++ (lo ∷ is0 ∷ en ∷ lo ∷ is1 ∷ en ∷ "li 1 1 0 - - -" ∷ [])) ≡ refused 8 13
-unfolding given
+parent-in-other-loop : behind (lo ∷ is0 ∷ en ∷ lo ∷ is1 ∷ en ∷ "li 1 1 0 - - -" ∷ []) ≡ refused 8 13
+unfolding behind
 parent-in-other-loop = refl
 
 -- R8, T11: each arm around the parent is around the child
-both-in-first-arm : accepts (base ++ (br ∷ is0 ∷ is1 ∷ el ∷ en ∷ "li 1 1 0 - - -" ∷ [])) ≡ true
-unfolding accepts
+both-in-first-arm : taken (br ∷ is0 ∷ is1 ∷ el ∷ en ∷ "li 1 1 0 - - -" ∷ []) ≡ true
+unfolding taken
 both-in-first-arm = refl
 
-both-in-second-arm : accepts (base ++ (br ∷ el ∷ is0 ∷ is1 ∷ en ∷ "li 1 1 0 - - -" ∷ [])) ≡ true
-unfolding accepts
+both-in-second-arm : taken (br ∷ el ∷ is0 ∷ is1 ∷ en ∷ "li 1 1 0 - - -" ∷ []) ≡ true
+unfolding taken
 both-in-second-arm = refl
 
-child-in-arm : accepts (base ++ (is0 ∷ br ∷ el ∷ is1 ∷ en ∷ "li 1 1 0 - - -" ∷ [])) ≡ true
-unfolding accepts
+child-in-arm : taken (is0 ∷ br ∷ el ∷ is1 ∷ en ∷ "li 1 1 0 - - -" ∷ []) ≡ true
+unfolding taken
 child-in-arm = refl
 
-parent-in-arm : given (base ++ (is0 ∷ br ∷ is1 ∷ el ∷ en ∷ "li 1 0 1 - - -" ∷ [])) ≡ refused 8 12
-unfolding given
+parent-in-arm : behind (is0 ∷ br ∷ is1 ∷ el ∷ en ∷ "li 1 0 1 - - -" ∷ []) ≡ refused 8 12
+unfolding behind
 parent-in-arm = refl
 
-parent-in-other-arm : given (base ++ (br ∷ is0 ∷ el ∷ is1 ∷ en ∷ "li 1 1 0 - - -" ∷ [])) ≡ refused 8 12
-unfolding given
+parent-in-other-arm : behind (br ∷ is0 ∷ el ∷ is1 ∷ en ∷ "li 1 1 0 - - -" ∷ []) ≡ refused 8 12
+unfolding behind
 parent-in-other-arm = refl
 
-parent-in-other-branch : given (base ++ (br ∷ is0 ∷ el ∷ en ∷ br ∷ is1 ∷ el ∷ en ∷ "li 1 1 0 - - -" ∷ [])) ≡ refused 8 15
-unfolding given
+parent-in-other-branch : behind (br ∷ is0 ∷ el ∷ en ∷ br ∷ is1 ∷ el ∷ en ∷ "li 1 1 0 - - -" ∷ []) ≡ refused 8 15
+unfolding behind
 parent-in-other-branch = refl
 
 -- R8: a link's statements are those of its own program
-link-in-program : accepts (base ++ (is0 ∷ "ps 1 0 - 1 - 1" ∷ "pr 1 - - - - -" ∷ is0 ∷ is1 ∷ "li 1 0 1 - - -" ∷ [])) ≡ true
-unfolding accepts
+link-in-program : taken (is0 ∷ "ps 1 0 - 1 - 1" ∷ "pr 1 - - - - -" ∷ is0 ∷ is1 ∷ "li 1 0 1 - - -" ∷ []) ≡ true
+unfolding taken
 link-in-program = refl
 
 -- Each line is tested before the next one: the first refused line counts
-first-line-first : given (base ++ ("is 0 0 - - 1 -" ∷ "is 9 9 - - 9 -" ∷ [])) ≡ refused 5 7
-unfolding given
+first-line-first : behind ("is 0 0 - - 1 -" ∷ "is 9 9 - - 9 -" ∷ []) ≡ refused 5 7
+unfolding behind
 first-line-first = refl
 
 -- R4 comes before R9
-form-before-bound : readBytes (written (relations 32) ++ text ("rl 32 - - 1 - 0" ∷ [])) ≡ refused 4 34
-unfolding rereads text relations
+form-before-bound : readLines (relations 0 32) (bytes "rl 32 - - 1 - 0" ∷ []) ≡ refused 4 34
+unfolding readBytes bytes relations
 form-before-bound = refl
 
 -- S21: the value of the names line alone
 nothing-given : Given (record { count = 0; lines = replicate 1616 unusedLine })
-unfolding readBytes linesOf text
-nothing-given =
-    record {
-      text = text ("kind id rel to reads writes tests" ∷ []);
-      isRead = refl;
-      cells = refl;
-      fits = zero-le;
-      others = refl;
-    }
+unfolding readBytes valueOf text
+nothing-given = record { text = text ("kind id rel to reads writes tests" ∷ []); lines = []; isRead = refl; value = refl }
 
 -- S21: a cell past `count` that holds another line
 other-kind : _≡_ {A = LineKind} Lo En → ⊥
 other-kind kinds = let wrong : _≡_ {A = ℕ} 0 1 = cc in omega arith
 
-stray-line : Given (record { count = 0; lines = flow Lo ∷ replicate 1615 unusedLine }) → ⊥
-unfolding flow lineWith unusedLine headD
-stray-line g = other-kind (ap (λ l. headD l unusedLine .kind) (g .others))
+stray : Workload
+unfolding flow
+stray = record { count = 0; lines = flow Lo ∷ replicate 1615 unusedLine }
+
+stray-line : Given stray → ⊥
+unfolding stray flow lineWith unusedLine valueOf headD
+stray-line g = go (g .lines) (g .value)
+  where
+    go : (lines : List Line) → stray ≡ valueOf lines → ⊥
+    go [] e = other-kind (ap (λ w. headD (w .lines) unusedLine .kind) e)
+    go (l ∷ lines) e = omega (arith, ap (λ w. w .count) e)
 
 -- R2: the bytes of a text, all of them
 allowedBytes : List ℕ

@@ -1,5 +1,4 @@
 -- Quoted texts, for closed cases: who unfolds one of these unfolds all that reading and writing are defined by.
-use mathlib.Core.Bool.{Bool, true, false}
 use mathlib.Core.List.{List, [], _∷_, _++_, headD}
 use Prim.Native.Nat.{ℕ}
 use Prim.Native.Char.{code}
@@ -12,7 +11,6 @@ use Rattle.text.specs.Reading.{program, relation, key, statement, sameBl
 use Rattle.text.specs.Reading.{beforeStatement, blocksAround, relationSet, bounded, withinBounds, inBody, noneOpen, innermost}
 use Rattle.text.specs.Reading.{ordered, named, kindSets, setsFit, canBeParent, allAround, linkFits, testsOf, firstFailed, fault}
 use Rattle.text.specs.Reading.{Outcome, readLines, isAllowed, otherByte, endsLine, read}
-use Rattle.text.specs.Reading.Outcome.{refused, accepted}
 use Rattle.text.specs.Value.{written, digit, digitsOf, fieldWritten, fieldsWritten, lineWritten, linesWritten}
 
 -- the bytes of a quoted text
@@ -40,11 +38,6 @@ readBytes b = read b
 unfoldable pub given : List String → Outcome
 unfolding text readBytes
 given lines = readBytes (text ("kind id rel to reads writes tests" ∷ lines))
-
--- the text of these lines behind the names line is accepted
-unfoldable pub accepts : List String → Bool
-unfolding given
-accepts lines = elim (given lines) [ refused number line ↦ false | accepted taken ↦ true ]
 
 -- what is read of lines written out
 unfoldable pub rereads : List Line → Outcome

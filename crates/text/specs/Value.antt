@@ -2,9 +2,9 @@
 use mathlib.Core.Bool.{true, false, cond}
 use mathlib.Core.List.{List, [], _∷_, _++_}
 use mathlib.Core.Path.{_≡_}
-use Prim.Native.Nat.{ℕ, zero, suc, _+_, _-_, _/_, _%_, _≤_}
+use Prim.Native.Nat.{ℕ, zero, suc, _+_, _-_, _/_, _%_}
 use lib.Dec.{ltb}
-use lib.ListN.{length, take, drop, replicate}
+use lib.ListN.{length, take, replicate}
 use Rattle.text.specs.declared.Line.{Line}
 use Rattle.text.specs.declared.Workload.{Workload}
 use Rattle.text.specs.Text.{newline, space, dash, namesLine, wordOf, Form, formsOf, unusedLine}
@@ -16,17 +16,16 @@ use Rattle.text.specs.Reading.Outcome.{accepted}
 unfoldable pub linesOf : Workload → List Line
 linesOf w = take (w .count) (w .lines)
 
--- S21: the workload value that lines give
+-- S21: the workload value that lines give: its first cells hold them, the others the unused line
 unfoldable pub valueOf : List Line → Workload
 valueOf lines = record { count = length lines; lines = lines ++ replicate (1616 - length lines) unusedLine }
 
--- S21: some accepted text gives the workload value: its cells up to `count` hold the lines, the others the unused line
+-- S21: some accepted text gives the workload value
 pub record Given (w : Workload) : Type 0 where
   pub text : List ℕ
-  pub isRead : read text ≡ accepted (linesOf w)
-  pub cells : length (w .lines) ≡ 1616
-  pub fits : w .count ≤ 1616
-  pub others : drop (w .count) (w .lines) ≡ replicate (1616 - w .count) unusedLine
+  pub lines : List Line
+  pub isRead : read text ≡ accepted lines
+  pub value : w ≡ valueOf lines
 
 -- T3, T4: the digit for a number below the base
 unfoldable pub digit : ℕ → ℕ

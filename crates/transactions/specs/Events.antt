@@ -21,7 +21,8 @@ use Rattle.schedule.specs.Schedule.{Transaction, Performed, Operation, Schedule
 use Rattle.dependency.specs.Dependency.{Numbered, Filled, Known}
 use Rattle.dependency.specs.Positions.{number-grows, one-position}
 use Rattle.committing.specs.Rules.{CommitsAt, Lawful}
-use Rattle.transactions.specs.Operations.{Does, does-test, does-read, does-write, does-insert, does-delete, InStatement, operation-cases, commit-at}
+use Rattle.transactions.specs.Operations.{Does, does-test, does-read, does-write, does-insert, does-delete}
+use Rattle.transactions.specs.Operations.{InStatement, operation-cases, commit-at}
 
 -- the event that an operation of a transaction makes
 abbrev pub eventAt : ℕ → ℕ → Operation → Event
@@ -157,7 +158,8 @@ module _ {lines : List Line} (s : Schedule lines) where
 
   -- each transaction commits once, and that is its last event
   pub schedule-commits : (i : ℕ) {x : Transaction} → getElem? (s .transactions) i ≡ some x → (c : ℕ) × CommitsAt (s .events) i c
-  schedule-commits i {x} t = (e .0, record { event = eventAt i (c .0) (c .1); stands = e .1; own = refl; commits = rw (c .3); last = last; only = only })
+  schedule-commits i {x} t =
+      (e .0, record { event = eventAt i (c .0) (c .1); stands = e .1; own = refl; commits = rw (c .3); last = last; only = only })
     where
       c : (k : ℕ) × (o : Operation) × (getElem? (operations x) k ≡ some o) × (o .action ≡ commit) × (suc k ≡ length (operations x))
       c = commit-at x
@@ -175,12 +177,14 @@ module _ {lines : List Line} (s : Schedule lines) where
             | no ge ↦ omega arith
           ]
 
-      ends : (n : ℕ) (f : Event) → getElem? (s .events) n ≡ some f → f .transaction ≡ i → isCommit (f .action) ≡ true → suc (f .number) ≡ length (operations x)
+      ends : (n : ℕ) (f : Event) → getElem? (s .events) n ≡ some f → f .transaction ≡ i → isCommit (f .action) ≡ true
+          → suc (f .number) ≡ length (operations x)
       ends n f h q a =
           let r = own-operates i t n f h q in
           go (r .operation) (operation-cases x (f .number) (r .at)) (ap (λ (e : Event). e .action) (sym (r .made)) ∙ commit-action (f .action) a)
         where
-          go : (o : Operation) → InStatement x (f .number) o ⊎ ((o .action ≡ commit) × (suc (f .number) ≡ length (operations x)) × (o .place ≡ length (performed x)))
+          go : (o : Operation)
+              → InStatement x (f .number) o ⊎ ((o .action ≡ commit) × (suc (f .number) ≡ length (operations x)) × (o .place ≡ length (performed x)))
               → o .action ≡ commit → suc (f .number) ≡ length (operations x)
           go o (inl b) a = absurd (no-commit (b .belongs .does) a)
           go o (inr b) a = b .1

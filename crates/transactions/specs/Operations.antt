@@ -17,7 +17,8 @@ use Rattle.graph.specs.Unfolding.{Occurrence, occurrences}
 use Rattle.graph.specs.Edge.{W, R, T, hasTests, hasReads, inserts, deletes, shields}
 use Rattle.schedule.specs.Event.{Action, isWrite}
 use Rattle.schedule.specs.Event.Action.{read, write, insert, delete, predicateRead, commit}
-use Rattle.schedule.specs.Schedule.{Transaction, Performed, Operation, chosen, performedFrom, performed, everyAttribute, onTuple, operationsOf, operations}
+use Rattle.schedule.specs.Schedule.{Transaction, Performed, Operation, chosen, performedFrom, performed}
+use Rattle.schedule.specs.Schedule.{everyAttribute, onTuple, operationsOf, operations}
 
 -- the statements that read and write each of their tuples
 abbrev pub updates : StatementKind → Bool
@@ -167,7 +168,12 @@ acts-follow p t c u = go c u
         let q = some-injective e in (
           act p t write (W (statementOf p)),
           refl,
-          record { writes = refl; place = ap (λ (o : Operation). o .place) q; relation = ap (λ (o : Operation). o .relation) q; tuple = ap (λ (o : Operation). o .tuple) q },
+          record {
+            writes = refl;
+            place = ap (λ (o : Operation). o .place) q;
+            relation = ap (λ (o : Operation). o .relation) q;
+            tuple = ap (λ (o : Operation). o .tuple) q;
+          },
         )
     pair (suc zero) e r =
         let q : write ≡ read = ap (λ (o : Operation). o .action) (some-injective e) ∙ r in let z : _≡_ {A = ℕ} 0 1 = cc in absurd (omega arith)
@@ -205,7 +211,9 @@ update-follows p k {o} u = go (hasTests (statementOf p .kind)) k
 
     go : (c : Bool) (k : ℕ) → getElem? (cond c (opening p ∷ []) [] ++ flatMap (onTuple p) (p .tuples)) k ≡ some o → o .action ≡ read
         → (o′ : Operation) × (getElem? (cond c (opening p ∷ []) [] ++ flatMap (onTuple p) (p .tuples)) (suc k) ≡ some o′) × Followed o o′
-    go true zero e r = let q : predicateRead ≡ read = ap (λ (o : Operation). o .action) (some-injective e) ∙ r in let z : _≡_ {A = ℕ} 0 1 = cc in absurd (omega arith)
+    go true zero e r =
+        let q : predicateRead ≡ read = ap (λ (o : Operation). o .action) (some-injective e) ∙ r in
+        let z : _≡_ {A = ℕ} 0 1 = cc in absurd (omega arith)
     go true (suc k) e r = tuples k e r
     go false k e r = tuples k e r
 
@@ -313,7 +321,8 @@ places-rise x k k′ {o} {o′} lt e e′ = go (position-cases (acting x) (commi
         absurd (omega arith)
 
 -- the commit stands at the end
-pub commit-at : (x : Transaction) → (k : ℕ) × (o : Operation) × (getElem? (operations x) k ≡ some o) × (o .action ≡ commit) × (suc k ≡ length (operations x))
+pub commit-at : (x : Transaction)
+    → (k : ℕ) × (o : Operation) × (getElem? (operations x) k ≡ some o) × (o .action ≡ commit) × (suc k ≡ length (operations x))
 unfolding operations
 commit-at x = (
   length (acting x),

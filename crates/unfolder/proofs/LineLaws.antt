@@ -1,27 +1,27 @@
 -- The steps of writing line after line.
 use mathlib.Core.Bool.{Bool, true, false, cond}
-use mathlib.Core.List.{List, [], _∷_, _++_, append-assoc, append-nil}
+use mathlib.Core.List.{List, [], _++_, append-assoc, append-nil}
 use mathlib.Core.Path.{_≡_, refl, sym, ap, _∙_}
-use Prim.Native.Nat.{ℕ, zero, suc, _+_, _-_, _*_, _≤_, _<_}
-use native.Mathlib.Nat.{mul-pos, add-zero, add-suc, sub-zero}
+use Prim.Native.Nat.{ℕ, zero, suc, _+_, _-_, _≤_, _<_}
+use native.Mathlib.Nat.{add-zero, add-suc, sub-zero}
 use native.Mathlib.Numerals.{add-one}
 use native.Mathlib.Omega.{arith}
 use lib.ListN.{length, getD, take, drop, length-append, length-take, length-drop, drop-of-length-le, take-append-drop}
 use lib.Seq.{take-all, take-append-seam, drop-append-add, drop-drop}
-use lib.Dec.{eqb, leb, ltb}
+use lib.Dec.{eqb}
 use borrow.Author.Tests.{eq-eqb, ne-eqb}
 use borrow.Rule.Slice.PartMut.{putMid}
 use Rattle.choosing.specs.declared.Counted.{Counted}
-use Rattle.choosing.specs.declared.Filled.{Filled}
-use Rattle.choosing.specs.Cap.{cap, cap-over}
-use Rattle.choosing.specs.Codes.{after, nothingAt, statementAt, loopCounted, branchCounted, nextCounted, itemAt, countAt}
+use Rattle.choosing.specs.declared.UnfoldingTable.{UnfoldingTable}
+use Rattle.choosing.specs.CodesLaws.{count-positive}
 use Rattle.choosing.specs.Pieces.{Piece, flat, tabulate, row, countedBehind, linePrograms, linePieces, programsBefore, piecesBefore}
-use Rattle.choosing.specs.Table.{added, addAll, table}
+use Rattle.choosing.specs.Table.{addAll, table}
 use Rattle.choosing.specs.TableLaws.{addAll-append, flat-append, from-nothing}
-use Rattle.unfolder.specs.Facts.{Counting, Room, Wrote, Rows, Rowed, LineFits, Lined, AllFit}
+use Rattle.counting.specs.Facts.{RunCounted}
+use Rattle.unfolder.specs.Facts.{Wrote, Rows, Rowed, LineFits, Lined, AllFit}
 
 -- no rows
-pub lined-none : (codes words marks : List ℕ) (i program : ℕ) (t : Filled) (before : List ℕ) → (getD codes i 0 ≡ 3 → ⊥)
+pub lined-none : (codes words marks : List ℕ) (i program : ℕ) (t : UnfoldingTable) (before : List ℕ) → (getD codes i 0 ≡ 3 → ⊥)
     → Lined (linePieces codes words marks i program) t before t before
 unfolding linePieces flat addAll
 lined-none codes words marks i program t before h =
@@ -29,24 +29,24 @@ lined-none codes words marks i program t before h =
 
 -- the rows of a program
 pub line-rows : (codes words marks : List ℕ) (i program : ℕ) (c : Counted) → getD codes i 0 ≡ 3
-    → Counting (length codes) (i + 1) (countAt (length codes - (i + 1)) codes (i + 1)) c
+    → RunCounted (length codes - (i + 1)) codes (i + 1) c
     → linePieces codes words marks i program ≡ tabulate (row program codes words marks (i + 1) (length codes - (i + 1))) 0 (c .count - 0)
 unfolding linePieces countedBehind
-line-rows codes words marks i program c h p = rw (eq-eqb (getD codes i 0) 3 h, ← p .same, sub-zero)
+line-rows codes words marks i program c h p = rw (eq-eqb (getD codes i 0) 3 h, ← p .counting .same, sub-zero)
 
-module _ (codes words marks : List ℕ) (rows same : List Piece) (e : rows ≡ same) (t : Filled) (area : List ℕ) (h : LineFits codes words marks rows t area) where
+module _ (rows same : List Piece) (e : rows ≡ same) (t : UnfoldingTable) (area : List ℕ) (h : LineFits rows t area) where
   rest-length : length (take (length area - t .used) (drop (t .used) area)) ≡ length area - t .used
   rest-length = omega (arith, length-take (length area - t .used) (drop (t .used) area), length-drop (t .used) area)
 
-  pub line-rows-fit : length area < 18446744073709551616 → Rows codes words marks same t (take (length area - t .used) (drop (t .used) area))
+  pub line-rows-fit : length area < 18446744073709551616 → Rows same t (take (length area - t .used) (drop (t .used) area))
   line-rows-fit small =
       record {
-        room = record { paired = h .paired; marked = h .marked; fits = rw rest-length (omega (arith, h .places, ap (λ (l : List Piece). length (flat l)) e)) };
+        room = rw rest-length (omega (arith, h .places, ap (λ (l : List Piece). length (flat l)) e));
         cells = omega (arith, h .cells, ap length e);
         places = rw rest-length (omega (arith, h .places));
       }
 
-  pub lined-rows : (r : Filled) (end : List ℕ) → Rowed same t (take (length area - t .used) (drop (t .used) area)) r end
+  pub lined-rows : (r : UnfoldingTable) (end : List ℕ) → Rowed same t (take (length area - t .used) (drop (t .used) area)) r end
       → Lined rows t area r (putMid (t .used) (length area - t .used) area end)
   lined-rows r end s =
       record {
@@ -67,29 +67,6 @@ program-stays codes i n h = sym (rw (ne-eqb (getD codes i 0) 3 h))
 pub program-next : (codes : List ℕ) (i n : ℕ) → getD codes i 0 ≡ 3 → n + 1 ≡ linePrograms codes i n
 unfolding linePrograms
 program-next codes i n h = sym (rw (eq-eqb (getD codes i 0) 3 h))
-
--- every run of lines counts at least one unfolding
-positive-cap : (x : ℕ) → 1 ≤ x → 1 ≤ cap x
-positive-cap x h = cap-over x 0 (omega arith) h
-
-count-positive : (n : ℕ) (codes : List ℕ) (at : ℕ) → 1 ≤ countAt n codes at .count
-unfolding countAt nothingAt nextCounted itemAt statementAt loopCounted branchCounted
-count-positive zero codes at = omega arith
-count-positive (suc n) codes at = go (leb (length codes) at) (ltb 2 (getD codes at 0)) (λ e. count-positive n codes e)
-  where
-    item : (s t : Bool) → ((e : ℕ) → 1 ≤ countAt n codes e .count)
-        → 1 ≤ cond s (statementAt at) (cond t (loopCounted (length codes) (countAt n codes (at + 1)))
-        (branchCounted (length codes) (countAt n codes (at + 1)) (countAt n codes (after (length codes) (countAt n codes (at + 1) .end))))) .count
-    item true t h = omega arith
-    item false true h = positive-cap _ (omega arith)
-    item false false h = positive-cap _ (omega (arith, h (at + 1)))
-
-    go : (s t : Bool) → ((e : ℕ) → 1 ≤ countAt n codes e .count)
-        → 1 ≤ cond s (nothingAt at) (cond t (nothingAt at)
-        (nextCounted (itemAt (countAt n codes) codes at) (countAt n codes (itemAt (countAt n codes) codes at .end)))) .count
-    go true t h = omega arith
-    go false true h = omega arith
-    go false false h = positive-cap _ (mul-pos (item (eqb (getD codes at 0) 0) (eqb (getD codes at 0) 1) h) (h (itemAt (countAt n codes) codes at .end)))
 
 length-tabulate : {A : Type 0} (f : ℕ → A) (k m : ℕ) → length (tabulate f k m) ≡ m
 unfolding tabulate
@@ -133,19 +110,19 @@ wrote-line w v before area end u e h fits d =
     }
 
 -- what holds at each turn
-pub record Going (codes words marks before : List ℕ) (i : ℕ) (area : List ℕ) (t : Filled) (program : ℕ) : Type 0 where
+pub record Going (codes words marks before : List ℕ) (i : ℕ) (area : List ℕ) (t : UnfoldingTable) (program : ℕ) : Type 0 where
   pub inside : i ≤ length codes
   pub filled : t ≡ addAll (table []) (piecesBefore codes words marks i)
   pub number : program ≡ programsBefore codes i
   pub stands : Wrote (flat (piecesBefore codes words marks i)) before (length (flat (piecesBefore codes words marks i))) area
 
-pub going-start : (codes words marks before : List ℕ) (t : Filled) → t ≡ table [] → Going codes words marks before 0 before t 0
+pub going-start : (codes words marks before : List ℕ) (t : UnfoldingTable) → t ≡ table [] → Going codes words marks before 0 before t 0
 unfolding piecesBefore programsBefore flat addAll
 going-start codes words marks before t e =
     record { inside = omega arith; filled = e; number = refl; stands = record { many = refl; inside = omega arith; stands = refl } }
 
-module _ (codes words marks before : List ℕ) (all : AllFit codes words marks (piecesBefore codes words marks (length codes)) before) where
-  module _ (i : ℕ) (area : List ℕ) (t : Filled) (program : ℕ) (g : Going codes words marks before i area t program) where
+module _ (codes words marks before : List ℕ) (all : AllFit (piecesBefore codes words marks (length codes)) before) where
+  module _ (i : ℕ) (area : List ℕ) (t : UnfoldingTable) (program : ℕ) (g : Going codes words marks before i area t program) where
     ps : List Piece
     ps = piecesBefore codes words marks i
 
@@ -165,11 +142,11 @@ module _ (codes words marks before : List ℕ) (all : AllFit codes words marks (
 
     counted : t .count ≡ length ps
     unfolding table
-    counted = ap (λ (x : Filled). x .count) as-table
+    counted = ap (λ (x : UnfoldingTable). x .count) as-table
 
     used : t .used ≡ length (flat ps)
     unfolding table
-    used = ap (λ (x : Filled). x .used) as-table
+    used = ap (λ (x : UnfoldingTable). x .used) as-table
 
     same-length : length area ≡ length before
     unfolding ps
@@ -206,17 +183,15 @@ module _ (codes words marks before : List ℕ) (all : AllFit codes words marks (
             length-append (flat ps) (flat new),
           )
 
-      pub going-fits : LineFits codes words marks (linePieces codes words marks i program) t area
+      pub going-fits : LineFits (linePieces codes words marks i program) t area
       unfolding new
       going-fits =
           record {
-            paired = all .paired;
-            marked = all .marked;
             cells = omega (arith, cells-fit, counted);
             places = omega (arith, places-fit, used, same-length);
           }
 
-      pub going-next : (r : Filled) (end : List ℕ) (next : ℕ) → Lined (linePieces codes words marks i program) t area r end → next ≡ linePrograms codes i program
+      pub going-next : (r : UnfoldingTable) (end : List ℕ) (next : ℕ) → Lined (linePieces codes words marks i program) t area r end → next ≡ linePrograms codes i program
           → Going codes words marks before (i + 1) end r next
       unfolding piecesBefore programsBefore new ps
       going-next r end next s n =
@@ -231,10 +206,10 @@ module _ (codes words marks before : List ℕ) (all : AllFit codes words marks (
           new′ : List Piece
           new′ = linePieces codes words marks i (programsBefore codes i)
 
-  pub going-length : (i : ℕ) (area : List ℕ) (t : Filled) (program : ℕ) → Going codes words marks before i area t program → length area ≡ length before
+  pub going-length : (i : ℕ) (area : List ℕ) (t : UnfoldingTable) (program : ℕ) → Going codes words marks before i area t program → length area ≡ length before
   going-length i area t program g = same-length i area t program g
 
-  pub going-end : (i : ℕ) (area : List ℕ) (t : Filled) (program : ℕ) → Going codes words marks before i area t program → length codes ≤ i
+  pub going-end : (i : ℕ) (area : List ℕ) (t : UnfoldingTable) (program : ℕ) → Going codes words marks before i area t program → length codes ≤ i
       → Rowed (piecesBefore codes words marks (length codes)) (table []) before t area
   going-end i area t program g h =
       let e : length codes ≡ i = omega (arith, g .inside) in

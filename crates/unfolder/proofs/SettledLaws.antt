@@ -1,37 +1,40 @@
 -- What is written over the tables of a given workload value settles the open functions' promises.
-use mathlib.Core.Bool.{Bool, true, false, cond, _||_}
+use mathlib.Core.Bool.{Bool, true, false}
 use mathlib.Core.List.{List, [], _∷_, _++_, map}
 use mathlib.Core.Option.{Option, none, some}
 use mathlib.Core.Path.{_≡_, refl, sym, ap, _∙_}
 use Prim.Native.Nat.{ℕ, zero, suc, _+_, _≤_, _<_}
 use native.Mathlib.Omega.{arith}
-use lib.ListN.{length, getD, take, drop, replicate, length-map, length-take, length-replicate}
+use lib.ListN.{length, getD, take, drop, replicate, length-map, length-take}
 use lib.Seq.{getD-take}
 use lib.Dec.{ltb}
-use borrow.Author.Tests.{ltb-true, ltb-false}
+use borrow.Author.Tests.{ltb-false}
 use Rattle.base.specs.Basic.{numbers}
-use Rattle.base.specs.BoolLaws.{or-left, or-right, or-of, or-false}
+use Rattle.base.specs.BoolLaws.{or-false}
 use Rattle.base.specs.ListLaws.{length-numbersFrom}
 use Rattle.text.specs.declared.Line.{Line}
 use Rattle.text.specs.declared.Workload.{Workload}
 use Rattle.text.specs.Value.{Given, linesOf}
+use Rattle.reading.specs.ValueLaws.{given-fits, given-cells}
 use Rattle.graph.specs.Program.{Statement}
 use Rattle.graph.specs.Unfolding.{Node, nodesOf}
 use Rattle.report.specs.State.{StateRefusal, statementsIn, tooMany, shortForUnfoldings, refusalOf}
 use Rattle.report.specs.State.StateRefusal.{not-given, too-many, too-short, taken}
-use Rattle.choosing.specs.Cap.{Alike, cap}
+use Rattle.choosing.specs.Cap.{cap}
 use Rattle.choosing.specs.Codes.{codeOf, codesOf, idsOf, markIn, marksOf}
 use Rattle.choosing.specs.CodesLaws.{length-codes}
-use Rattle.choosing.specs.Seen.{markOf, WordsFor}
-use Rattle.choosing.specs.Writing.{placeIds}
+use Rattle.choosing.specs.Seen.{markOf}
 use Rattle.choosing.specs.WritingLaws.{Tables}
-use Rattle.choosing.specs.Pieces.{Piece, flat, totalsBefore, piecesBefore}
-use Rattle.choosing.specs.PiecesLaws.{PieceFor, PiecesFor, length-words, total-count, total-statements, all-pieces, over-alike, length-pieces, flat-length, piece-programs, piece-lengths}
+use Rattle.choosing.specs.Pieces.{Piece, flat, totalsBefore}
+use Rattle.choosing.specs.PiecesLaws.{PiecesFor, length-words, total-count, total-statements, all-pieces, over-alike, length-pieces, flat-length, piece-programs, piece-lengths}
 use Rattle.choosing.specs.PlacesLaws.{IdWord, noMark, id-tables, id-words, LineWord, place-tables, words-for}
 use Rattle.choosing.specs.Table.{starts, cells, table}
 use Rattle.unfolder.specs.declared.Unfolded.{Unfolded}
 use Rattle.unfolder.specs.Result.{refusedWith, idsIn, startsIn, nodesTold, tableTold, overMany, tooShort, piecesOver, Ready, Tabled}
 use Rattle.unfolder.specs.Settled.{Settled, PlacesStand, PlacesSettled}
+use Rattle.linetables.specs.declared.IdTables.{IdTables}
+use Rattle.linetables.specs.declared.PlaceTables.{PlaceTables}
+use Rattle.linetables.specs.Tables.{idTables, placeTables}
 use Rattle.linetables.proofs.CellLaws.{number-at}
 
 -- the promise, whatever stands in the area where nothing is refused
@@ -100,11 +103,9 @@ module _ (Word : Statement → ℕ → Type 0) (mark : Statement → ℕ) (lines
   pieces-for : tooMany lines ≡ false → PiecesFor Word mark (nodesOf lines) (piecesOver (codesOf lines) words marks)
   pieces-for h = rw (length-codes lines) (all-pieces Word mark lines words marks fit (omega (arith, few-nodes h .0)))
 
-  ready : length words ≡ length lines → length marks ≡ length lines → Ready (codesOf lines) words marks
-  ready p q =
+  ready : Ready (codesOf lines) words marks
+  ready =
       record {
-        paired = p ∙ sym (length-codes lines);
-        marked = q ∙ sym (length-codes lines);
         few = λ o. let u : tooMany lines ≡ false = sym over-nodes ∙ o in
             omega (arith, length-pieces Word mark (nodesOf lines) _ (pieces-for u), few-nodes u .0);
         short = λ o. let u : tooMany lines ≡ false = sym over-nodes ∙ o in
@@ -169,17 +170,38 @@ flat-ids [] (p ∷ pieces) h = absurd h
 flat-ids (n ∷ nodes) [] h = absurd h
 flat-ids (n ∷ nodes) (p ∷ pieces) h = rw (id-words [] (n .places) (p .words) (h .0 .words), flat-ids nodes pieces (h .1))
 
+-- the tables one by one
+pub ids-codes : (lines : List Line) (t : IdTables) → t ≡ idTables lines → t .codes ≡ codesOf lines
+unfolding idTables
+ids-codes lines t e = ap (λ (x : IdTables). x .codes) e
+
+pub ids-words : (lines : List Line) (t : IdTables) → t ≡ idTables lines → t .words ≡ idsOf lines
+unfolding idTables
+ids-words lines t e = ap (λ (x : IdTables). x .words) e
+
+pub places-codes : (lines : List Line) (t : PlaceTables) → t ≡ placeTables lines → t .codes ≡ codesOf lines
+unfolding placeTables
+places-codes lines t e = ap (λ (x : PlaceTables). x .codes) e
+
+pub places-words : (lines : List Line) (t : PlaceTables) → t ≡ placeTables lines → t .words ≡ numbers 1616
+unfolding placeTables
+places-words lines t e = ap (λ (x : PlaceTables). x .words) e
+
+pub places-marks : (lines : List Line) (t : PlaceTables) → t ≡ placeTables lines → t .marks ≡ marksOf lines
+unfolding placeTables
+places-marks lines t e = ap (λ (x : PlaceTables). x .marks) e
+
 -- the tables of a given workload value, cut to its lines
 module _ (w : Workload) (g : Given w) where
   pub part-length : (l : List ℕ) → length l ≡ 1616 → w .count ≡ length (take (w .count) l)
-  part-length l h = omega (arith, length-take (w .count) l, g .fits)
+  part-length l h = omega (arith, length-take (w .count) l, given-fits g)
 
   pub part-fits : (l : List ℕ) → length l ≡ 1616 → w .count ≤ length l
-  part-fits l h = omega (arith, g .fits)
+  part-fits l h = omega (arith, given-fits g)
 
   lines-length : length (linesOf w) ≡ w .count
   unfolding linesOf
-  lines-length = omega (arith, length-take (w .count) (w .lines), g .fits, g .cells)
+  lines-length = omega (arith, length-take (w .count) (w .lines), given-fits g, given-cells g)
 
   part-codes : (codes : List ℕ) → codes ≡ codesOf (w .lines) → take (w .count) codes ≡ codesOf (linesOf w)
   unfolding codesOf linesOf
@@ -194,15 +216,15 @@ module _ (w : Workload) (g : Given w) where
   part-marks marks e = rw e (take-map (λ l. markIn (l .kind) (l .id)) (w .count) (w .lines))
 
   pub codes-length : (codes : List ℕ) → codes ≡ codesOf (w .lines) → length codes ≡ 1616
-  codes-length codes e = ap length e ∙ length-codes (w .lines) ∙ g .cells
+  codes-length codes e = ap length e ∙ length-codes (w .lines) ∙ given-cells g
 
   pub ids-length : (ids : List ℕ) → ids ≡ idsOf (w .lines) → length ids ≡ 1616
   unfolding idsOf
-  ids-length ids e = ap length e ∙ length-map (w .lines) (λ l. l .id) ∙ g .cells
+  ids-length ids e = ap length e ∙ length-map (w .lines) (λ l. l .id) ∙ given-cells g
 
   pub marks-length : (marks : List ℕ) → marks ≡ marksOf (w .lines) → length marks ≡ 1616
   unfolding marksOf
-  marks-length marks e = ap length e ∙ length-map (w .lines) (λ l. markIn (l .kind) (l .id)) ∙ g .cells
+  marks-length marks e = ap length e ∙ length-map (w .lines) (λ l. markIn (l .kind) (l .id)) ∙ given-cells g
 
   pub numbers-length : (words : List ℕ) → words ≡ numbers 1616 → length words ≡ 1616
   numbers-length words e = ap length e ∙ length-numbersFrom 0 1616
@@ -210,20 +232,18 @@ module _ (w : Workload) (g : Given w) where
   -- ids, with nothing marked
   module _ (codes ids : List ℕ) (c : codes ≡ codesOf (w .lines)) (i : ids ≡ idsOf (w .lines)) where
     zeros : List ℕ
-    zeros = take (w .count) (replicate 1616 0)
+    zeros = take 1 (replicate 1 0)
 
     id-fit : Tables IdWord noMark (linesOf w) (take (w .count) ids) zeros
     unfolding zeros
-    id-fit = rw (part-ids ids i) (id-tables (linesOf w) zeros (no-marks (w .count) 1616))
+    id-fit = rw (part-ids ids i) (id-tables (linesOf w) zeros (no-marks 1 1))
 
-    pub ready-ids : Ready (take (w .count) codes) (take (w .count) ids) (take (w .count) (replicate 1616 0))
+    pub ready-ids : Ready (take (w .count) codes) (take (w .count) ids) (take 1 (replicate 1 0))
     unfolding zeros
-    ready-ids = rw (part-codes codes c) (ready IdWord noMark (linesOf w) (take (w .count) ids) zeros id-fit
-        (sym (part-length ids (ids-length ids i)) ∙ sym lines-length)
-        (sym (part-length (replicate 1616 0) (length-replicate {A = ℕ} 1616 0)) ∙ sym lines-length))
+    ready-ids = rw (part-codes codes c) (ready IdWord noMark (linesOf w) (take (w .count) ids) zeros id-fit)
 
     pub settled-ids : (before : List ℕ) (r : Unfolded) (area : List ℕ)
-        → Tabled (take (w .count) codes) (take (w .count) ids) (take (w .count) (replicate 1616 0)) before r area → Settled w before r area
+        → Tabled (take (w .count) codes) (take (w .count) ids) (take 1 (replicate 1 0)) before r area → Settled w before r area
     unfolding zeros
     settled-ids before r area u =
         let s = settled-tables IdWord noMark w g (take (w .count) ids) zeros id-fit before
@@ -234,15 +254,13 @@ module _ (w : Workload) (g : Given w) where
   -- line numbers, with the kinds marked that shield
   module _ (codes words marks : List ℕ) (c : codes ≡ codesOf (w .lines)) (n : words ≡ numbers 1616) (m : marks ≡ marksOf (w .lines)) where
     own-number : (i : ℕ) → i < length (linesOf w) → getD (take (w .count) words) i 0 ≡ i
-    own-number i h = getD-take (w .count) words i 0 (omega (arith, lines-length)) ∙ rw n (sym (number-at 1616 i (omega (arith, lines-length, g .fits))))
+    own-number i h = getD-take (w .count) words i 0 (omega (arith, lines-length)) ∙ rw n (sym (number-at 1616 i (omega (arith, lines-length, given-fits g))))
 
     place-fit : Tables (LineWord (linesOf w)) markOf (linesOf w) (take (w .count) words) (take (w .count) marks)
-    place-fit = rw (part-marks marks m) (place-tables (linesOf w) (take (w .count) words) (omega (arith, lines-length, g .fits)) own-number)
+    place-fit = rw (part-marks marks m) (place-tables (linesOf w) (take (w .count) words) (omega (arith, lines-length, given-fits g)) own-number)
 
     pub ready-places : Ready (take (w .count) codes) (take (w .count) words) (take (w .count) marks)
-    ready-places = rw (part-codes codes c) (ready (LineWord (linesOf w)) markOf (linesOf w) (take (w .count) words) (take (w .count) marks) place-fit
-        (sym (part-length words (numbers-length words n)) ∙ sym lines-length)
-        (sym (part-length marks (marks-length marks m)) ∙ sym lines-length))
+    ready-places = rw (part-codes codes c) (ready (LineWord (linesOf w)) markOf (linesOf w) (take (w .count) words) (take (w .count) marks) place-fit)
 
     pub settled-places : (before : List ℕ) (r : Unfolded) (area : List ℕ)
         → Tabled (take (w .count) codes) (take (w .count) words) (take (w .count) marks) before r area → PlacesSettled w before r area

@@ -1,23 +1,27 @@
 -- The paths through the unfolding over tables.
-use mathlib.Core.Bool.{Bool, true, false, cond, _||_}
-use mathlib.Core.List.{List, [], _++_}
-use mathlib.Core.Path.{_≡_, refl, sym, ap, _∙_}
+use mathlib.Core.Bool.{true, false}
+use mathlib.Core.List.{List, []}
+use mathlib.Core.Path.{_≡_, sym, ap, _∙_}
 use Prim.Native.Nat.{ℕ, _≤_, _<_}
 use native.Mathlib.Omega.{arith}
-use lib.ListN.{length, drop}
+use lib.ListN.{length}
 use lib.Dec.{ltb}
 use borrow.Author.Tests.{lt-ltb, le-ltb}
 use Rattle.base.specs.BoolLaws.{or-left, or-right, or-of}
-use Rattle.choosing.specs.declared.Filled.{Filled}
+use Rattle.choosing.specs.declared.UnfoldingTable.{UnfoldingTable}
 use Rattle.choosing.specs.declared.Totals.{Totals}
-use Rattle.choosing.specs.Pieces.{Piece, flat, totalsBefore}
-use Rattle.choosing.specs.Table.{addAll, table}
+use Rattle.choosing.specs.Pieces.{totalsBefore}
+use Rattle.choosing.specs.Table.{table}
 use Rattle.choosing.specs.TableLaws.{from-nothing}
 use Rattle.unfolder.specs.declared.Unfolded.{Unfolded}
-use Rattle.unfolder.specs.Facts.{Totalled, Rowed, AllFit}
+use Rattle.counting.specs.Facts.{Totalled, AllCounted}
+use Rattle.unfolder.specs.Facts.{Rowed, AllFit}
 use Rattle.unfolder.specs.Result.{refusedWith, tableTold, overMany, tooShort, piecesOver, Ready, Tabled}
 
-module _ (codes words marks before : List ℕ) (t : Totals) (h : Totalled (totalsBefore codes (length codes)) t) where
+module _ (codes words marks before : List ℕ) (t : Totals) (all : AllCounted codes t) where
+  h : Totalled (totalsBefore codes (length codes)) t
+  h = all .totalled
+
   pub many-nodes : (r : Unfolded) → 64 < t .count → r ≡ refusedWith 22 → Tabled codes words marks before r before
   unfolding overMany
   many-nodes r p d =
@@ -42,16 +46,14 @@ module _ (codes words marks before : List ℕ) (t : Totals) (h : Totalled (total
         record { tells = d ∙ rw (under, short); stands = rw (under, short) }
 
     module _ (ready : Ready codes words marks) (s : t .statements ≤ length before) where
-      pub all-fit : AllFit codes words marks (piecesOver codes words marks) before
+      pub all-fit : AllFit (piecesOver codes words marks) before
       all-fit =
           record {
-            paired = ready .paired;
-            marked = ready .marked;
             cells = ready .few under;
             places = omega (arith, ready .short under, ap (λ (x : Totals). x .statements) (h .same));
           }
 
-      pub all-told : (f : Filled) (r : Unfolded) (area : List ℕ) → Rowed (piecesOver codes words marks) (table []) before f area
+      pub all-told : (f : UnfoldingTable) (r : Unfolded) (area : List ℕ) → Rowed (piecesOver codes words marks) (table []) before f area
           → r ≡ tableTold f → Tabled codes words marks before r area
       unfolding tooShort
       all-told f r area rowed d =

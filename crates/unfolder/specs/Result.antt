@@ -6,7 +6,7 @@ use Prim.Native.Nat.{ℕ, _+_, _≤_}
 use lib.Dec.{ltb}
 use lib.ListN.{length, drop, replicate}
 use Rattle.graph.specs.Unfolding.{Node}
-use Rattle.choosing.specs.declared.Filled.{Filled}
+use Rattle.choosing.specs.declared.UnfoldingTable.{UnfoldingTable}
 use Rattle.choosing.specs.Table.{cells, table}
 use Rattle.choosing.specs.Pieces.{Piece, flat, totalsBefore, piecesBefore}
 use Rattle.choosing.specs.Writing.{placeIds}
@@ -39,7 +39,7 @@ nodesTold nodes =
     }
 
 -- a table told
-unfoldable pub tableTold : Filled → Unfolded
+unfoldable pub tableTold : UnfoldingTable → Unfolded
 tableTold f = record { refusal = 0; count = f .count; program = f .program; start = f .start; length = f .length }
 
 -- over the lines' numbers: S22, S20, and the pieces that are written
@@ -52,10 +52,8 @@ tooShort codes room = ltb room (totalsBefore codes (length codes) .statements)
 abbrev pub piecesOver : List ℕ → List ℕ → List ℕ → List Piece
 piecesOver codes words marks = piecesBefore codes words marks (length codes)
 
--- the tables have a cell for each line; where S22 lets them pass, the pieces are no more and no longer than counted
+-- where S22 lets them pass, the pieces are no more than 64 and no longer than counted
 pub record Ready (codes words marks : List ℕ) : Type 0 where
-  pub paired : length words ≡ length codes
-  pub marked : length marks ≡ length codes
   pub few : overMany codes ≡ false → length (piecesOver codes words marks) ≤ 64
   pub short : overMany codes ≡ false → length (flat (piecesOver codes words marks)) ≤ totalsBefore codes (length codes) .statements
 

@@ -125,7 +125,9 @@ abbrev line : LineKind → ℕ → ℕ → ℕ → ℕ → ℕ → ℕ → Line
 line k a b c r w t = record { kind = k; id = a; rel = b; to = c; reads = r; writes = w; tests = t }
 
 robust : List Line → Bool
-unfolding statementOf behind runOf linksOf programsOf inside occurrences pairs flatMap unfoldings nodesOfProgram nodesFrom nodesOf W R T holds sameRelation leads binds guarded shielded forward back placeAt graphOf leavesFor joins joinedTo grow reachedFrom opens closesAt dangerTest
+unfolding statementOf behind runOf linksOf programsOf inside occurrences pairs flatMap unfoldings nodesOfProgram nodesFrom nodesOf
+    W R T holds sameRelation leads binds guarded shielded forward back placeAt graphOf
+    leavesFor joins joinedTo grow reachedFrom opens closesAt dangerTest
 robust lines = not (dangerTest (graphOf (nodesOf lines)))
 
 -- three programs of three statements

@@ -3,7 +3,7 @@
 use mathlib.Core.Bool.{true}
 use mathlib.Core.List.{List, [], _∷_, _++_}
 use mathlib.Core.Option.{none}
-use mathlib.Core.Path.{_≡_, refl, sym, subst}
+use mathlib.Core.Path.{_≡_, sym, subst}
 use Prim.Native.Nat.{ℕ, _-_, _≤_}
 use lib.ListN.{length, drop, replicate}
 use Rattle.base.specs.Basic.{all}
@@ -15,8 +15,10 @@ use Rattle.text.specs.Text.{unusedLine, wordOf, formsOf}
 use Rattle.text.specs.Reading.{fault, noneOpen, read}
 use Rattle.text.specs.Reading.Outcome.{accepted}
 use Rattle.text.specs.Value.{Given, fieldsWritten, linesOf, written}
+use Rattle.reading.specs.TextLaws.{lineFits, line-fits}
 use Rattle.reading.specs.ReadingLaws.{Taken, read-accepted, read-taken, read-closed}
-use Rattle.fields.specs.Unique.{lineText, line-ended, text-of-line, lineFits, line-read, line-fits}
+use Rattle.reading.specs.ValueLaws.{given-read, given-fits, given-cells, given-others, cells-value}
+use Rattle.fields.specs.Unique.{lineText, line-ended, text-of-line, line-read}
 use Rattle.writing.specs.Printable.{printable, word-printable, fields-printable}
 use Rattle.writing.specs.Texts.{text-written, written-read}
 
@@ -58,26 +60,25 @@ pub sound-given : (w : Workload) → SoundValue w → Given w
 sound-given w s =
     record {
       text = written (linesOf w);
+      lines = linesOf w;
       isRead = sound-read (linesOf w) (s .lines) (s .closed) (s .few);
-      cells = s .cells;
-      fits = s .fits;
-      others = s .others;
+      value = cells-value w (s .cells) (s .fits) (s .others);
     }
 
 pub given-sound : (w : Workload) → Given w → SoundValue w
 given-sound w g =
     record {
-      cells = g .cells;
-      fits = g .fits;
-      others = g .others;
-      lines = taken-sound [] (linesOf w) (read-taken (g .text) (linesOf w) (g .isRead));
-      closed = read-closed (g .text) (linesOf w) (g .isRead);
+      cells = given-cells g;
+      fits = given-fits g;
+      others = given-others g;
+      lines = taken-sound [] (linesOf w) (read-taken (g .text) (linesOf w) (given-read g));
+      closed = read-closed (g .text) (linesOf w) (given-read g);
       few =
-          subst (λ (text : List ℕ). length text ≤ 32768) (accepted-written (g .text) (linesOf w) (g .isRead))
-          (read-accepted (g .text) (linesOf w) (g .isRead) .size);
+          subst (λ (text : List ℕ). length text ≤ 32768) (accepted-written (g .text) (linesOf w) (given-read g))
+          (read-accepted (g .text) (linesOf w) (given-read g) .size);
     }
 
 -- S21: reading a given value's text, written out, gives its lines back
 pub given-written : (w : Workload) → Given w → read (written (linesOf w)) ≡ accepted (linesOf w)
 given-written w g =
-    subst (λ (text : List ℕ). read text ≡ accepted (linesOf w)) (accepted-written (g .text) (linesOf w) (g .isRead)) (g .isRead)
+    subst (λ (text : List ℕ). read text ≡ accepted (linesOf w)) (accepted-written (g .text) (linesOf w) (given-read g)) (given-read g)

@@ -1,15 +1,15 @@
 -- Lines put one behind the other, each with its line end, against the lines of a text.
-use mathlib.Core.Bool.{Bool, true, false, cond, not, _&&_, _||_}
-use mathlib.Core.List.{List, [], _∷_, _++_, append-assoc}
+use mathlib.Core.Bool.{Bool, true, false, cond, not, _&&_}
+use mathlib.Core.List.{List, [], _∷_, _++_}
 use mathlib.Core.Option.{Option, none}
-use mathlib.Core.Path.{_≡_, refl, sym, ap, subst, _∙_}
+use mathlib.Core.Path.{_≡_, refl, sym, ap, _∙_}
 use Prim.Native.Nat.{ℕ, suc}
 use native.Mathlib.Omega.{arith}
 use lib.Dec.{eqb}
 use borrow.Author.Tests.{eqb-true}
 use Rattle.base.specs.Basic.{all}
 use Rattle.base.specs.BoolLaws.{and-true, true-false, not-true}
-use Rattle.text.specs.Text.{newline, onFirst, linesIn, same}
+use Rattle.text.specs.Text.{newline, onFirst, linesIn}
 use Rattle.text.specs.Reading.{isAllowed, otherByte, endsLine}
 use Rattle.writing.specs.Printable.{printable}
 

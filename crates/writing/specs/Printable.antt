@@ -1,20 +1,19 @@
 -- What a line is written with: bytes that a text may have, and no line end.
 use mathlib.Core.Bool.{Bool, true, false, cond, not, _&&_, _||_}
 use mathlib.Core.List.{List, [], _∷_, _++_}
-use mathlib.Core.Path.{_≡_, refl, sym, ap, subst, _∙_}
+use mathlib.Core.Path.{_≡_, refl, _∙_}
 use Prim.Native.Nat.{ℕ, zero, suc, _+_, _-_, _/_, _%_, _≤_, _<_}
 use native.Mathlib.Nat.{mod-lt}
 use native.Mathlib.Omega.{arith}
-use lib.Dec.{eqb, leb, ltb}
-use borrow.Author.Tests.{ltb-true, ltb-false, le-leb, lt-leb, ne-eqb}
+use lib.Dec.{eqb, ltb}
+use borrow.Author.Tests.{ltb-true, ltb-false, le-leb, ne-eqb}
 use Rattle.base.specs.Basic.{all}
-use Rattle.base.specs.BoolLaws.{and-of, and-true, or-left, or-right}
+use Rattle.base.specs.BoolLaws.{and-of, or-left, or-right}
 use Rattle.base.specs.ListLaws.{all-append}
-use Rattle.text.specs.declared.Line.{Line}
 use Rattle.text.specs.declared.LineKind.{LineKind}
 use Rattle.text.specs.declared.LineKind.the-variants.{Rl, Fk, Pr, St, Lo, Br, El, En, Li}
 use Rattle.text.specs.declared.StatementKind.the-variants.{Is, Ks, Ps, Ku, Pu, Kd, Pd}
-use Rattle.text.specs.Text.{Form, newline, space, dash, isDecimal, isLetter, wordOf, formsOf}
+use Rattle.text.specs.Text.{Form, newline, space, dash, isDecimal, isLetter, wordOf}
 use Rattle.text.specs.Text.Form.{number, set, nothing}
 use Rattle.text.specs.Reading.{isAllowed}
 use Rattle.text.specs.Value.{digit, digitsOf, fieldWritten, fieldsWritten}

@@ -1,37 +1,26 @@
 -- S21: an accepted text is its lines written out, so a value has at most one text; and lines that fit their forms and pass their tests are read
 -- back from what they are written as.
-use mathlib.Core.Bool.{Bool, true, false, cond, not, _&&_, _||_}
+use mathlib.Core.Bool.{Bool, true, false}
 use mathlib.Core.List.{List, [], _∷_, _++_, map, tail, headD, append-assoc, append-nil}
 use mathlib.Core.Option.{Option, none, some}
 use mathlib.Core.Path.{_≡_, refl, sym, ap, subst, _∙_}
-use Prim.Native.Nat.{ℕ, zero, suc, _+_, _≤_}
+use Prim.Native.Nat.{ℕ, _+_, _≤_}
 use native.Mathlib.Omega.{arith}
-use lib.Dec.{eqb, leb}
 use lib.ListN.{length}
-use borrow.Author.Tests.{eqb-true, eq-eqb, le-leb}
+use borrow.Author.Tests.{eq-eqb, le-leb}
 use Rattle.base.specs.Basic.{all}
-use Rattle.base.specs.BoolLaws.{and-true, and-of, true-false}
+use Rattle.base.specs.BoolLaws.{and-of}
 use Rattle.text.specs.declared.Line.{Line}
-use Rattle.text.specs.Text.{newline, lineOf, linesIn, namesLine, same, wordOf, formsOf}
-use Rattle.text.specs.Reading.{Outcome, isAllowed, noneOpen, fault, readLines, otherByte, endsLine, read}
+use Rattle.text.specs.Text.{newline, lineOf, linesIn, namesLine, same}
+use Rattle.text.specs.Reading.{isAllowed, noneOpen, fault, readLines, otherByte, endsLine, read}
 use Rattle.text.specs.Reading.Outcome.{refused, accepted}
-use Rattle.text.specs.Value.{fieldsWritten, lineWritten, linesWritten, written}
-use Rattle.reading.specs.ReadingLaws.{Accepted, read-accepted}
-use Rattle.writing.specs.Printable.{printable, word-printable, fields-printable}
+use Rattle.text.specs.Value.{lineWritten, linesWritten, written}
+use Rattle.reading.specs.TextLaws.{same-equal}
+use Rattle.reading.specs.ReadingLaws.{read-accepted}
+use Rattle.writing.specs.Printable.{printable}
 use Rattle.writing.specs.Joined.{joined, lines-joined, joined-lines, joined-ends, joined-allowed}
 
--- equal bytes are equal lists
-same-equal : (a b : List ℕ) → same a b ≡ true → a ≡ b
-unfolding same
-same-equal [] [] h = refl
-same-equal [] (y ∷ b) h = absurd (true-false h refl)
-same-equal (x ∷ a) [] h = absurd (true-false h refl)
-same-equal (x ∷ a) (y ∷ b) h =
-    let both = and-true (eqb x y) (same a b) h in
-    let e = eqb-true x y (both .0) in
-    let r = same-equal a b (both .1) in
-    λ i. e i ∷ r i
-
+-- bytes are the same as themselves
 same-itself : (a : List ℕ) → same a a ≡ true
 unfolding same
 same-itself [] = refl
@@ -70,7 +59,8 @@ module _ (lineText : Line → List ℕ) (ended : (l : Line) → lineWritten l �
       Result = (more : List Line) × (lines ≡ before ++ more) × (bytes ∷ rest ≡ map lineText more)
 
       Again : Line → Type 0
-      Again l = readLines (before ++ (l ∷ [])) rest ≡ accepted lines → (more : List Line) × (lines ≡ (before ++ (l ∷ [])) ++ more) × (rest ≡ map lineText more)
+      Again l = readLines (before ++ (l ∷ [])) rest ≡ accepted lines
+          → (more : List Line) × (lines ≡ (before ++ (l ∷ [])) ++ more) × (rest ≡ map lineText more)
 
       two : (l : Line) → lineOf bytes ≡ some l → Again l → (f : Option ℕ)
           → elim f [ some number ↦ refused number (length before + 2) | none ↦ readLines (before ++ (l ∷ [])) rest ] ≡ accepted lines → Result
@@ -98,7 +88,8 @@ module _ (lineText : Line → List ℕ) (ended : (l : Line) → lineWritten l �
       let first : headD (linesIn text) [] ≡ namesLine = same-equal (headD (linesIn text) []) namesLine (a .names) in
       sym (lines-joined text (a .ends)) ∙ go (linesIn text) first (t .2 ∙ ap (map lineText) (sym (t .1)))
     where
-      go : (parts : List (List ℕ)) → headD parts [] ≡ namesLine → tail parts ≡ map lineText lines → joined parts ≡ namesLine ++ (newline ∷ linesWritten lines)
+      go : (parts : List (List ℕ)) → headD parts [] ≡ namesLine → tail parts ≡ map lineText lines
+          → joined parts ≡ namesLine ++ (newline ∷ linesWritten lines)
       go [] e r = let z : _≡_ {A = ℕ} 0 1 = cc in absurd (omega arith)
       go (p ∷ parts) e r =
           ap (λ (p : List ℕ). p ++ (newline ∷ joined parts)) e

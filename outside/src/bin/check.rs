@@ -4,6 +4,7 @@
 //! MODE same: the whole output is compared (listings of unfoldings and edges).
 
 use outside::outcome::*;
+use outside::reader::read;
 use outside::report::*;
 use std::path::{Path, PathBuf};
 
@@ -43,7 +44,7 @@ fn judged(mode: &str, program: &str, path: &Path) -> Result<(), String> {
     let ran = run(program, &text).map_err(|error| format!("cannot run: {error}"))?;
     match mode {
         "report" => as_report(&text, &expected, &ran),
-        "reader" => as_reading(&expected, &ran),
+        "reader" => as_reading(&text, &expected, &ran),
         _ => check_same(&expected, &ran),
     }
 }
@@ -54,16 +55,14 @@ fn as_report(text: &[u8], expected: &str, ran: &Ran) -> Result<(), String> {
     if first_two_lines(&output) == expected { Ok(()) } else { Err(format!("expected\n{expected}but got\n{output}")) }
 }
 
-fn as_reading(expected: &str, ran: &Ran) -> Result<(), String> {
+fn as_reading(text: &[u8], expected: &str, ran: &Ran) -> Result<(), String> {
     let output = String::from_utf8_lossy(&ran.output).to_string();
-    let refusal = output.strip_prefix(REFUSED_NAMES);
-    let same = match expected.strip_prefix("accepted ") {
-        None => refusal == Some(expected),
-        Some(counts) if output.starts_with(VERDICT_NAMES) => {
-            let programs = output.split_whitespace().nth(6);
-            programs.is_some() && programs == counts.split_whitespace().nth(5)
-        }
-        Some(_) => refusal == Some("22 0\n"),
+    let same = if expected.starts_with("accepted ") {
+        let programs = read(text).map_or(0, |workload| workload.programs()).to_string();
+        let told = output.strip_prefix(VERDICT_NAMES).and_then(|values| values.split(' ').nth(1));
+        told == Some(&programs) || output == format!("{REFUSED_NAMES}22 0\n")
+    } else {
+        output == expected
     };
     if ran.status == Some(0) && same { Ok(()) } else { Err(format!("expected {expected:?} but got {output:?}")) }
 }

@@ -1,5 +1,6 @@
-//! `outside report|edges|unfoldings|read < text`: the independent program on one text.
+//! `outside report|edges|unfoldings|read|areas < text`: the independent program on one text.
 
+use outside::areas::areas;
 use outside::outcome::reading;
 use outside::report::*;
 use std::io::{Read, Write};
@@ -16,8 +17,9 @@ fn main() {
         Some("edges") => list_edges(&text),
         Some("unfoldings") => list_unfoldings(&text),
         Some("read") => reading(&text),
+        Some("areas") => areas(&text),
         Some(other) => {
-            eprintln!("usage: outside report|edges|unfoldings|read < text, not {other}");
+            eprintln!("usage: outside report|edges|unfoldings|read|areas < text, not {other}");
             exit(2);
         }
     };

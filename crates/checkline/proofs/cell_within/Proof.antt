@@ -10,19 +10,15 @@ use Rattle.checkline.proofs.cell_within.Lts as lts
 use Rattle.checkline.proofs.within.Reads as within-reads
 use Rattle.kept.proofs.cell.Reads as cell-reads
 
--- src/lib.rt:214:12
 cell-requires : tie.Need-cell-requires
 cell-requires c κs = search needs
 
--- src/lib.rt:214:45
 cell-requires-2 : tie.Need-cell-requires-2
 cell-requires-2 c κs = search needs
 
--- src/lib.rt:214:5
 within-requires : tie.Need-within-requires
 within-requires c κs = search needs
 
--- src/lib.rt:209:1
 returns : tie.Need-returns
 returns c = rw (c .within .ensures, c .before .cell2 .ensures, c .before .before .cell .ensures)
 

@@ -18,113 +18,95 @@ use Rattle.checkline.proofs.check_relation.Reads as check-relation-read
 use Rattle.checkline.proofs.check_second.Reads as check-second-reads
 use Rattle.checkline.proofs.check_statement.Reads as check-statement-reads
 
--- src/lib.rt:268:25
 enum-told : tie.Need-enum-told
 enum-told c = search needs
 
--- src/lib.rt:268:25
 check-relation-requires : tie.Need-check-relation-requires
 check-relation-requires c κs = search needs
 
--- src/lib.rt:269:25
 enum-told-2 : tie.Need-enum-told-2
 enum-told-2 c = search needs
 
--- src/lib.rt:269:25
 check-key-requires : tie.Need-check-key-requires
 check-key-requires c κs = search needs
 
--- src/lib.rt:270:25
 enum-told-3 : tie.Need-enum-told-3
 enum-told-3 c = search needs
 
--- src/lib.rt:270:25
 check-program-requires : tie.Need-check-program-requires
 check-program-requires c κs = search needs
 
--- src/lib.rt:271:22
 enum-known-kind : tie.Need-enum-known-kind
 enum-known-kind c = search needs
 
--- src/lib.rt:271:28
 check-statement-requires : tie.Need-check-statement-requires
 check-statement-requires c κs = search needs
 
--- src/lib.rt:272:25
 enum-told-4 : tie.Need-enum-told-4
 enum-told-4 c = search needs
 
--- src/lib.rt:272:25
 check-opening-requires : tie.Need-check-opening-requires
 check-opening-requires c κs = search needs
 
--- src/lib.rt:273:25
 enum-told-5 : tie.Need-enum-told-5
 enum-told-5 c = search needs
 
--- src/lib.rt:273:25
 check-opening-requires-2 : tie.Need-check-opening-requires-2
 check-opening-requires-2 c κs = search needs
 
--- src/lib.rt:274:25
 enum-told-6 : tie.Need-enum-told-6
 enum-told-6 c = search needs
 
--- src/lib.rt:274:25
 check-second-requires : tie.Need-check-second-requires
 check-second-requires c κs = search needs
 
--- src/lib.rt:275:25
 enum-told-7 : tie.Need-enum-told-7
 enum-told-7 c = search needs
 
--- src/lib.rt:275:25
 check-closing-requires : tie.Need-check-closing-requires
 check-closing-requires c κs = search needs
 
--- src/lib.rt:276:25
 enum-told-8 : tie.Need-enum-told-8
 enum-told-8 c = search needs
 
--- src/lib.rt:276:25
 check-link-requires : tie.Need-check-link-requires
 check-link-requires c κs = search needs
 
--- src/lib.rt:263:1
 returns : tie.Need-returns
-returns c = check-kind (stateIn (c .before .before .before .before .args .words .now)) (c .before .before .before .before .args .l) (c .before .enum-told .given .1) (c .check-relation .ensures)
+returns c = check-kind (stateIn (c .before .before .before .before .args .words .now)) (c .before .before .before .before .args .l)
+    (c .before .enum-told .given .1) (c .check-relation .ensures)
 
--- src/lib.rt:263:1
 returns-2 : tie.Need-returns-2
-returns-2 c = check-kind (stateIn (c .before .before .before .before .args .words .now)) (c .before .before .before .before .args .l) (c .before .enum-told2 .given .1) (c .check-key .ensures)
+returns-2 c = check-kind (stateIn (c .before .before .before .before .args .words .now)) (c .before .before .before .before .args .l)
+    (c .before .enum-told2 .given .1) (c .check-key .ensures)
 
--- src/lib.rt:263:1
 returns-3 : tie.Need-returns-3
-returns-3 c = check-kind (stateIn (c .before .before .before .before .args .words .now)) (c .before .before .before .before .args .l) (c .before .enum-told3 .given .1) (c .check-program .ensures)
+returns-3 c = check-kind (stateIn (c .before .before .before .before .args .words .now)) (c .before .before .before .before .args .l)
+    (c .before .enum-told3 .given .1) (c .check-program .ensures)
 
--- src/lib.rt:263:1
 returns-4 : tie.Need-returns-4
-returns-4 c = check-kind (stateIn (c .before .before .before .before .before .args .words .now)) (c .before .before .before .before .before .args .l) (c .before .before .kind .given .1) (c .check-statement .ensures)
+returns-4 c = check-kind (stateIn (c .before .before .before .before .before .args .words .now))
+    (c .before .before .before .before .before .args .l) (c .before .before .kind .given .1) (c .check-statement .ensures)
 
--- src/lib.rt:263:1
 returns-5 : tie.Need-returns-5
-returns-5 c = check-kind (stateIn (c .before .before .before .before .args .words .now)) (c .before .before .before .before .args .l) (c .before .enum-told4 .given .1) (c .check-opening .ensures .0)
+returns-5 c = check-kind (stateIn (c .before .before .before .before .args .words .now)) (c .before .before .before .before .args .l)
+    (c .before .enum-told4 .given .1) (c .check-opening .ensures .0)
 
--- src/lib.rt:263:1
 returns-6 : tie.Need-returns-6
-returns-6 c = check-kind (stateIn (c .before .before .before .before .args .words .now)) (c .before .before .before .before .args .l) (c .before .enum-told5 .given .1) (c .check-opening2 .ensures .1)
+returns-6 c = check-kind (stateIn (c .before .before .before .before .args .words .now)) (c .before .before .before .before .args .l)
+    (c .before .enum-told5 .given .1) (c .check-opening2 .ensures .1)
 
--- src/lib.rt:263:1
 returns-7 : tie.Need-returns-7
-returns-7 c = check-kind (stateIn (c .before .before .before .before .args .words .now)) (c .before .before .before .before .args .l) (c .before .enum-told6 .given .1) (c .check-second .ensures)
+returns-7 c = check-kind (stateIn (c .before .before .before .before .args .words .now)) (c .before .before .before .before .args .l)
+    (c .before .enum-told6 .given .1) (c .check-second .ensures)
 
--- src/lib.rt:263:1
 returns-8 : tie.Need-returns-8
-returns-8 c = check-kind (stateIn (c .before .before .before .before .args .words .now)) (c .before .before .before .before .args .l) (c .before .enum-told7 .given .1) (c .check-closing .ensures)
+returns-8 c = check-kind (stateIn (c .before .before .before .before .args .words .now)) (c .before .before .before .before .args .l)
+    (c .before .enum-told7 .given .1) (c .check-closing .ensures)
 
--- src/lib.rt:263:1
 returns-9 : tie.Need-returns-9
-returns-9 c = check-kind (stateIn (c .before .before .before .before .args .words .now)) (c .before .before .before .before .args .l) (c .before .enum-told8 .given .1) (c .check-link .ensures)
+returns-9 c = check-kind (stateIn (c .before .before .before .before .args .words .now)) (c .before .before .before .before .args .l)
+    (c .before .enum-told8 .given .1) (c .check-link .ensures)
 
 pub check-spec : {M : Type 1} → statement M
 check-spec =

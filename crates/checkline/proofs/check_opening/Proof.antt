@@ -1,47 +1,47 @@
 use Rattle.kept.specs.Kept.{roomOf, orderedOf, namedAs, setsFitAs, isLinkOf}
 use Rattle.kept.specs.Words.{stateIn}
-use native.Mathlib.Omega.{arith}
-use mathlib.Core.Path.{_≡_, refl, ap, sym, _∙_}
-use Prim.Native.Nat.{ℕ, _+_, _-_, _*_, _≤_, _<_}
-use lib.ListN.{length, set, getD, length-set, take, drop}
 use borrow.Author.Needs.{needs}
 use Rattle.checkline.proofs.check_opening.Statement.{statement}
 use Rattle.checkline.proofs.check_opening.Tie as tie
 use Rattle.checkline.proofs.check_opening.Reads as reads
 use Rattle.checkline.proofs.check_opening.Lts as lts
 use Rattle.checkline.proofs.in_body.Reads as in-body-reads
-use Rattle.checkline.proofs.room_own.Reads as room-own-reads
 use Rattle.checkline.proofs.verdict.Reads as verdict-reads
 use Rattle.kept.proofs.word.Reads as word-reads
 
--- src/lib.rt:184:9
 word-requires : tie.Need-word-requires
 word-requires c κs = search needs
 
--- src/lib.rt:185:9
 word-requires-2 : tie.Need-word-requires-2
 word-requires-2 c κs = search needs
 
--- src/lib.rt:186:9
 word-requires-3 : tie.Need-word-requires-3
 word-requires-3 c κs = search needs
 
--- src/lib.rt:187:13
-room-own-requires : tie.Need-room-own-requires
-room-own-requires c κs = search needs
-
--- src/lib.rt:187:53
 in-body-requires : tie.Need-in-body-requires
 in-body-requires c κs = search needs
 
--- src/lib.rt:187:5
 verdict-requires : tie.Need-verdict-requires
 verdict-requires c κs = search needs
 
--- src/lib.rt:181:1
 returns : tie.Need-returns
 unfolding stateIn roomOf orderedOf namedAs setsFitAs isLinkOf
-returns c = (rw (c .verdict .ensures, c .before .in-body .ensures, c .before .before .room-own .ensures, c .before .before .before .word3 .ensures, c .before .before .before .before .word2 .ensures, c .before .before .before .before .before .word .ensures), rw (c .verdict .ensures, c .before .in-body .ensures, c .before .before .room-own .ensures, c .before .before .before .word3 .ensures, c .before .before .before .before .word2 .ensures, c .before .before .before .before .before .word .ensures))
+returns c = (
+  rw (
+    c .verdict .ensures,
+    c .before .in-body .ensures,
+    c .before .before .word3 .ensures,
+    c .before .before .before .word2 .ensures,
+    c .before .before .before .before .word .ensures,
+  ),
+  rw (
+    c .verdict .ensures,
+    c .before .in-body .ensures,
+    c .before .before .word3 .ensures,
+    c .before .before .before .word2 .ensures,
+    c .before .before .before .before .word .ensures,
+  ),
+)
 
 pub check-opening-spec : {M : Type 1} → statement M
 check-opening-spec =
@@ -50,7 +50,6 @@ check-opening-spec =
     word-requires
     word-requires-2
     word-requires-3
-    room-own-requires
     in-body-requires
     verdict-requires
     returns)

@@ -12,23 +12,18 @@ use Rattle.checkline.proofs.check_program.Lts as lts
 use Rattle.checkline.proofs.verdict.Reads as verdict-reads
 use Rattle.kept.proofs.word.Reads as word-reads
 
--- src/lib.rt:132:9
 word-requires : tie.Need-word-requires
 word-requires c κs = search needs
 
--- src/lib.rt:133:9
 word-requires-2 : tie.Need-word-requires-2
 word-requires-2 c κs = search needs
 
--- src/lib.rt:134:40
 cast-verdict : tie.Need-cast-verdict
 cast-verdict c = search needs
 
--- src/lib.rt:134:5
 verdict-requires : tie.Need-verdict-requires
 verdict-requires c κs = search needs
 
--- src/lib.rt:129:1
 returns : tie.Need-returns
 unfolding stateIn roomOf orderedOf namedAs setsFitAs isLinkOf
 returns c = rw (c .verdict .ensures, c .before .before .word2 .ensures, c .before .before .before .word .ensures)

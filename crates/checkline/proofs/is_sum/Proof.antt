@@ -9,11 +9,9 @@ use Rattle.checkline.proofs.is_sum.Tie as tie
 use Rattle.checkline.proofs.is_sum.Reads as reads
 use Rattle.checkline.proofs.is_sum.Lts as lts
 
--- src/lib.rt:47:9
 returns : tie.Need-returns
 returns c = simp (lt-ltb _ _ (c .if1 .taken))
 
--- src/lib.rt:43:1
 returns-2 : tie.Need-returns-2
 returns-2 c = simp (le-ltb _ _ (c .if1 .left))
 

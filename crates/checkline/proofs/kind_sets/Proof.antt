@@ -9,65 +9,51 @@ use Rattle.checkline.proofs.kind_sets.Tie as tie
 use Rattle.checkline.proofs.kind_sets.Reads as reads
 use Rattle.checkline.proofs.kind_sets.Lts as lts
 
--- src/lib.rt:147:30
 enum-told : tie.Need-enum-told
 enum-told c = search needs
 
--- src/lib.rt:148:30
 enum-told-2 : tie.Need-enum-told-2
 enum-told-2 c = search needs
 
--- src/lib.rt:149:30
 enum-told-3 : tie.Need-enum-told-3
 enum-told-3 c = search needs
 
--- src/lib.rt:150:30
 enum-told-4 : tie.Need-enum-told-4
 enum-told-4 c = search needs
 
--- src/lib.rt:151:30
 enum-told-5 : tie.Need-enum-told-5
 enum-told-5 c = search needs
 
--- src/lib.rt:152:30
 enum-told-6 : tie.Need-enum-told-6
 enum-told-6 c = search needs
 
--- src/lib.rt:153:30
 enum-told-7 : tie.Need-enum-told-7
 enum-told-7 c = search needs
 
--- src/lib.rt:143:1
 returns : tie.Need-returns
 unfolding kindSets
 returns c = cc
 
--- src/lib.rt:143:1
 returns-2 : tie.Need-returns-2
 unfolding kindSets
 returns-2 c = cc
 
--- src/lib.rt:143:1
 returns-3 : tie.Need-returns-3
 unfolding kindSets
 returns-3 c = cc
 
--- src/lib.rt:143:1
 returns-4 : tie.Need-returns-4
 unfolding kindSets
 returns-4 c = cc
 
--- src/lib.rt:143:1
 returns-5 : tie.Need-returns-5
 unfolding kindSets
 returns-5 c = cc
 
--- src/lib.rt:143:1
 returns-6 : tie.Need-returns-6
 unfolding kindSets
 returns-6 c = cc
 
--- src/lib.rt:143:1
 returns-7 : tie.Need-returns-7
 unfolding kindSets
 returns-7 c = cc

@@ -9,15 +9,12 @@ use Rattle.checkline.proofs.same_cell.Reads as reads
 use Rattle.checkline.proofs.same_cell.Lts as lts
 use Rattle.kept.proofs.cell.Reads as cell-reads
 
--- src/lib.rt:232:5
 cell-requires : tie.Need-cell-requires
 cell-requires c κs = search needs
 
--- src/lib.rt:232:32
 cell-requires-2 : tie.Need-cell-requires-2
 cell-requires-2 c κs = search needs
 
--- src/lib.rt:229:1
 returns : tie.Need-returns
 returns c = rw (c .cell2 .ensures, c .before .cell .ensures)
 

@@ -1,5 +1,5 @@
 use Rattle.detector.specs.Paths.{closes-reached, closes-not}
-use Rattle.detector.specs.Table.{closesAt, aheadIn, behindIn}
+use Rattle.detector.specs.Table.{behindIn}
 use native.Mathlib.Omega.{arith}
 use mathlib.Core.Path.{_≡_, refl, ap, sym, _∙_}
 use Prim.Native.Nat.{ℕ, _+_, _-_, _*_, _≤_, _<_}
@@ -11,7 +11,7 @@ use Rattle.detector.proofs.closes_at.Reads as reads
 use Rattle.detector.proofs.closes_at.Lts as lts
 use Rattle.detector.proofs.dangerous.Reads as dangerous-reads
 use Rattle.detector.proofs.has_bit.Reads as has-bit-reads
-use Rattle.detector.proofs.word_at.Reads as word-at-reads
+use Rattle.words.proofs.word_at.Reads as word-at-reads
 
 -- src/lib.rt:130:28
 mul-word-at : tie.Need-mul-word-at
@@ -25,18 +25,6 @@ add-word-at c = search needs
 word-at-requires : tie.Need-word-at-requires
 word-at-requires c κs = search needs
 
--- src/lib.rt:131:29
-mul-word-at-2 : tie.Need-mul-word-at-2
-mul-word-at-2 c = search needs
-
--- src/lib.rt:131:29
-add-word-at-2 : tie.Need-add-word-at-2
-add-word-at-2 c = search needs
-
--- src/lib.rt:131:9
-word-at-requires-2 : tie.Need-word-at-requires-2
-word-at-requires-2 c κs = search needs
-
 -- src/lib.rt:132:8
 dangerous-requires : tie.Need-dangerous-requires
 dangerous-requires c κs = search needs
@@ -45,13 +33,13 @@ dangerous-requires c κs = search needs
 has-bit-requires : tie.Need-has-bit-requires
 has-bit-requires c κs = search needs
 
--- src/lib.rt:133:9
+-- dangerous, and reached or not
 returns : tie.Need-returns
-returns c = closes-reached _ _ _ _ _ (c .before .before .before .before .word-at .ensures) (c .before .before .before .word-at2 .ensures) (c .before .before .dangerous .ensures) (c .before .if1 .taken) (c .has-bit .ensures)
+returns c = closes-reached _ _ _ _ _ (c .before .before .before .word-at .ensures) (c .before .before .dangerous .ensures) (c .before .if1 .taken) (c .has-bit .ensures)
 
--- src/lib.rt:126:1
+-- not dangerous
 returns-2 : tie.Need-returns-2
-returns-2 c = closes-not _ _ _ _ _ (c .before .before .before .word-at .ensures) (c .before .before .word-at2 .ensures) (c .before .dangerous .ensures) (c .if1 .left)
+returns-2 c = closes-not _ _ _ _ _ (c .before .before .word-at .ensures) (c .before .dangerous .ensures) (c .if1 .left)
 
 pub closes-at-spec : {M : Type 1} → statement M
 closes-at-spec =
@@ -60,9 +48,6 @@ closes-at-spec =
     mul-word-at
     add-word-at
     word-at-requires
-    mul-word-at-2
-    add-word-at-2
-    word-at-requires-2
     dangerous-requires
     has-bit-requires
     returns

@@ -22,9 +22,6 @@ joined-rows-requires : tie.Need-joined-rows-requires
 joined-rows-requires c κs = search needs
 
 -- src/lib.rt:283:8
-slice-aggregate-node-in : tie.Need-slice-aggregate-node-in
-slice-aggregate-node-in c = search needs
-
 -- src/lib.rt:275:9
 node-in-requires : tie.Need-node-in-requires
 node-in-requires c κs = search needs
@@ -35,21 +32,15 @@ returns-2 c =
     answer-none _ _ _ (c .before .before .before .before .if1 .left) (c .before .before .before .joined-rows .ensures) (c .before .node-in .ensures) (c .if2 .taken)
 
 -- src/lib.rt:283:8
-slice-aggregate-pair-for : tie.Need-slice-aggregate-pair-for
-slice-aggregate-pair-for c = search needs
-
 -- src/lib.rt:279:9
 pair-for-requires : tie.Need-pair-for-requires
 pair-for-requires c κs = search needs
 
 -- src/lib.rt:283:8
-slice-aggregate-put-walk : tie.Need-slice-aggregate-put-walk
-slice-aggregate-put-walk c = search needs
-
 -- src/lib.rt:280:5
 put-walk-requires : tie.Need-put-walk-requires
 put-walk-requires c κs =
-    (c .before .before .before .before .if2 .left, found-pair _ _ _ (c .before .before .before .before .before .node-in .ensures) (c .before .before .before .before .if2 .left) (c .before .before .pair-for .ensures), search needs, search needs)
+    (c .before .before .before .before .if2 .left, found-pair _ _ _ (c .before .before .before .before .before .node-in .ensures) (c .before .before .before .before .if2 .left) (c .before .before .pair-for .ensures), search needs)
 
 -- src/lib.rt:268:1
 same-length : tie.Need-same-length
@@ -69,12 +60,9 @@ find-walk-spec =
     (tie.spec
     returns
     joined-rows-requires
-    slice-aggregate-node-in
     node-in-requires
     returns-2
-    slice-aggregate-pair-for
     pair-for-requires
-    slice-aggregate-put-walk
     put-walk-requires
     same-length
     returns-3)

@@ -14,7 +14,7 @@ use Rattle.detector.proofs.go_on.Lts as lts
 use Rattle.detector.proofs.has_bit.Reads as has-bit-reads
 use Rattle.detector.proofs.lowest_in.Reads as lowest-in-reads
 use Rattle.detector.proofs.put_ahead.Reads as put-ahead-reads
-use Rattle.detector.proofs.word_at.Reads as word-at-reads
+use Rattle.words.proofs.word_at.Reads as word-at-reads
 
 -- src/lib.rt:222:8
 has-bit-requires : tie.Need-has-bit-requires
@@ -29,8 +29,8 @@ mul-lowest-in : tie.Need-mul-lowest-in
 mul-lowest-in c = search needs
 
 -- src/lib.rt:225:23
-shared-slice-read-lowest-in : tie.Need-shared-slice-read-lowest-in
-shared-slice-read-lowest-in c = search needs
+element-copy-out-lowest-in : tie.Need-element-copy-out-lowest-in
+element-copy-out-lowest-in c = search needs
 
 -- src/lib.rt:225:9
 lowest-in-requires : tie.Need-lowest-in-requires
@@ -71,7 +71,7 @@ go-on-spec =
     has-bit-requires
     returns
     mul-lowest-in
-    shared-slice-read-lowest-in
+    element-copy-out-lowest-in
     lowest-in-requires
     mul-word-at
     add-word-at

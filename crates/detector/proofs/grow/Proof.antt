@@ -1,4 +1,4 @@
-use native.Mathlib.Numerals.{add-one}
+use Rattle.detector.specs.Turns.{word-turn, last-turn}
 use Rattle.detector.specs.Table.{withBit, wordBelow, growsTo, grown}
 use borrow.Author.Needs.{needs}
 use native.Mathlib.Omega.{arith}
@@ -41,13 +41,12 @@ loop-less c = search needs
 
 -- src/lib.rt:85:5
 loop-again : tie.Need-loop-again Inv-loop μ-loop
-unfolding wordBelow
-loop-again c = (omega arith, rw add-one (cc))
+loop-again c = (omega arith, word-turn _ _ (c .before .before .before .loop .inv .1) (c .before .grows-to .ensures) (c .with-bit .ensures))
 
 -- src/lib.rt:80:1
 returns : tie.Need-returns Inv-loop μ-loop
 unfolding grown
-returns c = let e : c .before .loop .k ≡ 64 = omega arith in cc
+returns c = last-turn (wordBelow (growsTo _ _)) 64 _ (c .before .loop .inv .1) (c .before .loop .inv .0) (c .loop-test .left)
 
 pub grow-spec : {M : Type 1} → statement M
 grow-spec =

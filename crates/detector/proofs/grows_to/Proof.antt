@@ -24,8 +24,8 @@ mul-result : tie.Need-mul-result
 mul-result c = search needs
 
 -- src/lib.rt:76:5
-shared-slice-read-result : tie.Need-shared-slice-read-result
-shared-slice-read-result c = search needs
+element-copy-out-result : tie.Need-element-copy-out-result
+element-copy-out-result c = search needs
 
 -- src/lib.rt:69:1
 returns-2 : tie.Need-returns-2
@@ -34,4 +34,4 @@ returns-2 c = simp (← c .before .before .has-bit .ensures, c .before .if1 .lef
 
 pub grows-to-spec : {M : Type 1} → statement M
 grows-to-spec =
-    tie.close (tie.spec has-bit-requires returns mul-result shared-slice-read-result returns-2)
+    tie.close (tie.spec has-bit-requires returns mul-result element-copy-out-result returns-2)

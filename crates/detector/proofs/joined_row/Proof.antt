@@ -1,5 +1,7 @@
-use native.Mathlib.Numerals.{add-one}
-use Rattle.detector.specs.Table.{withBit, wordBelow, joinedBit, joinedRow}
+use mathlib.Core.Bool.{not}
+use lib.Dec.{eqb}
+use Rattle.detector.specs.Turns.{word-turn, row-end}
+use Rattle.detector.specs.Table.{wordBelow, joinedBit}
 use borrow.Author.Needs.{needs}
 use native.Mathlib.Omega.{arith}
 use mathlib.Core.Path.{_≡_, refl, ap, sym, _∙_}
@@ -10,7 +12,7 @@ use Rattle.detector.proofs.joined_row.Tie as tie
 use Rattle.detector.proofs.joined_row.Reads as reads
 use Rattle.detector.proofs.joined_row.Lts as lts
 use Rattle.detector.proofs.with_bit.Reads as with-bit-reads
-use Rattle.detector.proofs.word_at.Reads as word-at-reads
+use Rattle.words.proofs.word_at.Reads as word-at-reads
 
 abbrev Inv-loop : tie.InvT-loop
 Inv-loop ahead u word₀ v₀ word v = (v ≤ 64) × (word ≡ wordBelow (joinedBit ahead u) v)
@@ -49,13 +51,12 @@ loop-less c = search needs
 
 -- src/lib.rt:47:5
 loop-again : tie.Need-loop-again Inv-loop μ-loop
-unfolding wordBelow
-loop-again c = (omega arith, rw add-one (cc))
+loop-again c =
+    (omega arith, word-turn _ _ (c .before .before .before .loop .inv .1) (ap (λ (x : ℕ). not (eqb x 0)) (c .before .word-at .ensures)) (c .with-bit .ensures))
 
 -- src/lib.rt:41:1
 returns : tie.Need-returns Inv-loop μ-loop
-unfolding joinedRow
-returns c = let e : c .before .loop .v ≡ 64 = omega arith in cc
+returns c = row-end _ _ (c .before .loop .inv .1) (c .before .loop .inv .0) (c .loop-test .left)
 
 pub joined-row-spec : {M : Type 1} → statement M
 joined-row-spec =

@@ -1,4 +1,4 @@
-use native.Mathlib.Numerals.{add-one}
+use Rattle.detector.specs.Turns.{list-turn, last-turn}
 use Rattle.detector.specs.Table.{joinedRow, listBelow, joinedRows}
 use borrow.Author.Needs.{needs}
 use native.Mathlib.Omega.{arith}
@@ -44,13 +44,12 @@ loop-less c = search needs
 
 -- src/lib.rt:62:5
 loop-again : tie.Need-loop-again Inv-loop μ-loop
-unfolding listBelow
-loop-again c = (omega arith, rw add-one (cc))
+loop-again c = (omega arith, list-turn _ _ (c .before .before .loop .inv .1) (c .joined-row .ensures) refl)
 
 -- src/lib.rt:57:1
 returns : tie.Need-returns Inv-loop μ-loop
 unfolding joinedRows
-returns c = let e : c .before .loop .u ≡ 64 = omega arith in cc
+returns c = last-turn (listBelow (joinedRow _)) 64 _ (c .before .loop .inv .1) (c .before .loop .inv .0) (c .loop-test .left)
 
 pub joined-rows-spec : {M : Type 1} → statement M
 joined-rows-spec =

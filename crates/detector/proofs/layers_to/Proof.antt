@@ -1,6 +1,6 @@
-use native.Mathlib.Numerals.{add-one}
+use Rattle.detector.specs.Turns.{list-turn, last-turn, layer-first, layer-turn, layer-still}
 use Rattle.detector.specs.Paths.{bit-shifted}
-use Rattle.detector.specs.Table.{layer, listBelow, layersTo}
+use Rattle.detector.specs.Table.{grown, layer, listBelow, layersTo}
 use borrow.Author.Needs.{needs}
 use native.Mathlib.Omega.{arith}
 use mathlib.Core.Path.{_≡_, refl, ap, sym, _∙_}
@@ -10,13 +10,14 @@ use Rattle.detector.proofs.layers_to.Statement.{statement}
 use Rattle.detector.proofs.layers_to.Tie as tie
 use Rattle.detector.proofs.layers_to.Reads as reads
 use Rattle.detector.proofs.layers_to.Lts as lts
-use Rattle.detector.proofs.grow.Reads as grow-reads
+use Rattle.detector.proofs.next_layer.Reads as next-layer-reads
 
 abbrev Inv-loop : tie.InvT-loop
-Inv-loop rows u layers₀ nodes₀ d₀ layers nodes d = (d ≤ 64) × (layers ≡ listBelow (layer rows u) d) × (nodes ≡ layer rows u d)
+Inv-loop rows u layers₀ before₀ nodes₀ d₀ layers before nodes d =
+    (d ≤ 64) × (layers ≡ listBelow (layer rows u) d) × (nodes ≡ layer rows u d) × (before ≡ nodes → grown rows nodes ≡ nodes)
 
 abbrev μ-loop : tie.MeasureT-loop
-μ-loop rows u layers₀ nodes₀ d₀ layers nodes d = 64 - d
+μ-loop rows u layers₀ before₀ nodes₀ d₀ layers before nodes d = 64 - d
 
 -- src/lib.rt:100:26
 shl-nodes : tie.Need-shl-nodes Inv-loop μ-loop
@@ -25,7 +26,7 @@ shl-nodes c = search needs
 -- src/lib.rt:102:5
 loop-holds : tie.Need-loop-holds Inv-loop μ-loop
 unfolding listBelow layer
-loop-holds c = (omega arith, refl, bit-shifted _ (c .before .pre .0))
+loop-holds c = (omega arith, refl, bit-shifted _ (c .pre), layer-first _ _ (bit-shifted _ (c .pre)))
 
 -- src/lib.rt:103:9
 mul-layers : tie.Need-mul-layers Inv-loop μ-loop
@@ -36,8 +37,8 @@ array-write-layers : tie.Need-array-write-layers Inv-loop μ-loop
 array-write-layers c = search needs
 
 -- src/lib.rt:104:9
-grow-requires : tie.Need-grow-requires Inv-loop μ-loop
-grow-requires c κs = search needs
+next-layer-requires : tie.Need-next-layer-requires Inv-loop μ-loop
+next-layer-requires c κs = c .before .loop .inv .3
 
 -- src/lib.rt:105:9
 add-d : tie.Need-add-d Inv-loop μ-loop
@@ -49,13 +50,17 @@ loop-less c = search needs
 
 -- src/lib.rt:102:5
 loop-again : tie.Need-loop-again Inv-loop μ-loop
-unfolding listBelow layer
-loop-again c = (omega arith, rw add-one (cc), rw add-one (cc))
+loop-again c = (
+  omega arith,
+  list-turn _ _ (c .before .before .loop .inv .1) (c .before .before .loop .inv .2) refl,
+  layer-turn _ _ _ (c .before .before .loop .inv .2) (c .next-layer .ensures),
+  layer-still _ (c .next-layer .ensures),
+)
 
 -- src/lib.rt:95:1
 returns : tie.Need-returns Inv-loop μ-loop
 unfolding layersTo
-returns c = let e : c .before .loop .d ≡ 64 = omega arith in cc
+returns c = last-turn (listBelow (layer _ _)) 64 _ (c .before .loop .inv .1) (c .before .loop .inv .0) (c .loop-test .left)
 
 pub layers-to-spec : {M : Type 1} → statement M
 layers-to-spec =
@@ -67,7 +72,7 @@ layers-to-spec =
     loop-holds
     mul-layers
     array-write-layers
-    grow-requires
+    next-layer-requires
     add-d
     loop-less
     loop-again

@@ -24,7 +24,7 @@ loop-holds c = (omega arith, refl)
 
 -- src/lib.rt:169:12
 pair-for-requires : tie.Need-pair-for-requires Inv-loop μ-loop
-pair-for-requires c κs = search needs
+pair-for-requires c κs = (c .loop-test .taken, c .before .before .before .before .pre)
 
 -- src/lib.rt:170:13
 returns : tie.Need-returns Inv-loop μ-loop

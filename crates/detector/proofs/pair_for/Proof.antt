@@ -1,4 +1,5 @@
 use Rattle.detector.specs.Paths.{pair-layers}
+use Rattle.detector.specs.WalkLaws.{pair-none}
 use native.Mathlib.Omega.{arith}
 use mathlib.Core.Path.{_≡_, refl, ap, sym, _∙_}
 use Prim.Native.Nat.{ℕ, _+_, _-_, _*_, _≤_, _<_}
@@ -11,7 +12,16 @@ use Rattle.detector.proofs.pair_for.Lts as lts
 use Rattle.detector.proofs.layers_to.Reads as layers-to-reads
 use Rattle.detector.proofs.pair_in.Reads as pair-in-reads
 
--- src/lib.rt:159:18
+mul-if1 : tie.Need-mul-if1
+mul-if1 c = search needs
+
+element-copy-out-if1 : tie.Need-element-copy-out-if1
+element-copy-out-if1 c = search needs
+
+-- no forward edge leaves the node
+returns : tie.Need-returns
+returns c = pair-none _ _ _ (c .before .before .before .before .pre .0) (c .before .before .before .before .pre .1) (c .if1 .taken)
+
 layers-to-requires : tie.Need-layers-to-requires
 layers-to-requires c κs = search needs
 
@@ -24,8 +34,10 @@ pair-in-requires : tie.Need-pair-in-requires
 pair-in-requires c κs = search needs
 
 -- src/lib.rt:155:1
-returns : tie.Need-returns
-returns c = pair-layers _ _ _ _ (c .before .layers-to .ensures) (c .pair-in .ensures)
+returns-2 : tie.Need-returns-2
+returns-2 c = pair-layers _ _ _ _ (c .before .layers-to .ensures) (c .pair-in .ensures)
 
 pub pair-for-spec : {M : Type 1} → statement M
-pair-for-spec = tie.close (tie.spec layers-to-requires array-read-pair-in pair-in-requires returns)
+pair-for-spec =
+    tie.close
+    (tie.spec mul-if1 element-copy-out-if1 returns layers-to-requires array-read-pair-in pair-in-requires returns-2)

@@ -1,5 +1,5 @@
-use Rattle.detector.specs.Turns.{search-stop, search-turn, search-end}
-use Rattle.detector.specs.Table.{closesAt, pairIn, firstFrom}
+use Rattle.detector.specs.Paths.{pair-stop, pair-turn, pair-end}
+use Rattle.detector.specs.Table.{closesAt, firstFrom}
 use borrow.Author.Needs.{needs}
 use native.Mathlib.Omega.{arith}
 use mathlib.Core.Path.{_≡_, refl, ap, sym, _∙_}
@@ -9,43 +9,59 @@ use Rattle.detector.proofs.pair_in.Statement.{statement}
 use Rattle.detector.proofs.pair_in.Tie as tie
 use Rattle.detector.proofs.pair_in.Reads as reads
 use Rattle.detector.proofs.pair_in.Lts as lts
-use Rattle.detector.proofs.closes_at.Reads as closes-at-reads
+use Rattle.detector.proofs.closing_node.Reads as closing-node-reads
+use Rattle.words.proofs.word_at.Reads as word-at-reads
 
 abbrev Inv-loop : tie.InvT-loop
-Inv-loop ahead behind u reach x₀ x = (x ≤ 4096) × (firstFrom (closesAt ahead behind u reach) (4096 - x) x ≡ firstFrom (closesAt ahead behind u reach) 4096 0)
+Inv-loop ahead behind u reach v₀ v =
+    (v ≤ 64) × (firstFrom (closesAt ahead behind u reach) (4096 - v * 64) (v * 64) ≡ firstFrom (closesAt ahead behind u reach) 4096 0)
 
 abbrev μ-loop : tie.MeasureT-loop
-μ-loop ahead behind u reach x₀ x = 4096 - x
+μ-loop ahead behind u reach v₀ v = 64 - v
 
--- src/lib.rt:144:5
 loop-holds : tie.Need-loop-holds Inv-loop μ-loop
 loop-holds c = (omega arith, refl)
 
--- src/lib.rt:145:12
-closes-at-requires : tie.Need-closes-at-requires Inv-loop μ-loop
-closes-at-requires c κs = search needs
+mul-word-at : tie.Need-mul-word-at Inv-loop μ-loop
+mul-word-at c = search needs
 
--- src/lib.rt:146:13
+add-word-at : tie.Need-add-word-at Inv-loop μ-loop
+add-word-at c = search needs
+
+word-at-requires : tie.Need-word-at-requires Inv-loop μ-loop
+word-at-requires c κs = search needs
+
+closing-node-requires : tie.Need-closing-node-requires Inv-loop μ-loop
+closing-node-requires c κs = search needs
+
+mul-result : tie.Need-mul-result Inv-loop μ-loop
+mul-result c = search needs
+
+add-result : tie.Need-add-result Inv-loop μ-loop
+add-result c = search needs
+
+-- a node closes a walk along the edge to v
 returns : tie.Need-returns Inv-loop μ-loop
-unfolding pairIn
-returns c = search-stop _ _ _ (c .before .before .before .loop .inv .1) (c .before .before .loop-test .taken) (sym (c .before .closes-at .ensures) ∙ c .if1 .taken)
+returns c =
+    pair-stop _ _ _ _ _ (c .before .before .before .before .loop .inv .1) (c .before .before .before .loop-test .taken) (c .before .before .word-at .ensures)
+    (c .before .closing-node .ensures) (c .if1 .taken)
 
--- src/lib.rt:148:9
-add-x : tie.Need-add-x Inv-loop μ-loop
-add-x c = search needs
+add-v : tie.Need-add-v Inv-loop μ-loop
+add-v c = search needs
 
--- src/lib.rt:144:5
 loop-less : tie.Need-loop-less Inv-loop μ-loop
 loop-less c = search needs
 
--- src/lib.rt:144:5
+-- none does
 loop-again : tie.Need-loop-again Inv-loop μ-loop
-loop-again c = (omega arith, search-turn _ _ _ (c .before .before .before .loop .inv .1) (c .before .before .loop-test .taken) (sym (c .before .closes-at .ensures) ∙ c .if1 .left))
+loop-again c = (
+  omega arith,
+  pair-turn _ _ _ _ _ (c .before .before .before .before .loop .inv .1) (c .before .before .before .loop-test .taken)
+      (c .before .before .word-at .ensures) (c .before .closing-node .ensures) (c .if1 .left),
+)
 
--- src/lib.rt:139:1
 returns-2 : tie.Need-returns-2 Inv-loop μ-loop
-unfolding pairIn
-returns-2 c = search-end _ _ _ (c .before .loop .inv .1) (c .before .loop .inv .0) (c .loop-test .left)
+returns-2 c = pair-end _ _ _ _ _ (c .before .loop .inv .1) (c .before .loop .inv .0) (c .loop-test .left)
 
 pub pair-in-spec : {M : Type 1} → statement M
 pair-in-spec =
@@ -54,9 +70,14 @@ pair-in-spec =
     Inv-loop
     μ-loop
     loop-holds
-    closes-at-requires
+    mul-word-at
+    add-word-at
+    word-at-requires
+    closing-node-requires
+    mul-result
+    add-result
     returns
-    add-x
+    add-v
     loop-less
     loop-again
     returns-2)

@@ -12,7 +12,7 @@ use Rattle.detector.proofs.layers_to.Reads as layers-to-reads
 use Rattle.detector.proofs.put_ahead.Reads as put-ahead-reads
 use Rattle.detector.proofs.put_behind.Reads as put-behind-reads
 use Rattle.detector.proofs.put_way.Reads as put-way-reads
-use Rattle.detector.proofs.word_at.Reads as word-at-reads
+use Rattle.words.proofs.word_at.Reads as word-at-reads
 
 -- src/lib.rt:258:28
 mul-word-at : tie.Need-mul-word-at
@@ -51,9 +51,6 @@ layers-to-requires : tie.Need-layers-to-requires
 layers-to-requires c κs = search needs
 
 -- src/lib.rt:265:5
-slice-aggregate-put-way : tie.Need-slice-aggregate-put-way
-slice-aggregate-put-way c = search needs
-
 -- src/lib.rt:263:5
 put-way-requires : tie.Need-put-way-requires
 put-way-requires c κs = search needs
@@ -84,7 +81,6 @@ put-walk-spec =
     word-at-requires-2
     put-behind-requires
     layers-to-requires
-    slice-aggregate-put-way
     put-way-requires
     same-length
     returns)

@@ -19,7 +19,7 @@ abbrev μ-loop : tie.MeasureT-loop
 
 -- src/lib.rt:242:5
 loop-holds : tie.Need-loop-holds Inv-loop μ-loop
-loop-holds c = way-first (c .before .before .before .before .pre .0)
+loop-holds c = way-first (c .before .before .pre .0)
 
 -- src/lib.rt:243:9
 sub-d : tie.Need-sub-d Inv-loop μ-loop
@@ -30,8 +30,8 @@ mul-go-on : tie.Need-mul-go-on Inv-loop μ-loop
 mul-go-on c = search needs
 
 -- src/lib.rt:244:36
-shared-slice-read-go-on : tie.Need-shared-slice-read-go-on Inv-loop μ-loop
-shared-slice-read-go-on c = search needs
+element-copy-out-go-on : tie.Need-element-copy-out-go-on Inv-loop μ-loop
+element-copy-out-go-on c = search needs
 
 -- src/lib.rt:244:13
 go-on-requires : tie.Need-go-on-requires Inv-loop μ-loop
@@ -62,7 +62,7 @@ put-way-spec =
     loop-holds
     sub-d
     mul-go-on
-    shared-slice-read-go-on
+    element-copy-out-go-on
     go-on-requires
     loop-less
     loop-again

@@ -5,12 +5,9 @@ use lib.Seq.{length-take-le}
 use borrow.Author.Needs.{needs}
 use Rattle.fields.specs.Step.{kindAnswer}
 use Rattle.fields.specs.Field.{fieldLength}
-use Rattle.fields.specs.FieldLaws.{length-field, line-long, line-none, line-some}
+use Rattle.fields.specs.FieldLaws.{length-field, line-none, line-some}
 use Rattle.fields.proofs.line_of.Statement.{statement}
 use Rattle.fields.proofs.line_of.Tie as tie
-
-returns : tie.Need-returns
-returns c = sym (line-long _ (c .if1 .taken))
 
 field-end-requires : tie.Need-field-end-requires
 field-end-requires c κs = search needs
@@ -18,7 +15,7 @@ field-end-requires c κs = search needs
 slice-aggregate-kind-of : tie.Need-slice-aggregate-kind-of
 slice-aggregate-kind-of c =
     sym
-    (length-take-le _ _ (omega (arith, c .before .field-end .ensures, length-field (c .before .before .before .before .args .bytes .now))))
+    (length-take-le _ _ (omega (arith, c .before .field-end .ensures, length-field (c .before .before .before .args .bytes .now))))
 
 kind-of-requires : tie.Need-kind-of-requires
 kind-of-requires c κs = search needs
@@ -32,8 +29,8 @@ line-behind-requires c κs = search needs
 enum-told : tie.Need-enum-told
 enum-told c = search needs
 
-returns-2 : tie.Need-returns-2
-returns-2 c = let bytes = c .before .before .before .before .before .before .before .before .before .args .bytes .now in
+returns : tie.Need-returns
+returns c = let bytes = c .before .before .before .before .before .before .before .before .args .bytes .now in
     let ends : c .before .before .before .before .before .before .field-end .result ≡ fieldLength bytes =
     omega (arith, c .before .before .before .before .before .before .field-end .ensures)
     in
@@ -43,8 +40,8 @@ returns-2 c = let bytes = c .before .before .before .before .before .before .bef
     (line-some bytes
     (rw (← ends) (sym (c .before .before .before .before .kind-of .ensures) ∙ ap kindAnswer (c .before .before .r .given .1)))))
 
-returns-3 : tie.Need-returns-3
-returns-3 c = let bytes = c .before .before .before .before .before .before .before .args .bytes .now in
+returns-2 : tie.Need-returns-2
+returns-2 c = let bytes = c .before .before .before .before .before .before .args .bytes .now in
     let ends : c .before .before .before .before .field-end .result ≡ fieldLength bytes =
     omega (arith, c .before .before .before .before .field-end .ensures)
     in
@@ -54,12 +51,11 @@ pub line-of-spec : {M : Type 1} → statement M
 line-of-spec =
     tie.close
     (tie.spec
-    returns
     field-end-requires
     slice-aggregate-kind-of
     kind-of-requires
     enum-known-r
     line-behind-requires
     enum-told
-    returns-2
-    returns-3)
+    returns
+    returns-2)

@@ -1,6 +1,6 @@
 use borrow.Author.Tests.{not-true, not-false}
 use Rattle.base.specs.BoolLaws.{and-left}
-use Rattle.fields.specs.Unique.{lineFits}
+use Rattle.reading.specs.TextLaws.{lineFits}
 use Rattle.givens.specs.Steps.{isEmpty}
 use Rattle.givens.specs.StepLaws.{size-test}
 use mathlib.Core.Path.{sym, _∙_}

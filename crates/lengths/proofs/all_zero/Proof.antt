@@ -4,12 +4,10 @@ use Rattle.lengths.specs.Size.{isZero}
 use Rattle.lengths.proofs.all_zero.Statement.{statement}
 use Rattle.lengths.proofs.all_zero.Tie as tie
 
--- src/lib.rt:42:9
 returns : tie.Need-returns
 unfolding isZero
 returns c = simp (ne-eqb _ 0 (c .if1 .taken))
 
--- src/lib.rt:45:9
 returns-2 : tie.Need-returns-2
 unfolding isZero
 returns-2 c =
@@ -18,7 +16,6 @@ returns-2 c =
       ne-eqb _ 0 (c .if2 .taken),
     )
 
--- src/lib.rt:48:9
 returns-3 : tie.Need-returns-3
 unfolding isZero
 returns-3 c =
@@ -28,7 +25,6 @@ returns-3 c =
       ne-eqb _ 0 (c .if3 .taken),
     )
 
--- src/lib.rt:51:9
 returns-4 : tie.Need-returns-4
 unfolding isZero
 returns-4 c =
@@ -39,7 +35,6 @@ returns-4 c =
       ne-eqb _ 0 (c .if4 .taken),
     )
 
--- src/lib.rt:54:9
 returns-5 : tie.Need-returns-5
 unfolding isZero
 returns-5 c =
@@ -51,7 +46,6 @@ returns-5 c =
       ne-eqb _ 0 (c .if5 .taken),
     )
 
--- src/lib.rt:38:1
 returns-6 : tie.Need-returns-6
 unfolding isZero
 returns-6 c =

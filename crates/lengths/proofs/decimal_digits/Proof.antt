@@ -4,15 +4,12 @@ use mathlib.Core.Path.{sym}
 use Rattle.lengths.proofs.decimal_digits.Statement.{statement}
 use Rattle.lengths.proofs.decimal_digits.Tie as tie
 
--- src/lib.rt:19:9
 returns : tie.Need-returns
 returns c = (sym (decimal-one _ (c .if1 .taken)), omega arith)
 
--- src/lib.rt:22:9
 returns-2 : tie.Need-returns-2
 returns-2 c = (sym (decimal-two _ (c .before .if1 .left) (c .if2 .taken)), omega arith)
 
--- src/lib.rt:15:1
 returns-3 : tie.Need-returns-3
 returns-3 c = (sym (decimal-three _ (c .if2 .left) (omega arith)), omega arith)
 

@@ -6,19 +6,15 @@ use lib.ListN.{set}
 use Rattle.lengths.proofs.hexadecimal_digits.Statement.{statement}
 use Rattle.lengths.proofs.hexadecimal_digits.Tie as tie
 
--- src/lib.rt:32:9
 returns : tie.Need-returns
 returns c = (rw (c .if1 .taken) (sym hexadecimal-zero), omega arith)
 
--- src/lib.rt:34:17
 cast-zeros : tie.Need-cast-zeros
 cast-zeros c = record { fits = omega (arith, leading-le 64 (c .before .args .set)) }
 
--- src/lib.rt:35:6
 sub-result : tie.Need-sub-result
 sub-result c = omega (arith, leading-le 64 (c .before .args .set))
 
--- src/lib.rt:28:1
 returns-2 : tie.Need-returns-2
 returns-2 c =
     (sym (hexadecimal-many _ (omega (arith, c .if1 .left)) (omega arith)), omega (arith, leading-le 64 (c .before .args .set)))

@@ -1,6 +1,6 @@
 use Rattle.text.specs.declared.LineKind.the-variants.{Rl, Fk, Pr, Lo, Br, El, En, Li}
 use Rattle.text.specs.Text.{formsOf}
-use Rattle.fields.specs.Unique.{lineFits}
+use Rattle.reading.specs.TextLaws.{lineFits}
 use Rattle.lengths.specs.SizeLaws.{absent, absents, absent-fits}
 use native.Mathlib.Omega.{arith}
 use mathlib.Core.Path.{_∙_}
@@ -9,79 +9,60 @@ use Rattle.lengths.proofs.line_fits.Statement.{statement}
 use Rattle.lengths.proofs.line_fits.Tie as tie
 use Rattle.lengths.proofs.line_fits.Reads as reads
 
--- src/lib.rt:80:25
 enum-told : tie.Need-enum-told
 enum-told c = search needs
 
--- src/lib.rt:80:25
 all-zero-requires : tie.Need-all-zero-requires
 all-zero-requires c κs = search needs
 
--- src/lib.rt:81:25
 enum-told-2 : tie.Need-enum-told-2
 enum-told-2 c = search needs
 
--- src/lib.rt:81:25
 all-zero-requires-2 : tie.Need-all-zero-requires-2
 all-zero-requires-2 c κs = search needs
 
--- src/lib.rt:82:25
 enum-told-3 : tie.Need-enum-told-3
 enum-told-3 c = search needs
 
--- src/lib.rt:82:25
 all-zero-requires-3 : tie.Need-all-zero-requires-3
 all-zero-requires-3 c κs = search needs
 
--- src/lib.rt:83:22
 enum-known-kind : tie.Need-enum-known-kind
 enum-known-kind c = search needs
 
--- src/lib.rt:83:28
 statement-fits-requires : tie.Need-statement-fits-requires
 statement-fits-requires c κs = search needs
 
--- src/lib.rt:84:25
 enum-told-4 : tie.Need-enum-told-4
 enum-told-4 c = search needs
 
--- src/lib.rt:84:25
 all-zero-requires-4 : tie.Need-all-zero-requires-4
 all-zero-requires-4 c κs = search needs
 
--- src/lib.rt:85:25
 enum-told-5 : tie.Need-enum-told-5
 enum-told-5 c = search needs
 
--- src/lib.rt:85:25
 all-zero-requires-5 : tie.Need-all-zero-requires-5
 all-zero-requires-5 c κs = search needs
 
--- src/lib.rt:86:25
 enum-told-6 : tie.Need-enum-told-6
 enum-told-6 c = search needs
 
--- src/lib.rt:86:25
 all-zero-requires-6 : tie.Need-all-zero-requires-6
 all-zero-requires-6 c κs = search needs
 
--- src/lib.rt:87:25
 enum-told-7 : tie.Need-enum-told-7
 enum-told-7 c = search needs
 
--- src/lib.rt:87:25
 all-zero-requires-7 : tie.Need-all-zero-requires-7
 all-zero-requires-7 c κs = search needs
 
--- src/lib.rt:88:25
 enum-told-8 : tie.Need-enum-told-8
 enum-told-8 c = search needs
 
--- src/lib.rt:88:25
 all-zero-requires-8 : tie.Need-all-zero-requires-8
 all-zero-requires-8 c κs = search needs
 
--- src/lib.rt:75:1
 returns : tie.Need-returns
 unfolding lineFits formsOf absent absents
 returns c =
@@ -90,7 +71,6 @@ returns c =
     (absent-fits Rl (c .before .before .before .args .l)
     (record { id = omega arith; rel = omega arith; to = omega arith; reads = omega arith; writes = omega arith; tests = omega arith }))
 
--- src/lib.rt:75:1
 returns-2 : tie.Need-returns-2
 unfolding lineFits formsOf absent absents
 returns-2 c =
@@ -99,7 +79,6 @@ returns-2 c =
     (absent-fits Fk (c .before .before .before .args .l)
     (record { id = omega arith; rel = omega arith; to = omega arith; reads = omega arith; writes = omega arith; tests = omega arith }))
 
--- src/lib.rt:75:1
 returns-3 : tie.Need-returns-3
 unfolding lineFits formsOf absent absents
 returns-3 c =
@@ -108,12 +87,10 @@ returns-3 c =
     (absent-fits Pr (c .before .before .before .args .l)
     (record { id = omega arith; rel = omega arith; to = omega arith; reads = omega arith; writes = omega arith; tests = omega arith }))
 
--- src/lib.rt:75:1
 returns-4 : tie.Need-returns-4
 unfolding lineFits
 returns-4 c = c .statement-fits .ensures ∙ rw (c .before .before .kind .given .1)
 
--- src/lib.rt:75:1
 returns-5 : tie.Need-returns-5
 unfolding lineFits formsOf absent absents
 returns-5 c =
@@ -122,7 +99,6 @@ returns-5 c =
     (absent-fits Lo (c .before .before .before .args .l)
     (record { id = omega arith; rel = omega arith; to = omega arith; reads = omega arith; writes = omega arith; tests = omega arith }))
 
--- src/lib.rt:75:1
 returns-6 : tie.Need-returns-6
 unfolding lineFits formsOf absent absents
 returns-6 c =
@@ -131,7 +107,6 @@ returns-6 c =
     (absent-fits Br (c .before .before .before .args .l)
     (record { id = omega arith; rel = omega arith; to = omega arith; reads = omega arith; writes = omega arith; tests = omega arith }))
 
--- src/lib.rt:75:1
 returns-7 : tie.Need-returns-7
 unfolding lineFits formsOf absent absents
 returns-7 c =
@@ -140,7 +115,6 @@ returns-7 c =
     (absent-fits El (c .before .before .before .args .l)
     (record { id = omega arith; rel = omega arith; to = omega arith; reads = omega arith; writes = omega arith; tests = omega arith }))
 
--- src/lib.rt:75:1
 returns-8 : tie.Need-returns-8
 unfolding lineFits formsOf absent absents
 returns-8 c =
@@ -149,7 +123,6 @@ returns-8 c =
     (absent-fits En (c .before .before .before .args .l)
     (record { id = omega arith; rel = omega arith; to = omega arith; reads = omega arith; writes = omega arith; tests = omega arith }))
 
--- src/lib.rt:75:1
 returns-9 : tie.Need-returns-9
 unfolding lineFits formsOf absent absents
 returns-9 c =

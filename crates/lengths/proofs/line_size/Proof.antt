@@ -6,63 +6,48 @@ use borrow.Author.Needs.{needs}
 use Rattle.lengths.proofs.line_size.Statement.{statement}
 use Rattle.lengths.proofs.line_size.Tie as tie
 
--- src/lib.rt:97:9
 line-fits-requires : tie.Need-line-fits-requires
 line-fits-requires c κs = search needs
 
--- src/lib.rt:98:9
 returns : tie.Need-returns
 returns c = sym (size-unfit _ (sym (c .before .line-fits .ensures) ∙ not-true _ (c .if1 .taken)))
 
--- src/lib.rt:100:19
 decimal-digits-requires : tie.Need-decimal-digits-requires
 decimal-digits-requires c κs = search needs
 
--- src/lib.rt:100:42
 decimal-digits-requires-2 : tie.Need-decimal-digits-requires-2
 decimal-digits-requires-2 c κs = search needs
 
--- src/lib.rt:100:19
 add-numbers : tie.Need-add-numbers
 add-numbers c = search needs
 
--- src/lib.rt:100:66
 decimal-digits-requires-3 : tie.Need-decimal-digits-requires-3
 decimal-digits-requires-3 c κs = search needs
 
--- src/lib.rt:100:19
 add-numbers-2 : tie.Need-add-numbers-2
 add-numbers-2 c = search needs
 
--- src/lib.rt:101:16
 hexadecimal-digits-requires : tie.Need-hexadecimal-digits-requires
 hexadecimal-digits-requires c κs = search needs
 
--- src/lib.rt:101:46
 hexadecimal-digits-requires-2 : tie.Need-hexadecimal-digits-requires-2
 hexadecimal-digits-requires-2 c κs = search needs
 
--- src/lib.rt:101:16
 add-sets : tie.Need-add-sets
 add-sets c = search needs
 
--- src/lib.rt:101:77
 hexadecimal-digits-requires-3 : tie.Need-hexadecimal-digits-requires-3
 hexadecimal-digits-requires-3 c κs = search needs
 
--- src/lib.rt:101:16
 add-sets-2 : tie.Need-add-sets-2
 add-sets-2 c = search needs
 
--- src/lib.rt:102:5
 add-result : tie.Need-add-result
 add-result c = search needs
 
--- src/lib.rt:102:5
 add-result-2 : tie.Need-add-result-2
 add-result-2 c = search needs
 
--- src/lib.rt:94:1
 returns-2 : tie.Need-returns-2
 returns-2 c =
     let tested = c .before .before .before .before .before .before .before in

@@ -9,63 +9,48 @@ use Rattle.lengths.proofs.statement_fits.Statement.{statement}
 use Rattle.lengths.proofs.statement_fits.Tie as tie
 use Rattle.lengths.proofs.statement_fits.Reads as reads
 
--- src/lib.rt:64:30
 enum-told : tie.Need-enum-told
 enum-told c = search needs
 
--- src/lib.rt:64:30
 all-zero-requires : tie.Need-all-zero-requires
 all-zero-requires c κs = search needs
 
--- src/lib.rt:65:30
 enum-told-2 : tie.Need-enum-told-2
 enum-told-2 c = search needs
 
--- src/lib.rt:65:30
 all-zero-requires-2 : tie.Need-all-zero-requires-2
 all-zero-requires-2 c κs = search needs
 
--- src/lib.rt:66:30
 enum-told-3 : tie.Need-enum-told-3
 enum-told-3 c = search needs
 
--- src/lib.rt:66:30
 all-zero-requires-3 : tie.Need-all-zero-requires-3
 all-zero-requires-3 c κs = search needs
 
--- src/lib.rt:67:30
 enum-told-4 : tie.Need-enum-told-4
 enum-told-4 c = search needs
 
--- src/lib.rt:67:30
 all-zero-requires-4 : tie.Need-all-zero-requires-4
 all-zero-requires-4 c κs = search needs
 
--- src/lib.rt:68:30
 enum-told-5 : tie.Need-enum-told-5
 enum-told-5 c = search needs
 
--- src/lib.rt:68:30
 all-zero-requires-5 : tie.Need-all-zero-requires-5
 all-zero-requires-5 c κs = search needs
 
--- src/lib.rt:69:30
 enum-told-6 : tie.Need-enum-told-6
 enum-told-6 c = search needs
 
--- src/lib.rt:69:30
 all-zero-requires-6 : tie.Need-all-zero-requires-6
 all-zero-requires-6 c κs = search needs
 
--- src/lib.rt:70:30
 enum-told-7 : tie.Need-enum-told-7
 enum-told-7 c = search needs
 
--- src/lib.rt:70:30
 all-zero-requires-7 : tie.Need-all-zero-requires-7
 all-zero-requires-7 c κs = search needs
 
--- src/lib.rt:60:1
 returns : tie.Need-returns
 unfolding formsOf absent absents
 returns c =
@@ -74,7 +59,6 @@ returns c =
     (absent-fits (St Is) (c .before .before .before .args .l)
     (record { id = omega arith; rel = omega arith; to = omega arith; reads = omega arith; writes = omega arith; tests = omega arith }))
 
--- src/lib.rt:60:1
 returns-2 : tie.Need-returns-2
 unfolding formsOf absent absents
 returns-2 c =
@@ -83,7 +67,6 @@ returns-2 c =
     (absent-fits (St Ks) (c .before .before .before .args .l)
     (record { id = omega arith; rel = omega arith; to = omega arith; reads = omega arith; writes = omega arith; tests = omega arith }))
 
--- src/lib.rt:60:1
 returns-3 : tie.Need-returns-3
 unfolding formsOf absent absents
 returns-3 c =
@@ -92,7 +75,6 @@ returns-3 c =
     (absent-fits (St Ps) (c .before .before .before .args .l)
     (record { id = omega arith; rel = omega arith; to = omega arith; reads = omega arith; writes = omega arith; tests = omega arith }))
 
--- src/lib.rt:60:1
 returns-4 : tie.Need-returns-4
 unfolding formsOf absent absents
 returns-4 c =
@@ -101,7 +83,6 @@ returns-4 c =
     (absent-fits (St Ku) (c .before .before .before .args .l)
     (record { id = omega arith; rel = omega arith; to = omega arith; reads = omega arith; writes = omega arith; tests = omega arith }))
 
--- src/lib.rt:60:1
 returns-5 : tie.Need-returns-5
 unfolding formsOf absent absents
 returns-5 c =
@@ -110,7 +91,6 @@ returns-5 c =
     (absent-fits (St Pu) (c .before .before .before .args .l)
     (record { id = omega arith; rel = omega arith; to = omega arith; reads = omega arith; writes = omega arith; tests = omega arith }))
 
--- src/lib.rt:60:1
 returns-6 : tie.Need-returns-6
 unfolding formsOf absent absents
 returns-6 c =
@@ -119,7 +99,6 @@ returns-6 c =
     (absent-fits (St Kd) (c .before .before .before .args .l)
     (record { id = omega arith; rel = omega arith; to = omega arith; reads = omega arith; writes = omega arith; tests = omega arith }))
 
--- src/lib.rt:60:1
 returns-7 : tie.Need-returns-7
 unfolding formsOf absent absents
 returns-7 c =

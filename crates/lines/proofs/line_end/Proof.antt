@@ -15,31 +15,32 @@ Inv-loop text at i₀ i = i + lineLength (drop i text) ≡ at + lineLength (drop
 abbrev μ-loop : tie.MeasureT-loop
 μ-loop text at i₀ i = length text - i
 
--- src/lib.rt:100:5
 loop-holds : tie.Need-loop-holds Inv-loop μ-loop
 loop-holds c = refl
 
--- src/lib.rt:101:12
 shared-slice-read-if1 : tie.Need-shared-slice-read-if1 Inv-loop μ-loop
 shared-slice-read-if1 c = omega arith
 
--- src/lib.rt:102:13
 returns : tie.Need-returns Inv-loop μ-loop
-returns c = omega (arith, line-stop (c .before .before .before .before .args .text .now) (c .before .before .before .loop .i) (c .before .before .loop-test .taken) (c .if1 .taken))
+returns c = omega (
+  arith,
+  line-stop (c .before .before .before .before .args .text .now) (c .before .before .before .loop .i)
+      (c .before .before .loop-test .taken) (c .if1 .taken),
+)
 
--- src/lib.rt:104:9
 add-i : tie.Need-add-i Inv-loop μ-loop
 add-i c = omega arith
 
--- src/lib.rt:100:5
 loop-less : tie.Need-loop-less Inv-loop μ-loop
 loop-less c = omega arith
 
--- src/lib.rt:100:5
 loop-again : tie.Need-loop-again Inv-loop μ-loop
-loop-again c = omega (arith, line-more (c .before .before .before .before .args .text .now) (c .before .before .before .loop .i) (c .before .before .loop-test .taken) (c .if1 .left))
+loop-again c = omega (
+  arith,
+  line-more (c .before .before .before .before .args .text .now) (c .before .before .before .loop .i)
+      (c .before .before .loop-test .taken) (c .if1 .left),
+)
 
--- src/lib.rt:96:1
 returns-2 : tie.Need-returns-2 Inv-loop μ-loop
 returns-2 c = omega (arith, line-done (c .before .before .args .text .now) (c .before .loop .i) (c .loop-test .left))
 

@@ -48,17 +48,6 @@ put-decimal-put-byte-requires : (t : ℕ) → put-decimal-lts.Need-put-byte-requ
 put-decimal-put-byte-requires t c κs = search needs
 
 -- src/lib.rt:53:9
-put-decimal-same-length : (t : ℕ) → put-decimal-lts.Need-same-length (
-  digit-byte-reads.Asked,
-  digit-byte-reads.Learnt,
-  put-byte-reads.Asked,
-  put-byte-reads.Learnt,
-  put-decimal-below t,
-  put-decimal.Post,
-) (put-decimal-at t) put-decimal.Post
-put-decimal-same-length t c = search needs
-
--- src/lib.rt:53:9
 put-decimal-returns : (t : ℕ) → put-decimal-lts.Need-returns (
   digit-byte-reads.Asked,
   digit-byte-reads.Learnt,
@@ -67,7 +56,7 @@ put-decimal-returns : (t : ℕ) → put-decimal-lts.Need-returns (
   put-decimal-below t,
   put-decimal.Post,
 ) (put-decimal-at t) put-decimal.Post
-put-decimal-returns t c = put-digit _ (c .before .before .before .before .before .if1 .taken) (c .before .before .before .digit-byte .ensures) (c .before .before .put-byte .ensures)
+put-decimal-returns t c = put-digit _ (c .before .before .before .if1 .taken) (c .before .digit-byte .ensures) (c .put-byte .ensures)
 
 -- src/lib.rt:55:9
 put-decimal-put-decimal-requires : (t : ℕ) → put-decimal-lts.Need-put-decimal-requires (
@@ -100,18 +89,7 @@ put-decimal-put-byte-requires-2 : (t : ℕ) → put-decimal-lts.Need-put-byte-re
   put-decimal-below t,
   put-decimal.Post,
 ) (put-decimal-at t) put-decimal.Post
-put-decimal-put-byte-requires-2 t c κs = let last = last-room (c .before .before .before .before .before .before .before .before .args .n) (omega arith) (omega arith) in omega (arith, last, c .before .before .before .before .put-decimal .ensures .place)
-
--- src/lib.rt:48:1
-put-decimal-same-length-2 : (t : ℕ) → put-decimal-lts.Need-same-length-2 (
-  digit-byte-reads.Asked,
-  digit-byte-reads.Learnt,
-  put-byte-reads.Asked,
-  put-byte-reads.Learnt,
-  put-decimal-below t,
-  put-decimal.Post,
-) (put-decimal-at t) put-decimal.Post
-put-decimal-same-length-2 t c = search needs
+put-decimal-put-byte-requires-2 t c κs = let last = last-room (c .before .before .before .before .before .args .n) (omega arith) (omega arith) in omega (arith, last, c .before .before .put-decimal .ensures .place)
 
 -- src/lib.rt:48:1
 put-decimal-returns-2 : (t : ℕ) → put-decimal-lts.Need-returns-2 (
@@ -122,7 +100,7 @@ put-decimal-returns-2 : (t : ℕ) → put-decimal-lts.Need-returns-2 (
   put-decimal-below t,
   put-decimal.Post,
 ) (put-decimal-at t) put-decimal.Post
-put-decimal-returns-2 t c = put-digits _ (c .before .before .before .before .before .before .before .before .before .if1 .left) (omega arith) (c .before .before .before .before .before .before .before .put-decimal .ensures) (c .before .before .before .digit-byte2 .ensures) (c .before .before .put-byte2 .ensures)
+put-decimal-returns-2 t c = put-digits _ (c .before .before .before .before .before .if1 .left) (omega arith) (c .before .before .before .put-decimal .ensures) (c .before .digit-byte2 .ensures) (c .put-byte2 .ensures)
 
 pub +put-decimal-spec : {M : Type 1} → statement M
 +put-decimal-spec = close μ-put-decimal λ t. put-decimal-lts.spec (
@@ -137,10 +115,8 @@ pub +put-decimal-spec : {M : Type 1} → statement M
     put-decimal.Post
     (put-decimal-digit-byte-requires t)
     (put-decimal-put-byte-requires t)
-    (put-decimal-same-length t)
     (put-decimal-returns t)
     (put-decimal-put-decimal-requires t)
     (put-decimal-digit-byte-requires-2 t)
     (put-decimal-put-byte-requires-2 t)
-    (put-decimal-same-length-2 t)
     (put-decimal-returns-2 t)

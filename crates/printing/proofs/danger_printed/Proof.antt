@@ -15,18 +15,14 @@ use Rattle.printing.proofs.put_danger.Reads as put-danger-reads
 at-most-65-requires : tie.Need-at-most-65-requires
 at-most-65-requires c κs = search needs
 
--- src/lib.rt:224:29
-slice-aggregate-put-danger : tie.Need-slice-aggregate-put-danger
-slice-aggregate-put-danger c = search needs
-
 -- src/lib.rt:224:9
 put-danger-requires : tie.Need-put-danger-requires
 put-danger-requires c κs = search needs
 
 -- src/lib.rt:212:1
 returns : tie.Need-returns
-returns c = danger-printed _ _ _ (c .before .before .before .at-most-65 .ensures) (c .before .put-danger .ensures)
+returns c = danger-printed _ _ _ (c .before .before .at-most-65 .ensures) (c .put-danger .ensures)
 
 pub danger-printed-spec : {M : Type 1} → statement M
 danger-printed-spec =
-    tie.close (tie.spec at-most-65-requires slice-aggregate-put-danger put-danger-requires returns)
+    tie.close (tie.spec at-most-65-requires put-danger-requires returns)

@@ -29,8 +29,8 @@ add-out : tie.Need-add-out Inv-loop μ-loop
 add-out c = search needs
 
 -- src/lib.rt:26:9
-slice-write-out : tie.Need-slice-write-out Inv-loop μ-loop
-slice-write-out c = search needs
+element-write-out : tie.Need-element-write-out Inv-loop μ-loop
+element-write-out c = search needs
 
 -- src/lib.rt:27:9
 add-i : tie.Need-add-i Inv-loop μ-loop
@@ -49,10 +49,6 @@ add-result : tie.Need-add-result Inv-loop μ-loop
 add-result c = search needs
 
 -- src/lib.rt:20:1
-same-length : tie.Need-same-length Inv-loop μ-loop
-same-length c = c .before .loop .inv .long
-
--- src/lib.rt:20:1
 returns : tie.Need-returns Inv-loop μ-loop
 returns c = copy-end (c .loop-test .left) (c .before .loop .inv)
 
@@ -65,10 +61,9 @@ put-spec =
     loop-holds
     shared-slice-read-out
     add-out
-    slice-write-out
+    element-write-out
     add-i
     loop-less
     loop-again
     add-result
-    same-length
     returns)

@@ -1,4 +1,4 @@
-use Rattle.report.specs.Report.{verdictNames, dangerWord, stepNames}
+use Rattle.report.specs.Report.{dangerWord, stepNames}
 use Rattle.printing.specs.LineLaws.{danger-put}
 use native.Mathlib.Omega.{arith}
 use mathlib.Core.Path.{_≡_, refl, ap, sym, _∙_}
@@ -13,14 +13,6 @@ use Rattle.printing.proofs.put.Reads as put-reads
 use Rattle.printing.proofs.put_steps.Reads as put-steps-reads
 use Rattle.printing.proofs.put_verdict.Reads as put-verdict-reads
 
--- src/lib.rt:178:25
-slice-aggregate-put : tie.Need-slice-aggregate-put
-slice-aggregate-put c = search needs
-
--- src/lib.rt:178:9
-put-requires : tie.Need-put-requires
-put-requires c κs = search needs
-
 -- src/lib.rt:179:33
 slice-aggregate-put-verdict : tie.Need-slice-aggregate-put-verdict
 slice-aggregate-put-verdict c = search needs
@@ -30,36 +22,29 @@ put-verdict-requires : tie.Need-put-verdict-requires
 put-verdict-requires c κs = search needs
 
 -- src/lib.rt:180:25
-slice-aggregate-put-2 : tie.Need-slice-aggregate-put-2
-slice-aggregate-put-2 c = search needs
+slice-aggregate-put : tie.Need-slice-aggregate-put
+slice-aggregate-put c = search needs
 
 -- src/lib.rt:180:9
-put-requires-2 : tie.Need-put-requires-2
-put-requires-2 c κs = search needs
+put-requires : tie.Need-put-requires
+put-requires c κs = search needs
 
 -- src/lib.rt:181:5
 put-steps-requires : tie.Need-put-steps-requires
 put-steps-requires c κs = search needs
 
 -- src/lib.rt:166:1
-same-length : tie.Need-same-length
-same-length c = search needs
-
--- src/lib.rt:166:1
 returns : tie.Need-returns
-unfolding verdictNames dangerWord stepNames
-returns c = danger-put _ _ _ (c .before .before .before .before .before .before .before .before .before .before .before .before .before .before .before .before .before .before .before .before .before .pre .0) (c .before .before .before .before .before .before .before .before .before .before .before .before .before .before .before .before .put .ensures) (c .before .before .before .before .before .before .before .before .before .before .before .put-verdict .ensures) (c .before .before .before .before .before .before .put2 .ensures) (c .before .before .put-steps .ensures)
+unfolding dangerWord stepNames
+returns c = danger-put _ _ _ (c .before .before .before .before .before .before .before .before .before .pre) (c .before .before .before .before .before .put-verdict .ensures) (c .before .before .put .ensures) (c .put-steps .ensures)
 
 pub put-danger-spec : {M : Type 1} → statement M
 put-danger-spec =
     tie.close
     (tie.spec
-    slice-aggregate-put
-    put-requires
     slice-aggregate-put-verdict
     put-verdict-requires
-    slice-aggregate-put-2
-    put-requires-2
+    slice-aggregate-put
+    put-requires
     put-steps-requires
-    same-length
     returns)

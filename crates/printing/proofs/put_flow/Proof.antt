@@ -28,12 +28,8 @@ put-byte-requires-3 : tie.Need-put-byte-requires-3
 put-byte-requires-3 c κs = search needs
 
 -- src/lib.rt:109:1
-same-length : tie.Need-same-length
-same-length c = search needs
-
--- src/lib.rt:109:1
 returns : tie.Need-returns
-returns c = flow-put _ (c .before .before .before .before .before .before .before .flow-letter .ensures) (c .before .before .before .before .before .before .before .before .before .before .before .put-byte .ensures) (c .before .before .before .before .before .before .put-byte2 .ensures) (c .before .before .put-byte3 .ensures)
+returns c = flow-put _ (c .before .before .before .flow-letter .ensures) (c .before .before .before .before .before .put-byte .ensures) (c .before .before .put-byte2 .ensures) (c .put-byte3 .ensures)
 
 pub put-flow-spec : {M : Type 1} → statement M
 put-flow-spec =
@@ -43,5 +39,4 @@ put-flow-spec =
     flow-letter-requires
     put-byte-requires-2
     put-byte-requires-3
-    same-length
     returns)

@@ -20,12 +20,8 @@ put-decimal-requires : tie.Need-put-decimal-requires
 put-decimal-requires c κs = search needs
 
 -- src/lib.rt:60:1
-same-length : tie.Need-same-length
-same-length c = search needs
-
--- src/lib.rt:60:1
 returns : tie.Need-returns
-returns c = number-put _ (c .before .before .before .before .before .before .put-byte .ensures) (c .before .before .put-decimal .ensures)
+returns c = number-put _ (c .before .before .put-byte .ensures) (c .put-decimal .ensures)
 
 pub put-number-spec : {M : Type 1} → statement M
-put-number-spec = tie.close (tie.spec put-byte-requires put-decimal-requires same-length returns)
+put-number-spec = tie.close (tie.spec put-byte-requires put-decimal-requires returns)

@@ -35,13 +35,9 @@ put-byte-requires : tie.Need-put-byte-requires
 put-byte-requires c κs = search needs
 
 -- src/lib.rt:148:1
-same-length : tie.Need-same-length
-same-length c = search needs
-
--- src/lib.rt:148:1
 returns : tie.Need-returns
 unfolding refusedNames
-returns c = refusal-put _ _ (c .before .before .before .before .before .before .before .before .before .before .before .before .before .before .put .ensures) (c .before .before .before .before .before .before .before .before .before .before .put-decimal .ensures) (c .before .before .before .before .before .before .put-number .ensures) (c .before .before .put-byte .ensures)
+returns c = refusal-put _ _ (c .before .before .before .before .before .before .put .ensures) (c .before .before .before .before .put-decimal .ensures) (c .before .before .put-number .ensures) (c .put-byte .ensures)
 
 pub put-refusal-spec : {M : Type 1} → statement M
 put-refusal-spec =
@@ -52,5 +48,4 @@ put-refusal-spec =
     put-decimal-requires
     put-number-requires
     put-byte-requires
-    same-length
     returns)

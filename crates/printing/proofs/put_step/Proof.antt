@@ -11,7 +11,7 @@ use Rattle.printing.proofs.put_step.Lts as lts
 use Rattle.printing.proofs.put_decimal.Reads as put-decimal-reads
 use Rattle.printing.proofs.put_flow.Reads as put-flow-reads
 use Rattle.printing.proofs.put_number.Reads as put-number-reads
-use Rattle.printing.proofs.word_at.Reads as word-at-reads
+use Rattle.words.proofs.word_at.Reads as word-at-reads
 
 -- src/lib.rt:123:30
 mul-word-at : tie.Need-mul-word-at
@@ -78,12 +78,8 @@ put-flow-requires : tie.Need-put-flow-requires
 put-flow-requires c κs = search needs
 
 -- src/lib.rt:119:1
-same-length : tie.Need-same-length
-same-length c = search needs
-
--- src/lib.rt:119:1
 returns : tie.Need-returns
-returns c = step-put _ _ (c .before .before .before .before .before .before .before .before .before .before .before .before .before .before .before .before .before .before .before .before .before .before .before .word-at .ensures) (c .before .before .before .before .before .before .before .before .before .before .before .before .before .before .before .before .before .before .before .before .before .before .word-at2 .ensures) (c .before .before .before .before .before .before .before .before .before .before .before .before .before .before .before .before .before .before .before .before .before .word-at3 .ensures) (c .before .before .before .before .before .before .before .before .before .before .before .before .before .before .before .before .before .before .before .before .word-at4 .ensures) (c .before .before .before .before .before .before .before .before .before .before .before .before .before .before .before .before .before .before .put-decimal .ensures) (c .before .before .before .before .before .before .before .before .before .before .before .before .before .before .put-number .ensures) (c .before .before .before .before .before .before .before .before .before .before .put-number2 .ensures) (c .before .before .before .before .before .before .put-number3 .ensures) (c .before .before .put-flow .ensures)
+returns c = step-put _ _ (c .before .before .before .before .before .before .before .before .before .before .before .before .before .word-at .ensures) (c .before .before .before .before .before .before .before .before .before .before .before .before .word-at2 .ensures) (c .before .before .before .before .before .before .before .before .before .before .before .word-at3 .ensures) (c .before .before .before .before .before .before .before .before .before .before .word-at4 .ensures) (c .before .before .before .before .before .before .before .before .put-decimal .ensures) (c .before .before .before .before .before .before .put-number .ensures) (c .before .before .before .before .put-number2 .ensures) (c .before .before .put-number3 .ensures) (c .put-flow .ensures)
 
 pub put-step-spec : {M : Type 1} → statement M
 put-step-spec =
@@ -105,5 +101,4 @@ put-step-spec =
     put-number-requires-2
     put-number-requires-3
     put-flow-requires
-    same-length
     returns)

@@ -35,11 +35,7 @@ loop-less c = search needs
 
 -- src/lib.rt:141:5
 loop-again : tie.Need-loop-again Inv-loop μ-loop
-loop-again c = steps-turn (c .before .before .before .before .loop-test .taken) (search needs) (c .before .before .before .before .before .loop .inv) (c .before .before .put-step .ensures)
-
--- src/lib.rt:135:1
-same-length : tie.Need-same-length Inv-loop μ-loop
-same-length c = c .before .loop .inv .long
+loop-again c = steps-turn (c .before .before .loop-test .taken) (c .before .before .before .loop .inv) (c .put-step .ensures)
 
 -- src/lib.rt:135:1
 returns : tie.Need-returns Inv-loop μ-loop
@@ -56,5 +52,4 @@ put-steps-spec =
     add-k
     loop-less
     loop-again
-    same-length
     returns)

@@ -1,3 +1,4 @@
+use Rattle.report.specs.Report.{verdictNames}
 use Rattle.printing.specs.LineLaws.{verdict-put}
 use native.Mathlib.Omega.{arith}
 use mathlib.Core.Path.{_≡_, refl, ap, sym, _∙_}
@@ -12,9 +13,14 @@ use Rattle.printing.proofs.put.Reads as put-reads
 use Rattle.printing.proofs.put_byte.Reads as put-byte-reads
 use Rattle.printing.proofs.put_number.Reads as put-number-reads
 
--- src/lib.rt:81:9
+slice-aggregate-put : tie.Need-slice-aggregate-put
+slice-aggregate-put c = search needs
+
 put-requires : tie.Need-put-requires
 put-requires c κs = search needs
+
+put-requires-2 : tie.Need-put-requires-2
+put-requires-2 c κs = search needs
 
 -- src/lib.rt:82:9
 put-number-requires : tie.Need-put-number-requires
@@ -37,22 +43,22 @@ put-byte-requires : tie.Need-put-byte-requires
 put-byte-requires c κs = search needs
 
 -- src/lib.rt:69:1
-same-length : tie.Need-same-length
-same-length c = search needs
-
--- src/lib.rt:69:1
 returns : tie.Need-returns
-returns c = verdict-put _ (c .before .before .before .before .before .before .before .before .before .before .before .before .before .before .before .before .before .before .before .before .before .before .before .before .before .before .pre .0) (c .before .before .before .before .before .before .before .before .before .before .before .before .before .before .before .before .before .before .before .before .before .before .put .ensures) (c .before .before .before .before .before .before .before .before .before .before .before .before .before .before .before .before .before .before .put-number .ensures) (c .before .before .before .before .before .before .before .before .before .before .before .before .before .before .put-number2 .ensures) (c .before .before .before .before .before .before .before .before .before .before .put-number3 .ensures) (c .before .before .before .before .before .before .put-number4 .ensures) (c .before .before .put-byte .ensures)
+unfolding verdictNames
+returns c =
+    verdict-put _ (c .before .before .before .before .before .before .before .before .before .before .before .before .before .before .before .before .pre) (c .before .before .before .before .before .before .before .before .before .before .before .before .put .ensures) (c .before .before .before .before .before .before .before .before .before .before .put2 .ensures) (c .before .before .before .before .before .before .before .before .put-number .ensures) (c .before .before .before .before .before .before .put-number2 .ensures) (c .before .before .before .before .put-number3 .ensures)
+    (c .before .before .put-number4 .ensures) (c .put-byte .ensures)
 
 pub put-verdict-spec : {M : Type 1} → statement M
 put-verdict-spec =
     tie.close
     (tie.spec
+    slice-aggregate-put
     put-requires
+    put-requires-2
     put-number-requires
     put-number-requires-2
     put-number-requires-3
     put-number-requires-4
     put-byte-requires
-    same-length
     returns)

@@ -10,18 +10,14 @@ use Rattle.printing.proofs.refusal_printed.Reads as reads
 use Rattle.printing.proofs.refusal_printed.Lts as lts
 use Rattle.printing.proofs.put_refusal.Reads as put-refusal-reads
 
--- src/lib.rt:198:30
-slice-aggregate-put-refusal : tie.Need-slice-aggregate-put-refusal
-slice-aggregate-put-refusal c = search needs
-
 -- src/lib.rt:198:9
 put-refusal-requires : tie.Need-put-refusal-requires
 put-refusal-requires c κs = search needs
 
 -- src/lib.rt:194:1
 returns : tie.Need-returns
-returns c = printed-is (omega arith) (c .before .put-refusal .ensures)
+returns c = printed-is (omega arith) (c .put-refusal .ensures)
 
 pub refusal-printed-spec : {M : Type 1} → statement M
 refusal-printed-spec =
-    tie.close (tie.spec slice-aggregate-put-refusal put-refusal-requires returns)
+    tie.close (tie.spec put-refusal-requires returns)

@@ -8,40 +8,45 @@ use Rattle.reader.proofs.allowed.Reads as reads
 use Rattle.reader.proofs.allowed.Lts as lts
 use Rattle.reader.proofs.between.Reads as between-reads
 
--- src/lib.rt:46:9
 returns : tie.Need-returns
 unfolding isAllowed
 returns c = simp (eq-eqb _ _ (c .if1 .taken))
 
--- src/lib.rt:49:9
 returns-2 : tie.Need-returns-2
 unfolding isAllowed
 returns-2 c = simp (ne-eqb _ _ (c .before .if1 .left), eq-eqb _ _ (c .if2 .taken))
 
--- src/lib.rt:52:9
 returns-3 : tie.Need-returns-3
 unfolding isAllowed
 returns-3 c = simp (ne-eqb _ _ (c .before .before .if1 .left), ne-eqb _ _ (c .before .if2 .left), eq-eqb _ _ (c .if3 .taken))
 
--- src/lib.rt:54:8
 between-requires : tie.Need-between-requires
 between-requires c κs = search needs
 
--- src/lib.rt:55:9
 returns-4 : tie.Need-returns-4
 unfolding isAllowed
 returns-4 c =
-    simp (ne-eqb _ _ (c .before .before .before .before .if1 .left), ne-eqb _ _ (c .before .before .before .if2 .left), ne-eqb _ _ (c .before .before .if3 .left), sym (c .before .between .ensures) ∙ c .if4 .taken)
+    simp (
+      ne-eqb _ _ (c .before .before .before .before .if1 .left),
+      ne-eqb _ _ (c .before .before .before .if2 .left),
+      ne-eqb _ _
+          (c .before .before .if3 .left),
+      sym (c .before .between .ensures) ∙ c .if4 .taken,
+    )
 
--- src/lib.rt:57:5
 between-requires-2 : tie.Need-between-requires-2
 between-requires-2 c κs = search needs
 
--- src/lib.rt:42:1
 returns-5 : tie.Need-returns-5
 unfolding isAllowed
 returns-5 c =
-    simp (ne-eqb _ _ (c .before .before .before .before .before .if1 .left), ne-eqb _ _ (c .before .before .before .before .if2 .left), ne-eqb _ _ (c .before .before .before .if3 .left), sym (c .before .before .between .ensures) ∙ c .before .if4 .left) (c .between2 .ensures)
+    simp (
+      ne-eqb _ _ (c .before .before .before .before .before .if1 .left),
+      ne-eqb _ _ (c .before .before .before .before .if2 .left),
+      ne-eqb _ _ (c .before .before .before .if3 .left),
+      sym (c .before .before .between .ensures) ∙ c .before .if4 .left,
+    )
+    (c .between2 .ensures)
 
 pub allowed-spec : {M : Type 1} → statement M
 allowed-spec =

@@ -4,11 +4,9 @@ use Rattle.reader.proofs.between.Tie as tie
 use Rattle.reader.proofs.between.Reads as reads
 use Rattle.reader.proofs.between.Lts as lts
 
--- src/lib.rt:37:9
 returns : tie.Need-returns
 returns c = simp (lt-leb _ _ (c .if1 .taken))
 
--- src/lib.rt:33:1
 returns-2 : tie.Need-returns-2
 returns-2 c = simp (le-leb _ _ (c .if1 .left))
 

@@ -6,7 +6,6 @@ use Rattle.reader.proofs.empty_workload.Tie as tie
 use Rattle.reader.proofs.empty_workload.Reads as reads
 use Rattle.reader.proofs.empty_workload.Lts as lts
 
--- src/lib.rt:126:1
 returns : tie.Need-returns
 unfolding valueOf unusedLine
 returns c = refl

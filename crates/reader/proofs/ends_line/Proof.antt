@@ -7,19 +7,15 @@ use Rattle.reader.proofs.ends_line.Tie as tie
 use Rattle.reader.proofs.ends_line.Reads as reads
 use Rattle.reader.proofs.ends_line.Lts as lts
 
--- src/lib.rt:90:9
 returns : tie.Need-returns
 returns c = sym (endsLine-none _ (c .if1 .taken))
 
--- src/lib.rt:92:10
 sub-result : tie.Need-sub-result
 sub-result c = search needs
 
--- src/lib.rt:92:5
 shared-slice-read-result : tie.Need-shared-slice-read-result
 shared-slice-read-result c = search needs
 
--- src/lib.rt:85:1
 returns-2 : tie.Need-returns-2
 returns-2 c = sym (endsLine-last (c .before .before .args .text .now) (omega arith))
 

@@ -6,15 +6,12 @@ use Rattle.reader.proofs.is_names.Reads as reads
 use Rattle.reader.proofs.is_names.Lts as lts
 use Rattle.reader.proofs.same_bytes.Reads as same-bytes-reads
 
--- src/lib.rt:275:22
 slice-aggregate-same-bytes : tie.Need-slice-aggregate-same-bytes
 slice-aggregate-same-bytes c = search needs
 
--- src/lib.rt:275:5
 same-bytes-requires : tie.Need-same-bytes-requires
 same-bytes-requires c κs = search needs
 
--- src/lib.rt:272:1
 returns : tie.Need-returns
 unfolding namesLine
 returns c = c .same-bytes .ensures

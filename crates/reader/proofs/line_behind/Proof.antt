@@ -7,16 +7,13 @@ use Rattle.reader.proofs.line_behind.Tie as tie
 use Rattle.reader.proofs.line_behind.Reads as reads
 use Rattle.reader.proofs.line_behind.Lts as lts
 
--- src/lib.rt:61:16
 add-result : tie.Need-add-result
 add-result c = search needs
 
--- src/lib.rt:61:9
 returns : tie.Need-returns
 unfolding lineBehindByte
 returns c = simp (eq-eqb _ _ (c .if1 .taken)) (add-one _)
 
--- src/lib.rt:56:1
 returns-2 : tie.Need-returns-2
 unfolding lineBehindByte
 returns-2 c = simp (ne-eqb _ _ (c .if1 .left))

@@ -20,53 +20,52 @@ Inv-loop text line₀ i₀ line i = (otherByte line (drop i text) ≡ otherByte 
 abbrev μ-loop : tie.MeasureT-loop
 μ-loop text line₀ i₀ line i = length text - i
 
--- src/lib.rt:73:5
 loop-holds : tie.Need-loop-holds Inv-loop μ-loop
 loop-holds c = (refl, omega arith, omega arith)
 
--- src/lib.rt:74:17
 shared-slice-read-b : tie.Need-shared-slice-read-b Inv-loop μ-loop
 shared-slice-read-b c = omega arith
 
--- src/lib.rt:75:13
 allowed-requires : tie.Need-allowed-requires Inv-loop μ-loop
 allowed-requires c κs = search needs
 
--- src/lib.rt:76:13
 returns : tie.Need-returns Inv-loop μ-loop
 unfolding lineOr
 returns c =
     let other = sym (c .before .allowed .ensures) ∙ not-true _ (c .if1 .taken) in
-    ap lineOr (sym (otherByte-here (c .before .before .before .before .loop .line) (c .before .before .before .before .before .before .args .text .now) (c .before .before .before .before .loop .i) (c .before .before .before .loop-test .taken) other) ∙ c .before .before .before .before .loop .inv .0)
+    ap lineOr (sym (otherByte-here (c .before .before .before .before .loop .line)
+    (c .before .before .before .before .before .before .args .text .now) (c .before .before .before .before .loop .i)
+    (c .before .before .before .loop-test .taken) other) ∙ c .before .before .before .before .loop .inv .0)
 
--- src/lib.rt:78:9
 line-behind-requires : tie.Need-line-behind-requires Inv-loop μ-loop
 line-behind-requires c κs = omega arith
 
--- src/lib.rt:79:9
 add-i : tie.Need-add-i Inv-loop μ-loop
 add-i c = omega arith
 
--- src/lib.rt:73:5
 loop-less : tie.Need-loop-less Inv-loop μ-loop
 loop-less c = omega arith
 
--- src/lib.rt:73:5
 loop-again : tie.Need-loop-again Inv-loop μ-loop
 loop-again c =
     let good = sym (c .before .before .allowed .ensures) ∙ not-false _ (c .before .if1 .left) in
-    let bound = lineBehind-le (c .before .before .before .before .before .loop .line) (getD (c .before .before .before .before .before .before .before .args .text .now) (c .before .before .before .before .before .loop .i) 0) in (
-      ap (λ n. otherByte n (drop (c .before .before .before .before .before .loop .i + 1) (c .before .before .before .before .before .before .before .args .text .now))) (c .line-behind .ensures)
-          ∙ sym (otherByte-next (c .before .before .before .before .before .loop .line) (c .before .before .before .before .before .before .before .args .text .now) (c .before .before .before .before .before .loop .i) (c .before .before .before .before .loop-test .taken) good)
+    let bound = lineBehind-le (c .before .before .before .before .before .loop .line)
+    (getD (c .before .before .before .before .before .before .before .args .text .now)
+    (c .before .before .before .before .before .loop .i) 0) in (
+      ap (λ n. otherByte n (drop (c .before .before .before .before .before .loop .i + 1)
+          (c .before .before .before .before .before .before .before .args .text .now))) (c .line-behind .ensures)
+          ∙ sym (otherByte-next (c .before .before .before .before .before .loop .line)
+          (c .before .before .before .before .before .before .before .args .text .now)
+          (c .before .before .before .before .before .loop .i) (c .before .before .before .before .loop-test .taken) good)
           ∙ c .before .before .before .before .before .loop .inv .0,
       omega (arith, c .line-behind .ensures),
       omega arith,
     )
 
--- src/lib.rt:67:1
 returns-2 : tie.Need-returns-2 Inv-loop μ-loop
 unfolding lineOr
-returns-2 c = ap lineOr (sym (otherByte-done (c .before .loop .line) (c .before .before .before .args .text .now) (c .before .loop .i) (c .loop-test .left)) ∙ c .before .loop .inv .0)
+returns-2 c = ap lineOr (sym (otherByte-done (c .before .loop .line) (c .before .before .before .args .text .now) (c .before .loop .i)
+    (c .loop-test .left)) ∙ c .before .loop .inv .0)
 
 pub other-byte-spec : {M : Type 1} → statement M
 other-byte-spec =

@@ -27,7 +27,12 @@ start-requires : tie.Need-start-requires Inv-loop μ-loop
 start-requires c κs = search needs
 
 loop-holds : tie.Need-loop-holds Inv-loop μ-loop
-loop-holds c = (search needs, going-first (c .before .before .before .before .before .args .text .now) (c .before .before .before .before .before .args .start) (c .before .before .before .before .before .pre) (c .before .before .before .empty-workload .ensures) (c .before .start .ensures .1 (omega (arith, length-replicate {A = ℕ} 424 0))))
+loop-holds c = (
+  search needs,
+  going-first (c .before .before .before .before .before .args .text .now)
+      (c .before .before .before .before .before .args .start) (c .before .before .before .before .before .pre)
+      (c .before .before .before .empty-workload .ensures) (c .before .start .ensures .1 (omega (arith, length-replicate {A = ℕ} 424 0))),
+)
 
 line-span-requires : tie.Need-line-span-requires Inv-loop μ-loop
 line-span-requires c κs = search needs
@@ -36,13 +41,34 @@ slice-aggregate-see-bytes : tie.Need-slice-aggregate-see-bytes Inv-loop μ-loop
 slice-aggregate-see-bytes c = search needs
 
 sub-see-bytes : tie.Need-sub-see-bytes Inv-loop μ-loop
-sub-see-bytes c = omega (arith, (going-here (c .before .before .before .loop .inv .1) (c .before .before .loop-test .taken) (c .before .line-span .ensures)) .inside, span-end (c .before .before .before .before .before .before .before .before .before .args .text .now) (c .before .before .before .loop .at) (c .before .before .before .loop .line) (c .before .line-span .ensures))
+sub-see-bytes c = omega (
+  arith,
+  (going-here (c .before .before .before .loop .inv .1) (c .before .before .loop-test .taken)
+      (c .before .line-span .ensures)) .inside,
+  span-end
+      (c .before .before .before .before .before .before .before .before .before .args .text .now) (c .before .before .before .loop .at)
+      (c .before .before .before .loop .line) (c .before .line-span .ensures),
+)
 
 part-see-bytes-start : tie.Need-part-see-bytes-start Inv-loop μ-loop
-part-see-bytes-start c = omega (arith, (going-here (c .before .before .before .loop .inv .1) (c .before .before .loop-test .taken) (c .before .line-span .ensures)) .inside, span-end (c .before .before .before .before .before .before .before .before .before .args .text .now) (c .before .before .before .loop .at) (c .before .before .before .loop .line) (c .before .line-span .ensures))
+part-see-bytes-start c = omega (
+  arith,
+  (going-here (c .before .before .before .loop .inv .1) (c .before .before .loop-test .taken)
+      (c .before .line-span .ensures)) .inside,
+  span-end
+      (c .before .before .before .before .before .before .before .before .before .args .text .now) (c .before .before .before .loop .at)
+      (c .before .before .before .loop .line) (c .before .line-span .ensures),
+)
 
 part-see-bytes-end : tie.Need-part-see-bytes-end Inv-loop μ-loop
-part-see-bytes-end c = omega (arith, (going-here (c .before .before .before .loop .inv .1) (c .before .before .loop-test .taken) (c .before .line-span .ensures)) .inside, span-end (c .before .before .before .before .before .before .before .before .before .args .text .now) (c .before .before .before .loop .at) (c .before .before .before .loop .line) (c .before .line-span .ensures))
+part-see-bytes-end c = omega (
+  arith,
+  (going-here (c .before .before .before .loop .inv .1) (c .before .before .loop-test .taken)
+      (c .before .line-span .ensures)) .inside,
+  span-end
+      (c .before .before .before .before .before .before .before .before .before .args .text .now) (c .before .before .before .loop .at)
+      (c .before .before .before .loop .line) (c .before .line-span .ensures),
+)
 
 see-bytes-requires : tie.Need-see-bytes-requires Inv-loop μ-loop
 see-bytes-requires c κs = search needs
@@ -51,22 +77,63 @@ refused-requires : tie.Need-refused-requires Inv-loop μ-loop
 refused-requires c κs = search needs
 
 returns : tie.Need-returns Inv-loop μ-loop
-returns c = c .refused .ensures ∙ ap parsedAs (going-refused (c .before .before .before .before .before .before .before .before .loop .inv .1) (going-here (c .before .before .before .before .before .before .before .before .loop .inv .1) (c .before .before .before .before .before .before .before .loop-test .taken) (c .before .before .before .before .before .before .line-span .ensures)) (c .before .before .before .see-bytes .ensures) (c .before .if1 .taken))
+returns c = c .refused .ensures ∙ ap parsedAs
+    (going-refused (c .before .before .before .before .before .before .before .before .loop .inv .1)
+    (going-here (c .before .before .before .before .before .before .before .before .loop .inv .1)
+    (c .before .before .before .before .before .before .before .loop-test .taken)
+    (c .before .before .before .before .before .before .line-span .ensures)) (c .before .before .before .see-bytes .ensures)
+    (c .before .if1 .taken))
 
 mul-l : tie.Need-mul-l Inv-loop μ-loop
-mul-l c = omega (arith, going-room (c .before .before .before .before .before .before .before .before .loop .inv .1) (c .before .before .before .see-bytes .ensures) (c .before .if1 .left))
+mul-l c = omega (
+  arith,
+  going-room (c .before .before .before .before .before .before .before .before .loop .inv .1)
+      (c .before .before .before .see-bytes .ensures) (c .before .if1 .left),
+)
 
 element-set-from-l : tie.Need-element-set-from-l Inv-loop μ-loop
-element-set-from-l c = omega (arith, going-room (c .before .before .before .before .before .before .before .before .loop .inv .1) (c .before .before .before .see-bytes .ensures) (c .before .if1 .left))
+element-set-from-l c = omega (
+  arith,
+  going-room (c .before .before .before .before .before .before .before .before .loop .inv .1)
+      (c .before .before .before .see-bytes .ensures) (c .before .if1 .left),
+)
 
 add-w : tie.Need-add-w Inv-loop μ-loop
-add-w c = omega (arith, going-room (c .before .before .before .before .before .before .before .before .loop .inv .1) (c .before .before .before .see-bytes .ensures) (c .before .if1 .left))
+add-w c = omega (
+  arith,
+  going-room (c .before .before .before .before .before .before .before .before .loop .inv .1)
+      (c .before .before .before .see-bytes .ensures) (c .before .if1 .left),
+)
 
 loop-less : tie.Need-loop-less Inv-loop μ-loop
-loop-less c = omega (arith, c .before .before .before .before .before .before .before .loop-test .taken, span-end (c .before .before .before .before .before .before .before .before .before .before .before .before .before .before .args .text .now) (c .before .before .before .before .before .before .before .before .loop .at) (c .before .before .before .before .before .before .before .before .loop .line) (c .before .before .before .before .before .before .line-span .ensures), span-past (c .before .before .before .before .before .before .before .before .before .before .before .before .before .before .args .text .now) (c .before .before .before .before .before .before .before .before .loop .at) (c .before .before .before .before .before .before .before .before .loop .line) (c .before .before .before .before .before .before .line-span .ensures) ((going-here (c .before .before .before .before .before .before .before .before .loop .inv .1) (c .before .before .before .before .before .before .before .loop-test .taken) (c .before .before .before .before .before .before .line-span .ensures)) .inside))
+loop-less c = omega (
+  arith,
+  c .before .before .before .before .before .before .before .loop-test .taken,
+  span-end
+      (c .before .before .before .before .before .before .before .before .before .before .before .before .before .before .args .text .now)
+      (c .before .before .before .before .before .before .before .before .loop .at)
+      (c .before .before .before .before .before .before .before .before .loop .line)
+      (c .before .before .before .before .before .before .line-span .ensures),
+  span-past
+      (c .before .before .before .before .before .before .before .before .before .before .before .before .before .before .args .text .now)
+      (c .before .before .before .before .before .before .before .before .loop .at)
+      (c .before .before .before .before .before .before .before .before .loop .line)
+      (c .before .before .before .before .before .before .line-span .ensures)
+      ((going-here (c .before .before .before .before .before .before .before .before .loop .inv .1)
+      (c .before .before .before .before .before .before .before .loop-test .taken)
+      (c .before .before .before .before .before .before .line-span .ensures)) .inside),
+)
 
 loop-again : tie.Need-loop-again Inv-loop μ-loop
-loop-again c = (search needs, going-next (c .before .before .before .before .before .before .before .before .loop .inv .1) (c .before .before .before .before .before .before .line-span .ensures) (going-here (c .before .before .before .before .before .before .before .before .loop .inv .1) (c .before .before .before .before .before .before .before .loop-test .taken) (c .before .before .before .before .before .before .line-span .ensures)) (c .before .before .before .see-bytes .ensures) (c .before .if1 .left))
+loop-again c = (
+  search needs,
+  going-next (c .before .before .before .before .before .before .before .before .loop .inv .1)
+      (c .before .before .before .before .before .before .line-span .ensures)
+      (going-here (c .before .before .before .before .before .before .before .before .loop .inv .1)
+      (c .before .before .before .before .before .before .before .loop-test .taken)
+      (c .before .before .before .before .before .before .line-span .ensures)) (c .before .before .before .see-bytes .ensures)
+      (c .before .if1 .left),
+)
 
 slice-aggregate-depth : tie.Need-slice-aggregate-depth Inv-loop μ-loop
 slice-aggregate-depth c = search needs
@@ -81,10 +148,12 @@ refused-requires-2 : tie.Need-refused-requires-2 Inv-loop μ-loop
 refused-requires-2 c κs = search needs
 
 returns-2 : tie.Need-returns-2 Inv-loop μ-loop
-returns-2 c = c .refused2 .ensures ∙ ap parsedAs (going-open (c .before .before .before .before .before .loop .inv .1) (c .before .before .before .before .loop-test .left) (c .before .before .depth .ensures .1) (c .before .if2 .taken))
+returns-2 c = c .refused2 .ensures ∙ ap parsedAs (going-open (c .before .before .before .before .before .loop .inv .1)
+    (c .before .before .before .before .loop-test .left) (c .before .before .depth .ensures .1) (c .before .if2 .taken))
 
 returns-3 : tie.Need-returns-3 Inv-loop μ-loop
-returns-3 c = going-closed (c .before .before .before .before .loop .inv .1) (c .before .before .before .loop-test .left) (c .before .depth .ensures .1) (c .if2 .left)
+returns-3 c = going-closed (c .before .before .before .before .loop .inv .1) (c .before .before .before .loop-test .left)
+    (c .before .depth .ensures .1) (c .if2 .left)
 
 pub read-lines-spec : {M : Type 1} → statement M
 read-lines-spec =

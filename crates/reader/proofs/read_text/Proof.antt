@@ -17,94 +17,101 @@ use Rattle.reader.proofs.other_byte.Reads as other-byte-reads
 use Rattle.reader.proofs.read_lines.Reads as read-lines-reads
 use Rattle.reader.proofs.refused.Reads as refused-reads
 
--- src/lib.rt:283:9
 refused-requires : tie.Need-refused-requires
 refused-requires c κs = search needs
 
--- src/lib.rt:283:9
 returns : tie.Need-returns
 returns c = c .refused .ensures ∙ ap parsedAs (sym (read-long (c .before .before .before .args .text .now) (c .before .if1 .taken)))
 
--- src/lib.rt:285:9
 other-byte-requires : tie.Need-other-byte-requires
 other-byte-requires c κs = search needs
 
--- src/lib.rt:287:9
 refused-requires-2 : tie.Need-refused-requires-2
 refused-requires-2 c κs = search needs
 
--- src/lib.rt:287:9
 returns-2 : tie.Need-returns-2
 returns-2 c =
-    let other = otherByte-some (otherByte 1 (c .before .before .before .before .before .args .text .now)) (λ q. c .before .if2 .taken (c .before .before .other-byte .ensures ∙ q)) in
+    let other = otherByte-some (otherByte 1 (c .before .before .before .before .before .args .text .now))
+    (λ q. c .before .if2 .taken (c .before .before .other-byte .ensures ∙ q)) in
     c .refused2 .ensures
     ∙ ap (λ n. parsedAs (Refused 2 n)) (c .before .before .other-byte .ensures)
     ∙ ap parsedAs (sym (read-other (c .before .before .before .before .before .args .text .now) _ (c .before .before .before .if1 .left) other))
 
--- src/lib.rt:289:9
 ends-line-requires : tie.Need-ends-line-requires
 ends-line-requires c κs = search needs
 
--- src/lib.rt:290:9
 refused-requires-3 : tie.Need-refused-requires-3
 refused-requires-3 c κs = search needs
 
--- src/lib.rt:290:9
 returns-3 : tie.Need-returns-3
 returns-3 c =
     let last = sym (c .before .before .ends-line .ensures) ∙ not-true _ (c .before .if3 .taken) in
     c .refused3 .ensures
-    ∙ ap parsedAs (sym (read-last (c .before .before .before .before .before .before .before .args .text .now) (c .before .before .before .before .before .if1 .left) (otherByte-line 1 (c .before .before .before .before .before .before .before .args .text .now) (omega arith) (sym (c .before .before .before .before .other-byte .ensures) ∙ c .before .before .before .if2 .left)) last))
+    ∙ ap parsedAs (sym (read-last (c .before .before .before .before .before .before .before .args .text .now)
+    (c .before .before .before .before .before .if1 .left)
+    (otherByte-line 1 (c .before .before .before .before .before .before .before .args .text .now) (omega arith)
+    (sym (c .before .before .before .before .other-byte .ensures) ∙ c .before .before .before .if2 .left)) last))
 
--- src/lib.rt:292:9
 line-end-requires : tie.Need-line-end-requires
 line-end-requires c κs = search needs
 
--- src/lib.rt:293:18
 sub-is-names : tie.Need-sub-is-names
 sub-is-names c = search needs
 
--- src/lib.rt:293:18
 part-is-names-start : tie.Need-part-is-names-start
 part-is-names-start c = search needs
 
--- src/lib.rt:293:18
 part-is-names-end : tie.Need-part-is-names-end
-part-is-names-end c = omega (arith, (first-at (c .before .before .before .before .before .before .before .args .text .now) (c .line-end .result) (sym (c .before .before .ends-line .ensures) ∙ not-false _ (c .before .if3 .left)) (c .line-end .ensures)) .inside)
+part-is-names-end c = omega (
+  arith,
+  (first-at (c .before .before .before .before .before .before .before .args .text .now)
+      (c .line-end .result) (sym (c .before .before .ends-line .ensures) ∙ not-false _ (c .before .if3 .left)) (c .line-end .ensures)) .inside,
+)
 
--- src/lib.rt:293:9
 is-names-requires : tie.Need-is-names-requires
 is-names-requires c κs = search needs
 
--- src/lib.rt:294:9
 refused-requires-4 : tie.Need-refused-requires-4
 refused-requires-4 c κs = search needs
 
--- src/lib.rt:294:9
 returns-4 : tie.Need-returns-4
 returns-4 c =
     c .refused4 .ensures
     ∙ ap parsedAs
     (sym
-    (read-unnamed (c .before .before .before .before .before .before .before .before .before .before .before .args .text .now) (c .before .before .before .before .line-end .result) (c .before .before .before .before .before .before .before .before .before .if1 .left) (otherByte-line 1 (c .before .before .before .before .before .before .before .before .before .before .before .args .text .now) (omega arith) (sym (c .before .before .before .before .before .before .before .before .other-byte .ensures) ∙ c .before .before .before .before .before .before .before .if2 .left))
+    (read-unnamed (c .before .before .before .before .before .before .before .before .before .before .before .args .text .now)
+    (c .before .before .before .before .line-end .result)
+    (c .before .before .before .before .before .before .before .before .before .if1 .left)
+    (otherByte-line 1 (c .before .before .before .before .before .before .before .before .before .before .before .args .text .now)
+    (omega arith) (sym (c .before .before .before .before .before .before .before .before .other-byte .ensures) ∙
+    c .before .before .before .before .before .before .before .if2 .left))
     (sym (c .before .before .before .before .before .before .ends-line .ensures) ∙ not-false _ (c .before .before .before .before .before .if3 .left))
     (c .before .before .before .before .line-end .ensures)
     (sym (c .before .before .is-names .ensures) ∙ not-true _ (c .before .if4 .taken))))
 
--- src/lib.rt:296:29
 add-read-lines : tie.Need-add-read-lines
-add-read-lines c = omega (arith, (first-at (c .before .before .before .before .before .before .before .before .before .before .args .text .now) (c .before .before .before .line-end .result) (sym (c .before .before .before .before .before .ends-line .ensures) ∙ not-false _ (c .before .before .before .before .if3 .left)) (c .before .before .before .line-end .ensures)) .inside)
+add-read-lines c = omega (
+  arith,
+  (first-at (c .before .before .before .before .before .before .before .before .before .before .args .text .now)
+      (c .before .before .before .line-end .result) (sym (c .before .before .before .before .before .ends-line .ensures) ∙ not-false _
+      (c .before .before .before .before .if3 .left)) (c .before .before .before .line-end .ensures)) .inside,
+)
 
--- src/lib.rt:296:12
 read-lines-requires : tie.Need-read-lines-requires
-read-lines-requires c κs = first-at (c .before .before .before .before .before .before .before .before .before .before .args .text .now) (c .before .before .before .line-end .result) (sym (c .before .before .before .before .before .ends-line .ensures) ∙ not-false _ (c .before .before .before .before .if3 .left)) (c .before .before .before .line-end .ensures) .behind
+read-lines-requires c κs = first-at (c .before .before .before .before .before .before .before .before .before .before .args .text .now)
+    (c .before .before .before .line-end .result) (sym (c .before .before .before .before .before .ends-line .ensures) ∙ not-false _
+    (c .before .before .before .before .if3 .left)) (c .before .before .before .line-end .ensures) .behind
 
--- src/lib.rt:279:1
 returns-5 : tie.Need-returns-5
 returns-5 c =
     c .read-lines .ensures
     ∙ ap parsedAs
-    (read-whole (c .before .before .before .before .before .before .before .before .before .before .before .args .text .now) (c .before .before .before .before .line-end .result) (c .before .before .before .before .before .before .before .before .before .if1 .left) (otherByte-line 1 (c .before .before .before .before .before .before .before .before .before .before .before .args .text .now) (omega arith) (sym (c .before .before .before .before .before .before .before .before .other-byte .ensures) ∙ c .before .before .before .before .before .before .before .if2 .left))
+    (read-whole (c .before .before .before .before .before .before .before .before .before .before .before .args .text .now)
+    (c .before .before .before .before .line-end .result)
+    (c .before .before .before .before .before .before .before .before .before .if1 .left)
+    (otherByte-line 1 (c .before .before .before .before .before .before .before .before .before .before .before .args .text .now)
+    (omega arith) (sym (c .before .before .before .before .before .before .before .before .other-byte .ensures) ∙
+    c .before .before .before .before .before .before .before .if2 .left))
     (sym (c .before .before .before .before .before .before .ends-line .ensures) ∙ not-false _ (c .before .before .before .before .before .if3 .left))
     (c .before .before .before .before .line-end .ensures)
     (sym (c .before .before .is-names .ensures) ∙ not-false _ (c .before .if4 .left)))

@@ -6,11 +6,9 @@ use Rattle.reader.proofs.refused.Reads as reads
 use Rattle.reader.proofs.refused.Lts as lts
 use Rattle.reader.proofs.empty_workload.Reads as empty-workload-reads
 
--- src/lib.rt:207:15
 empty-workload-requires : tie.Need-empty-workload-requires
 empty-workload-requires c κs = search needs
 
--- src/lib.rt:203:1
 returns : tie.Need-returns
 unfolding parsedAs
 returns c = rw (c .empty-workload .ensures)

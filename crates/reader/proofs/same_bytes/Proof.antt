@@ -15,41 +15,40 @@ Inv-loop a b n i₀ i = (same (drop i a) (drop i b) ≡ same a b) × (i ≤ n)
 abbrev μ-loop : tie.MeasureT-loop
 μ-loop a b n i₀ i = n - i
 
--- src/lib.rt:114:9
 returns : tie.Need-returns Inv-loop μ-loop
 returns c = sym (same-length _ _ (c .if1 .taken))
 
--- src/lib.rt:117:5
 loop-holds : tie.Need-loop-holds Inv-loop μ-loop
 loop-holds c = (refl, omega arith)
 
--- src/lib.rt:118:12
 shared-slice-read-if2 : tie.Need-shared-slice-read-if2 Inv-loop μ-loop
 shared-slice-read-if2 c = omega arith
 
--- src/lib.rt:118:20
 shared-slice-read-if2-2 : tie.Need-shared-slice-read-if2-2 Inv-loop μ-loop
 shared-slice-read-if2-2 c = omega arith
 
--- src/lib.rt:119:13
 returns-2 : tie.Need-returns-2 Inv-loop μ-loop
-returns-2 c = sym (same-differ (c .before .before .before .before .before .before .args .a .now) (c .before .before .before .before .before .before .args .b .now) (c .before .before .before .before .loop .i) (omega arith) (omega arith) (c .if2 .taken)) ∙ c .before .before .before .before .loop .inv .0
+returns-2 c = sym (same-differ (c .before .before .before .before .before .before .args .a .now)
+    (c .before .before .before .before .before .before .args .b .now) (c .before .before .before .before .loop .i) (omega arith)
+    (omega arith) (c .if2 .taken)) ∙ c .before .before .before .before .loop .inv .0
 
--- src/lib.rt:121:9
 add-i : tie.Need-add-i Inv-loop μ-loop
 add-i c = omega arith
 
--- src/lib.rt:117:5
 loop-less : tie.Need-loop-less Inv-loop μ-loop
 loop-less c = omega arith
 
--- src/lib.rt:117:5
 loop-again : tie.Need-loop-again Inv-loop μ-loop
-loop-again c = (sym (same-next (c .before .before .before .before .before .before .args .a .now) (c .before .before .before .before .before .before .args .b .now) (c .before .before .before .before .loop .i) (omega arith) (omega arith) (c .if2 .left)) ∙ c .before .before .before .before .loop .inv .0, omega arith)
+loop-again c = (
+  sym (same-next (c .before .before .before .before .before .before .args .a .now)
+      (c .before .before .before .before .before .before .args .b .now) (c .before .before .before .before .loop .i) (omega arith)
+      (omega arith) (c .if2 .left)) ∙ c .before .before .before .before .loop .inv .0,
+  omega arith,
+)
 
--- src/lib.rt:109:1
 returns-3 : tie.Need-returns-3 Inv-loop μ-loop
-returns-3 c = sym (same-done (c .before .before .before .args .a .now) (c .before .before .before .args .b .now) (c .before .loop .i) (omega arith) (omega arith)) ∙ c .before .loop .inv .0
+returns-3 c = sym (same-done (c .before .before .before .args .a .now) (c .before .before .before .args .b .now) (c .before .loop .i)
+    (omega arith) (omega arith)) ∙ c .before .loop .inv .0
 
 pub same-bytes-spec : {M : Type 1} → statement M
 same-bytes-spec =

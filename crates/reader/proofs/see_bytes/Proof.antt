@@ -22,7 +22,10 @@ same-length : tie.Need-same-length
 same-length c = search needs
 
 returns : tie.Need-returns
-returns c = rw (← c .before .before .before .before .before .before .before .line-of .ensures, c .before .before .before .before .before .r .given .1) (c .before .before .see-value .ensures)
+returns c = rw (
+  ← c .before .before .before .before .before .before .before .line-of .ensures,
+  c .before .before .before .before .before .r .given .1,
+) (c .before .before .see-value .ensures)
 
 returns-2 : tie.Need-returns-2
 returns-2 c = rw (← c .before .before .line-of .ensures, c .enum-told .given .1) (saw-wrong _ refl)

@@ -22,7 +22,8 @@ same-length-2 : tie.Need-same-length-2
 same-length-2 c = search needs
 
 returns-2 : tie.Need-returns-2
-returns-2 c = saw-line _ (c .before .before .before .before .before .before .before .before .args .l) (c .before .before .before .before .before .check .ensures .0) refl (c .before .before .take .ensures .0)
+returns-2 c = saw-line _ (c .before .before .before .before .before .before .before .before .args .l)
+    (c .before .before .before .before .before .check .ensures .0) refl (c .before .before .take .ensures .0)
 
 pub see-value-spec : {M : Type 1} → statement M
 see-value-spec =

@@ -17,35 +17,27 @@ Inv-loop words₀ from to i₀ words i = (from ≤ i) × (i ≤ to) × Cleared f
 abbrev μ-loop : tie.MeasureT-loop
 μ-loop words₀ from to i₀ words i = to - i
 
--- src/lib.rt:79:5
 loop-holds : tie.Need-loop-holds Inv-loop μ-loop
 loop-holds c = (omega arith, omega arith, cleared-none _ _)
 
--- src/lib.rt:80:9
 mul-words : tie.Need-mul-words Inv-loop μ-loop
 mul-words c = search needs
 
--- src/lib.rt:80:9
 slice-write-words : tie.Need-slice-write-words Inv-loop μ-loop
 slice-write-words c = omega (arith, c .before .loop .inv .2 .size)
 
--- src/lib.rt:81:9
 add-i : tie.Need-add-i Inv-loop μ-loop
 add-i c = search needs
 
--- src/lib.rt:79:5
 loop-less : tie.Need-loop-less Inv-loop μ-loop
 loop-less c = search needs
 
--- src/lib.rt:79:5
 loop-again : tie.Need-loop-again Inv-loop μ-loop
 loop-again c = (omega arith, omega arith, cleared-more (c .before .loop .inv .2) (c .before .loop .inv .0) (omega arith))
 
--- src/lib.rt:74:1
 same-length : tie.Need-same-length Inv-loop μ-loop
 same-length c = c .before .loop .inv .2 .size
 
--- src/lib.rt:74:1
 returns : tie.Need-returns Inv-loop μ-loop
 returns c = cleared-end (c .before .loop .inv .1) (c .loop-test .left) (c .before .loop .inv .2)
 

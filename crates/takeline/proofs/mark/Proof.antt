@@ -12,21 +12,17 @@ use Rattle.takeline.proofs.mark.Tie as tie
 use Rattle.takeline.proofs.mark.Reads as reads
 use Rattle.takeline.proofs.mark.Lts as lts
 
--- src/lib.rt:40:9
 returns : tie.Need-returns
 unfolding markOf
 returns c = simp (ne-eqb _ _ (c .if1 .taken))
 
--- src/lib.rt:43:16
 shl-result : tie.Need-shl-result
 shl-result c = search needs
 
--- src/lib.rt:43:9
 returns-2 : tie.Need-returns-2
 unfolding markOf
 returns-2 c = simp (eq-eqb _ _ (c .before .if1 .left), lt-ltb _ _ (c .if2 .taken)) (rw one-mul (mod-eq-of-lt (pow-lt (c .if2 .taken))))
 
--- src/lib.rt:36:1
 returns-3 : tie.Need-returns-3
 unfolding markOf
 returns-3 c = simp (eq-eqb _ _ (c .before .if1 .left), le-ltb _ _ (c .if2 .left))

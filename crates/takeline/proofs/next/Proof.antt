@@ -10,16 +10,13 @@ use Rattle.takeline.proofs.next.Tie as tie
 use Rattle.takeline.proofs.next.Reads as reads
 use Rattle.takeline.proofs.next.Lts as lts
 
--- src/lib.rt:20:16
 add-result : tie.Need-add-result
 add-result c = search needs
 
--- src/lib.rt:20:9
 returns : tie.Need-returns
 unfolding nextOf
 returns c = simp (lt-ltb _ _ (c .if1 .taken))
 
--- src/lib.rt:16:1
 returns-2 : tie.Need-returns-2
 unfolding nextOf
 returns-2 c = simp (le-ltb _ _ (c .if1 .left))

@@ -9,65 +9,51 @@ use Rattle.takeline.proofs.parental.Tie as tie
 use Rattle.takeline.proofs.parental.Reads as reads
 use Rattle.takeline.proofs.parental.Lts as lts
 
--- src/lib.rt:53:30
 enum-told : tie.Need-enum-told
 enum-told c = search needs
 
--- src/lib.rt:54:30
 enum-told-2 : tie.Need-enum-told-2
 enum-told-2 c = search needs
 
--- src/lib.rt:55:30
 enum-told-3 : tie.Need-enum-told-3
 enum-told-3 c = search needs
 
--- src/lib.rt:56:30
 enum-told-4 : tie.Need-enum-told-4
 enum-told-4 c = search needs
 
--- src/lib.rt:57:30
 enum-told-5 : tie.Need-enum-told-5
 enum-told-5 c = search needs
 
--- src/lib.rt:58:30
 enum-told-6 : tie.Need-enum-told-6
 enum-told-6 c = search needs
 
--- src/lib.rt:59:30
 enum-told-7 : tie.Need-enum-told-7
 enum-told-7 c = search needs
 
--- src/lib.rt:49:1
 returns : tie.Need-returns
 unfolding canBeParent
 returns c = cc
 
--- src/lib.rt:49:1
 returns-2 : tie.Need-returns-2
 unfolding canBeParent
 returns-2 c = cc
 
--- src/lib.rt:49:1
 returns-3 : tie.Need-returns-3
 unfolding canBeParent
 returns-3 c = cc
 
--- src/lib.rt:49:1
 returns-4 : tie.Need-returns-4
 unfolding canBeParent
 returns-4 c = cc
 
--- src/lib.rt:49:1
 returns-5 : tie.Need-returns-5
 unfolding canBeParent
 returns-5 c = cc
 
--- src/lib.rt:49:1
 returns-6 : tie.Need-returns-6
 unfolding canBeParent
 returns-6 c = cc
 
--- src/lib.rt:49:1
 returns-7 : tie.Need-returns-7
 unfolding canBeParent
 returns-7 c = cc

@@ -11,27 +11,21 @@ use Rattle.takeline.proofs.put.Tie as tie
 use Rattle.takeline.proofs.put.Reads as reads
 use Rattle.takeline.proofs.put.Lts as lts
 
--- src/lib.rt:69:15
 add-words : tie.Need-add-words
 add-words c = search needs
 
--- src/lib.rt:69:9
 mul-words : tie.Need-mul-words
 mul-words c = search needs
 
--- src/lib.rt:69:9
 slice-write-words : tie.Need-slice-write-words
 slice-write-words c = search needs
 
--- src/lib.rt:64:1
 same-length : tie.Need-same-length
 same-length c = search needs
 
--- src/lib.rt:64:1
 returns : tie.Need-returns
 returns c = put-in _ _ _ _ (c .if1 .taken)
 
--- src/lib.rt:64:1
 returns-2 : tie.Need-returns-2
 returns-2 c = put-out _ _ _ _ (c .if1 .left)
 

@@ -23,7 +23,11 @@ same-length : tie.Need-same-length
 same-length c = search needs
 
 returns : tie.Need-returns
-returns c = rw (c .before .before .put3 .ensures, c .before .before .before .before .before .before .put2 .ensures, c .before .before .before .before .before .before .before .before .before .before .put .ensures)
+returns c = rw (
+  c .before .before .put3 .ensures,
+  c .before .before .before .before .before .before .put2 .ensures,
+  c .before .before .before .before .before .before .before .before .before .before .put .ensures,
+)
 
 pub put-marks-spec : {M : Type 1} → statement M
 put-marks-spec =

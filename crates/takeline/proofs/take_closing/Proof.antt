@@ -24,7 +24,12 @@ same-length : tie.Need-same-length
 same-length c = search needs
 
 returns : tie.Need-returns
-returns c = took-closing (c .before .before .before .before .before .before .before .before .before .before .before .before .before .before .before .before .pre) (c .before .before .before .before .before .before .before .before .before .before .before .before .before .word .ensures) (c .before .before .before .before .before .before .before .before .before .before .before .previous .ensures) (c .before .before .before .before .before .before .before .before .before .before .set-word .ensures) (c .before .before .before .before .before .before .advance .ensures) (c .before .before .advance2 .ensures)
+returns c = took-closing
+    (c .before .before .before .before .before .before .before .before .before .before .before .before .before .before .before .before .pre)
+    (c .before .before .before .before .before .before .before .before .before .before .before .before .before .word .ensures)
+    (c .before .before .before .before .before .before .before .before .before .before .before .previous .ensures)
+    (c .before .before .before .before .before .before .before .before .before .before .set-word .ensures)
+    (c .before .before .before .before .before .before .advance .ensures) (c .before .before .advance2 .ensures)
 
 pub take-closing-spec : {M : Type 1} → statement M
 take-closing-spec =

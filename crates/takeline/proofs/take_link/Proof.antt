@@ -15,7 +15,8 @@ same-length : tie.Need-same-length
 same-length c = search needs
 
 returns : tie.Need-returns
-returns c = took-link (c .before .before .before .before .before .before .before .before .before .pre) (c .before .before .before .before .before .before .advance .ensures) (c .before .before .advance2 .ensures)
+returns c = took-link (c .before .before .before .before .before .before .before .before .before .pre)
+    (c .before .before .before .before .before .before .advance .ensures) (c .before .before .advance2 .ensures)
 
 pub take-link-spec : {M : Type 1} → statement M
 take-link-spec = tie.close (tie.spec advance-requires advance-requires-2 same-length returns)

@@ -18,7 +18,9 @@ same-length : tie.Need-same-length
 same-length c = search needs
 
 returns : tie.Need-returns
-returns c = took-opening (c .before .before .before .before .before .before .before .before .before .args .part) (c .before .before .before .before .before .before .word .ensures) (c .before .before .before .before .word2 .ensures) (c .before .before .push .ensures)
+returns c = took-opening (c .before .before .before .before .before .before .before .before .before .args .part)
+    (c .before .before .before .before .before .before .word .ensures) (c .before .before .before .before .word2 .ensures)
+    (c .before .before .push .ensures)
 
 pub take-opening-spec : {M : Type 1} → statement M
 take-opening-spec =

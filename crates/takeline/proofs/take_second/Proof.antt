@@ -21,7 +21,8 @@ same-length : tie.Need-same-length
 same-length c = search needs
 
 returns : tie.Need-returns
-returns c = took-second (c .before .before .before .before .before .before .before .word .ensures) (c .before .before .before .before .before .cell .ensures) (c .before .before .before .previous .ensures) (c .before .before .push .ensures)
+returns c = took-second (c .before .before .before .before .before .before .before .word .ensures)
+    (c .before .before .before .before .before .cell .ensures) (c .before .before .before .previous .ensures) (c .before .before .push .ensures)
 
 pub take-second-spec : {M : Type 1} → statement M
 take-second-spec =

@@ -1,4 +1,4 @@
-use Rattle.unfolder.proofs.RowLaws.{rows-end, rows-step, rowed-nothing, row-room, row-cell, row-places, more-rows, rowed-next}
+use Rattle.unfolder.proofs.RowLaws.{rows-end, rows-step, rowed-nothing, row-cell, row-places, more-rows, rowed-next}
 use Rattle.choosing.specs.Pieces.{row}
 use Prim.Native.Nat.{_-_}
 use borrow.Author.Needs.{needs}
@@ -12,7 +12,7 @@ use Rattle.unfolder.proofs.write_rows.Reads as write-rows
 use Rattle.unfolder.proofs.write_rows.Kinds as write-rows-kinds
 use Rattle.unfolder.proofs.+write_rows.Lts-write_rows as write-rows-lts
 use Rattle.unfolder.proofs.add.Reads as add-reads
-use Rattle.unfolder.proofs.write_run.Reads as write-run-reads
+use Rattle.wording.proofs.write_run.Reads as write-run-reads
 use Rattle.unfolder.proofs.+write_rows.{statement}
 use Rattle.unfolder.proofs.+write_rows.Tie.{close}
 
@@ -48,9 +48,7 @@ write-rows-write-run-requires : (t : ℕ) → write-rows-lts.Need-write-run-requ
   write-rows-below t,
   write-rows.Post,
 ) (write-rows-at t) write-rows.Post
-unfolding row
-write-rows-write-run-requires t c κs =
-    (search needs, row-room _ _ _ _ _ _ (rows-step (row (c .before .before .before .before .before .before .args .program) (c .before .before .before .before .before .before .args .codes .now) (c .before .before .before .before .before .before .args .words .now) (c .before .before .before .before .before .before .args .marks .now) (c .before .before .before .before .before .before .args .at) (c .before .before .before .before .before .before .args .left)) (c .before .before .before .before .before .before .args .k) (c .before .before .before .before .before .before .args .n) (c .before .if1 .left)) (c .before .before .before .before .before .before .args .t) _ (c .before .before .before .before .before .before .pre .1 .1))
+write-rows-write-run-requires t c κs = search needs
 
 -- src/lib.rt:290:9
 write-rows-add-requires : (t : ℕ) → write-rows-lts.Need-add-requires (
@@ -63,7 +61,7 @@ write-rows-add-requires : (t : ℕ) → write-rows-lts.Need-add-requires (
 ) (write-rows-at t) write-rows.Post
 unfolding row
 write-rows-add-requires t c κs =
-    (row-cell _ _ _ _ _ _ (rows-step (row (c .before .before .before .before .before .before .before .before .before .args .program) (c .before .before .before .before .before .before .before .before .before .args .codes .now) (c .before .before .before .before .before .before .before .before .before .args .words .now) (c .before .before .before .before .before .before .before .before .before .args .marks .now) (c .before .before .before .before .before .before .before .before .before .args .at) (c .before .before .before .before .before .before .before .before .before .args .left)) (c .before .before .before .before .before .before .before .before .before .args .k) (c .before .before .before .before .before .before .before .before .before .args .n) (c .before .before .before .before .if1 .left)) (c .before .before .before .before .before .before .before .before .before .args .t) _ (c .before .before .before .before .before .before .before .before .before .pre .1 .1), row-places _ _ _ _ _ _ (rows-step (row (c .before .before .before .before .before .before .before .before .before .args .program) (c .before .before .before .before .before .before .before .before .before .args .codes .now) (c .before .before .before .before .before .before .before .before .before .args .words .now) (c .before .before .before .before .before .before .before .before .before .args .marks .now) (c .before .before .before .before .before .before .before .before .before .args .at) (c .before .before .before .before .before .before .before .before .before .args .left)) (c .before .before .before .before .before .before .before .before .before .args .k) (c .before .before .before .before .before .before .before .before .before .args .n) (c .before .before .before .before .if1 .left)) (c .before .before .before .before .before .before .before .before .before .args .t) _ (c .before .before .before .before .before .before .before .before .before .pre .1 .1) _ _ (c .before .before .write-run .ensures))
+    (row-cell _ _ _ (rows-step (row (c .before .before .before .before .before .before .before .before .before .args .program) (c .before .before .before .before .before .before .before .before .before .args .codes .now) (c .before .before .before .before .before .before .before .before .before .args .words .now) (c .before .before .before .before .before .before .before .before .before .args .marks .now) (c .before .before .before .before .before .before .before .before .before .args .at) (c .before .before .before .before .before .before .before .before .before .args .left)) (c .before .before .before .before .before .before .before .before .before .args .k) (c .before .before .before .before .before .before .before .before .before .args .n) (c .before .before .before .before .if1 .left)) (c .before .before .before .before .before .before .before .before .before .args .t) _ (c .before .before .before .before .before .before .before .before .before .pre .1), row-places _ _ _ (rows-step (row (c .before .before .before .before .before .before .before .before .before .args .program) (c .before .before .before .before .before .before .before .before .before .args .codes .now) (c .before .before .before .before .before .before .before .before .before .args .words .now) (c .before .before .before .before .before .before .before .before .before .args .marks .now) (c .before .before .before .before .before .before .before .before .before .args .at) (c .before .before .before .before .before .before .before .before .before .args .left)) (c .before .before .before .before .before .before .before .before .before .args .k) (c .before .before .before .before .before .before .before .before .before .args .n) (c .before .before .before .before .if1 .left)) (c .before .before .before .before .before .before .before .before .before .args .t) _ (c .before .before .before .before .before .before .before .before .before .pre .1) _ _ (c .before .before .write-run .ensures))
 
 -- src/lib.rt:291:38
 write-rows-add-write-rows : (t : ℕ) → write-rows-lts.Need-add-write-rows (
@@ -131,7 +129,7 @@ write-rows-write-rows-requires : (t : ℕ) → write-rows-lts.Need-write-rows-re
 ) (write-rows-at t) write-rows.Post
 unfolding row
 write-rows-write-rows-requires t c κs =
-    (search needs, (search needs, more-rows _ _ _ _ _ _ (rows-step (row (c .before .before .before .before .before .before .before .before .before .before .before .args .program) (c .before .before .before .before .before .before .before .before .before .before .before .args .codes .now) (c .before .before .before .before .before .before .before .before .before .before .before .args .words .now) (c .before .before .before .before .before .before .before .before .before .before .before .args .marks .now) (c .before .before .before .before .before .before .before .before .before .before .before .args .at) (c .before .before .before .before .before .before .before .before .before .before .before .args .left)) (c .before .before .before .before .before .before .before .before .before .before .before .args .k) (c .before .before .before .before .before .before .before .before .before .before .before .args .n) (c .before .before .before .before .before .before .if1 .left)) (c .before .before .before .before .before .before .before .before .before .before .before .args .t) _ (c .before .before .before .before .before .before .before .before .before .before .before .pre .1 .1) _ _ (c .before .before .before .before .write-run .ensures) _ (c .before .add .ensures)))
+    (search needs, more-rows _ _ _ (rows-step (row (c .before .before .before .before .before .before .before .before .before .before .before .args .program) (c .before .before .before .before .before .before .before .before .before .before .before .args .codes .now) (c .before .before .before .before .before .before .before .before .before .before .before .args .words .now) (c .before .before .before .before .before .before .before .before .before .before .before .args .marks .now) (c .before .before .before .before .before .before .before .before .before .before .before .args .at) (c .before .before .before .before .before .before .before .before .before .before .before .args .left)) (c .before .before .before .before .before .before .before .before .before .before .before .args .k) (c .before .before .before .before .before .before .before .before .before .before .before .args .n) (c .before .before .before .before .before .before .if1 .left)) (c .before .before .before .before .before .before .before .before .before .before .before .args .t) _ (c .before .before .before .before .before .before .before .before .before .before .before .pre .1) _ _ (c .before .before .before .before .write-run .ensures) _ (c .before .add .ensures))
 
 -- src/lib.rt:281:1
 write-rows-same-length : (t : ℕ) → write-rows-lts.Need-same-length (
@@ -155,7 +153,7 @@ write-rows-returns-2 : (t : ℕ) → write-rows-lts.Need-returns-2 (
 ) (write-rows-at t) write-rows.Post
 unfolding row
 write-rows-returns-2 t c =
-    rowed-next _ _ _ _ _ _ (rows-step (row (c .before .before .before .before .before .before .before .before .before .before .before .before .before .before .args .program) (c .before .before .before .before .before .before .before .before .before .before .before .before .before .before .args .codes .now) (c .before .before .before .before .before .before .before .before .before .before .before .before .before .before .args .words .now) (c .before .before .before .before .before .before .before .before .before .before .before .before .before .before .args .marks .now) (c .before .before .before .before .before .before .before .before .before .before .before .before .before .before .args .at) (c .before .before .before .before .before .before .before .before .before .before .before .before .before .before .args .left)) (c .before .before .before .before .before .before .before .before .before .before .before .before .before .before .args .k) (c .before .before .before .before .before .before .before .before .before .before .before .before .before .before .args .n) (c .before .before .before .before .before .before .before .before .before .if1 .left)) (c .before .before .before .before .before .before .before .before .before .before .before .before .before .before .args .t) _ (c .before .before .before .before .before .before .before .before .before .before .before .before .before .before .pre .1 .1) _ _ (c .before .before .before .before .before .before .before .write-run .ensures) _ _ _ (c .before .before .before .before .add .ensures) (c .before .before .write-rows .ensures)
+    rowed-next _ _ _ (rows-step (row (c .before .before .before .before .before .before .before .before .before .before .before .before .before .before .args .program) (c .before .before .before .before .before .before .before .before .before .before .before .before .before .before .args .codes .now) (c .before .before .before .before .before .before .before .before .before .before .before .before .before .before .args .words .now) (c .before .before .before .before .before .before .before .before .before .before .before .before .before .before .args .marks .now) (c .before .before .before .before .before .before .before .before .before .before .before .before .before .before .args .at) (c .before .before .before .before .before .before .before .before .before .before .before .before .before .before .args .left)) (c .before .before .before .before .before .before .before .before .before .before .before .before .before .before .args .k) (c .before .before .before .before .before .before .before .before .before .before .before .before .before .before .args .n) (c .before .before .before .before .before .before .before .before .before .if1 .left)) (c .before .before .before .before .before .before .before .before .before .before .before .before .before .before .args .t) _ (c .before .before .before .before .before .before .before .before .before .before .before .before .before .before .pre .1) _ _ (c .before .before .before .before .before .before .before .write-run .ensures) _ _ _ (c .before .before .before .before .add .ensures) (c .before .before .write-rows .ensures)
 
 pub +write-rows-spec : {M : Type 1} → statement M
 +write-rows-spec = close μ-write-rows λ t. write-rows-lts.spec (

@@ -1,4 +1,4 @@
-use Rattle.unfolder.proofs.SettledLaws.{not-given-places, part-fits, part-length, codes-length, numbers-length, marks-length, ready-places, settled-places}
+use Rattle.unfolder.proofs.SettledLaws.{not-given-places, places-codes, places-words, places-marks, part-fits, part-length, codes-length, numbers-length, marks-length, ready-places, settled-places}
 use borrow.Author.Tests.{not-true, not-false}
 use native.Mathlib.Omega.{arith}
 use mathlib.Core.Path.{_≡_, refl, ap, sym, _∙_}
@@ -10,80 +10,70 @@ use Rattle.unfolder.proofs.unfold_places.Tie as tie
 use Rattle.unfolder.proofs.unfold_places.Reads as reads
 use Rattle.unfolder.proofs.unfold_places.Lts as lts
 use Rattle.givens.proofs.is_given.Reads as is-given-reads
-use Rattle.linetables.proofs.codes_in.Reads as codes-in-reads
-use Rattle.linetables.proofs.marks_in.Reads as marks-in-reads
-use Rattle.linetables.proofs.numbers_of_lines.Reads as numbers-of-lines-reads
+use Rattle.linetables.proofs.place_tables.Reads as place-tables-reads
 use Rattle.unfolder.proofs.refused.Reads as refused-reads
 use Rattle.unfolder.proofs.unfold_tables.Reads as unfold-tables-reads
 
--- src/lib.rt:456:9
+-- src/lib.rt:220:9
 is-given-requires : tie.Need-is-given-requires
 is-given-requires c κs = search needs
 
--- src/lib.rt:457:9
+-- src/lib.rt:221:9
 refused-requires : tie.Need-refused-requires
 refused-requires c κs = search needs
 
--- src/lib.rt:457:9
+-- src/lib.rt:221:9
 returns : tie.Need-returns
 returns c =
     not-given-places _ _ _ (c .before .before .is-given .ensures .no (not-true _ (c .before .if1 .taken))) (c .refused .ensures)
 
--- src/lib.rt:460:17
-codes-in-requires : tie.Need-codes-in-requires
-codes-in-requires c κs = search needs
+-- src/lib.rt:224:9
+place-tables-requires : tie.Need-place-tables-requires
+place-tables-requires c κs = search needs
 
--- src/lib.rt:461:17
-numbers-of-lines-requires : tie.Need-numbers-of-lines-requires
-numbers-of-lines-requires c κs = search needs
-
--- src/lib.rt:462:17
-marks-in-requires : tie.Need-marks-in-requires
-marks-in-requires c κs = search needs
-
--- src/lib.rt:463:19
+-- src/lib.rt:228:19
 array-share-prefix-codes : tie.Need-array-share-prefix-codes
 array-share-prefix-codes c =
-    part-fits (c .before .before .before .before .before .before .args .w) (c .before .before .before .before .is-given .ensures .yes (not-false _ (c .before .before .before .if1 .left))) (c .before .before .codes-in .result) (codes-length (c .before .before .before .before .before .before .args .w) (c .before .before .before .before .is-given .ensures .yes (not-false _ (c .before .before .before .if1 .left))) (c .before .before .codes-in .result) (c .before .before .codes-in .ensures))
+    part-fits (c .before .before .before .before .before .before .before .args .w) (c .before .before .before .before .before .is-given .ensures .yes (not-false _ (c .before .before .before .before .if1 .left))) (c .before .before .before .place-tables .result .codes) (codes-length (c .before .before .before .before .before .before .before .args .w) (c .before .before .before .before .before .is-given .ensures .yes (not-false _ (c .before .before .before .before .if1 .left))) (c .before .before .before .place-tables .result .codes) (places-codes _ _ (c .before .before .before .place-tables .ensures)))
 
--- src/lib.rt:463:19
+-- src/lib.rt:228:19
 slice-aggregate-unfold-tables : tie.Need-slice-aggregate-unfold-tables
 slice-aggregate-unfold-tables c =
-    part-length (c .before .before .before .before .before .before .before .args .w) (c .before .before .before .before .before .is-given .ensures .yes (not-false _ (c .before .before .before .before .if1 .left))) _ (codes-length (c .before .before .before .before .before .before .before .args .w) (c .before .before .before .before .before .is-given .ensures .yes (not-false _ (c .before .before .before .before .if1 .left))) _ (c .before .before .before .codes-in .ensures))
+    part-length (c .before .before .before .before .before .before .before .before .args .w) (c .before .before .before .before .before .before .is-given .ensures .yes (not-false _ (c .before .before .before .before .before .if1 .left))) (c .before .before .before .before .place-tables .result .codes) (codes-length (c .before .before .before .before .before .before .before .before .args .w) (c .before .before .before .before .before .before .is-given .ensures .yes (not-false _ (c .before .before .before .before .before .if1 .left))) (c .before .before .before .before .place-tables .result .codes) (places-codes _ _ (c .before .before .before .before .place-tables .ensures)))
 
--- src/lib.rt:463:32
+-- src/lib.rt:228:32
 array-share-prefix-words : tie.Need-array-share-prefix-words
 array-share-prefix-words c =
-    part-fits (c .before .before .before .before .before .before .before .args .w) (c .before .before .before .before .before .is-given .ensures .yes (not-false _ (c .before .before .before .before .if1 .left))) (c .before .before .numbers-of-lines .result) (numbers-length (c .before .before .before .before .before .before .before .args .w) (c .before .before .before .before .before .is-given .ensures .yes (not-false _ (c .before .before .before .before .if1 .left))) (c .before .before .numbers-of-lines .result) (c .before .before .numbers-of-lines .ensures))
+    part-fits (c .before .before .before .before .before .before .before .before .args .w) (c .before .before .before .before .before .before .is-given .ensures .yes (not-false _ (c .before .before .before .before .before .if1 .left))) (c .before .before .before .before .place-tables .result .words) (numbers-length (c .before .before .before .before .before .before .before .before .args .w) (c .before .before .before .before .before .before .is-given .ensures .yes (not-false _ (c .before .before .before .before .before .if1 .left))) (c .before .before .before .before .place-tables .result .words) (places-words _ _ (c .before .before .before .before .place-tables .ensures)))
 
--- src/lib.rt:463:32
+-- src/lib.rt:228:32
 slice-aggregate-unfold-tables-2 : tie.Need-slice-aggregate-unfold-tables-2
 slice-aggregate-unfold-tables-2 c =
-    part-length (c .before .before .before .before .before .before .before .before .args .w) (c .before .before .before .before .before .before .is-given .ensures .yes (not-false _ (c .before .before .before .before .before .if1 .left))) _ (numbers-length (c .before .before .before .before .before .before .before .before .args .w) (c .before .before .before .before .before .before .is-given .ensures .yes (not-false _ (c .before .before .before .before .before .if1 .left))) _ (c .before .before .before .numbers-of-lines .ensures))
+    part-length (c .before .before .before .before .before .before .before .before .before .args .w) (c .before .before .before .before .before .before .before .is-given .ensures .yes (not-false _ (c .before .before .before .before .before .before .if1 .left))) (c .before .before .before .before .before .place-tables .result .words) (numbers-length (c .before .before .before .before .before .before .before .before .before .args .w) (c .before .before .before .before .before .before .before .is-given .ensures .yes (not-false _ (c .before .before .before .before .before .before .if1 .left))) (c .before .before .before .before .before .place-tables .result .words) (places-words _ _ (c .before .before .before .before .before .place-tables .ensures)))
 
--- src/lib.rt:463:45
+-- src/lib.rt:228:45
 array-share-prefix-marks : tie.Need-array-share-prefix-marks
 array-share-prefix-marks c =
-    part-fits (c .before .before .before .before .before .before .before .before .args .w) (c .before .before .before .before .before .before .is-given .ensures .yes (not-false _ (c .before .before .before .before .before .if1 .left))) (c .before .before .marks-in .result) (marks-length (c .before .before .before .before .before .before .before .before .args .w) (c .before .before .before .before .before .before .is-given .ensures .yes (not-false _ (c .before .before .before .before .before .if1 .left))) (c .before .before .marks-in .result) (c .before .before .marks-in .ensures))
+    part-fits (c .before .before .before .before .before .before .before .before .before .args .w) (c .before .before .before .before .before .before .before .is-given .ensures .yes (not-false _ (c .before .before .before .before .before .before .if1 .left))) (c .before .before .before .before .before .place-tables .result .marks) (marks-length (c .before .before .before .before .before .before .before .before .before .args .w) (c .before .before .before .before .before .before .before .is-given .ensures .yes (not-false _ (c .before .before .before .before .before .before .if1 .left))) (c .before .before .before .before .before .place-tables .result .marks) (places-marks _ _ (c .before .before .before .before .before .place-tables .ensures)))
 
--- src/lib.rt:463:45
+-- src/lib.rt:228:45
 slice-aggregate-unfold-tables-3 : tie.Need-slice-aggregate-unfold-tables-3
 slice-aggregate-unfold-tables-3 c =
-    part-length (c .before .before .before .before .before .before .before .before .before .args .w) (c .before .before .before .before .before .before .before .is-given .ensures .yes (not-false _ (c .before .before .before .before .before .before .if1 .left))) _ (marks-length (c .before .before .before .before .before .before .before .before .before .args .w) (c .before .before .before .before .before .before .before .is-given .ensures .yes (not-false _ (c .before .before .before .before .before .before .if1 .left))) _ (c .before .before .before .marks-in .ensures))
+    part-length (c .before .before .before .before .before .before .before .before .before .before .args .w) (c .before .before .before .before .before .before .before .before .is-given .ensures .yes (not-false _ (c .before .before .before .before .before .before .before .if1 .left))) (c .before .before .before .before .before .before .place-tables .result .marks) (marks-length (c .before .before .before .before .before .before .before .before .before .before .args .w) (c .before .before .before .before .before .before .before .before .is-given .ensures .yes (not-false _ (c .before .before .before .before .before .before .before .if1 .left))) (c .before .before .before .before .before .before .place-tables .result .marks) (places-marks _ _ (c .before .before .before .before .before .before .place-tables .ensures)))
 
--- src/lib.rt:463:5
+-- src/lib.rt:228:5
 unfold-tables-requires : tie.Need-unfold-tables-requires
 unfold-tables-requires c κs =
-    ready-places (c .before .before .before .before .before .before .before .before .before .before .args .w) (c .before .before .before .before .before .before .before .before .is-given .ensures .yes (not-false _ (c .before .before .before .before .before .before .before .if1 .left))) _ _ _ (c .before .before .before .before .before .before .codes-in .ensures) (c .before .before .before .before .before .numbers-of-lines .ensures) (c .before .before .before .before .marks-in .ensures)
+    ready-places (c .before .before .before .before .before .before .before .before .before .before .before .args .w) (c .before .before .before .before .before .before .before .before .before .is-given .ensures .yes (not-false _ (c .before .before .before .before .before .before .before .before .if1 .left))) _ _ _ (places-codes _ _ (c .before .before .before .before .before .before .before .place-tables .ensures)) (places-words _ _ (c .before .before .before .before .before .before .before .place-tables .ensures)) (places-marks _ _ (c .before .before .before .before .before .before .before .place-tables .ensures))
 
--- src/lib.rt:453:1
+-- src/lib.rt:217:1
 same-length : tie.Need-same-length
 same-length c = search needs
 
--- src/lib.rt:453:1
+-- src/lib.rt:217:1
 returns-2 : tie.Need-returns-2
 returns-2 c =
-    settled-places (c .before .before .before .before .before .before .before .before .before .before .before .before .before .args .w) (c .before .before .before .before .before .before .before .before .before .before .before .is-given .ensures .yes (not-false _ (c .before .before .before .before .before .before .before .before .before .before .if1 .left))) _ _ _ (c .before .before .before .before .before .before .before .before .before .codes-in .ensures) (c .before .before .before .before .before .before .before .before .numbers-of-lines .ensures) (c .before .before .before .before .before .before .before .marks-in .ensures) _ _ _ (c .before .before .unfold-tables .ensures)
+    settled-places (c .before .before .before .before .before .before .before .before .before .before .before .before .before .before .args .w) (c .before .before .before .before .before .before .before .before .before .before .before .before .is-given .ensures .yes (not-false _ (c .before .before .before .before .before .before .before .before .before .before .before .if1 .left))) _ _ _ (places-codes _ _ (c .before .before .before .before .before .before .before .before .before .before .place-tables .ensures)) (places-words _ _ (c .before .before .before .before .before .before .before .before .before .before .place-tables .ensures)) (places-marks _ _ (c .before .before .before .before .before .before .before .before .before .before .place-tables .ensures)) _ _ _ (c .before .before .unfold-tables .ensures)
 
 pub unfold-places-spec : {M : Type 1} → statement M
 unfold-places-spec =
@@ -92,9 +82,7 @@ unfold-places-spec =
     is-given-requires
     refused-requires
     returns
-    codes-in-requires
-    numbers-of-lines-requires
-    marks-in-requires
+    place-tables-requires
     array-share-prefix-codes
     slice-aggregate-unfold-tables
     array-share-prefix-words

@@ -8,7 +8,7 @@ use Rattle.unfolder.proofs.unfold_tables.Statement.{statement}
 use Rattle.unfolder.proofs.unfold_tables.Tie as tie
 use Rattle.unfolder.proofs.unfold_tables.Reads as reads
 use Rattle.unfolder.proofs.unfold_tables.Lts as lts
-use Rattle.unfolder.proofs.count_all.Reads as count-all-reads
+use Rattle.counting.proofs.count_all.Reads as count-all-reads
 use Rattle.unfolder.proofs.refused.Reads as refused-reads
 use Rattle.unfolder.proofs.told.Reads as told-reads
 use Rattle.unfolder.proofs.write_all.Reads as write-all-reads

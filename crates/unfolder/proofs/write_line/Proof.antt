@@ -8,7 +8,7 @@ use Rattle.unfolder.proofs.write_line.Statement.{statement}
 use Rattle.unfolder.proofs.write_line.Tie as tie
 use Rattle.unfolder.proofs.write_line.Reads as reads
 use Rattle.unfolder.proofs.write_line.Lts as lts
-use Rattle.unfolder.proofs.count_run.Reads as count-run-reads
+use Rattle.counting.proofs.count_run.Reads as count-run-reads
 use Rattle.unfolder.proofs.write_rows.Reads as write-rows-reads
 
 -- src/lib.rt:301:8
@@ -58,7 +58,7 @@ part-write-rows-end c = search needs
 -- src/lib.rt:307:5
 write-rows-requires : tie.Need-write-rows-requires
 write-rows-requires c κs =
-    (search needs, line-rows-fit _ _ _ _ _ (line-rows (c .before .before .before .before .before .before .before .before .args .codes .now) (c .before .before .before .before .before .before .before .before .args .words .now) (c .before .before .before .before .before .before .before .before .args .marks .now) (c .before .before .before .before .before .before .before .before .args .i) (c .before .before .before .before .before .before .before .before .args .program) (c .before .count-run .result) (c .before .before .if1 .left) (c .before .count-run .ensures)) _ _ (c .before .before .before .before .before .before .before .before .pre .1) (c .before .before .before .before .before .before .before .before .good .1 .1 .1 .1 .1 .1 .0 .0))
+    line-rows-fit _ _ (line-rows (c .before .before .before .before .before .before .before .before .args .codes .now) (c .before .before .before .before .before .before .before .before .args .words .now) (c .before .before .before .before .before .before .before .before .args .marks .now) (c .before .before .before .before .before .before .before .before .args .i) (c .before .before .before .before .before .before .before .before .args .program) (c .before .count-run .result) (c .before .before .if1 .left) (c .before .count-run .ensures)) _ _ (c .before .before .before .before .before .before .before .before .pre .1) (c .before .before .before .before .before .before .before .before .good .1 .1 .1 .1 .1 .1 .0 .0)
 
 -- src/lib.rt:296:1
 same-length : tie.Need-same-length
@@ -67,7 +67,7 @@ same-length c = search needs
 -- src/lib.rt:296:1
 returns-2 : tie.Need-returns-2
 returns-2 c =
-    lined-rows _ _ _ _ _ (line-rows (c .before .before .before .before .before .before .before .before .before .before .before .args .codes .now) (c .before .before .before .before .before .before .before .before .before .before .before .args .words .now) (c .before .before .before .before .before .before .before .before .before .before .before .args .marks .now) (c .before .before .before .before .before .before .before .before .before .before .before .args .i) (c .before .before .before .before .before .before .before .before .before .before .before .args .program) (c .before .before .before .before .count-run .result) (c .before .before .before .before .before .if1 .left) (c .before .before .before .before .count-run .ensures)) _ _ (c .before .before .before .before .before .before .before .before .before .before .before .pre .1) _ _ (c .before .before .write-rows .ensures)
+    lined-rows _ _ (line-rows (c .before .before .before .before .before .before .before .before .before .before .before .args .codes .now) (c .before .before .before .before .before .before .before .before .before .before .before .args .words .now) (c .before .before .before .before .before .before .before .before .before .before .before .args .marks .now) (c .before .before .before .before .before .before .before .before .before .before .before .args .i) (c .before .before .before .before .before .before .before .before .before .before .before .args .program) (c .before .before .before .before .count-run .result) (c .before .before .before .before .before .if1 .left) (c .before .before .before .before .count-run .ensures)) _ _ (c .before .before .before .before .before .before .before .before .before .before .before .pre .1) _ _ (c .before .before .write-rows .ensures)
 
 pub write-line-spec : {M : Type 1} → statement M
 write-line-spec =

@@ -11,38 +11,30 @@ use Rattle.verdict.proofs.print_report.Lts as lts
 use Rattle.io.proofs.write_all.Reads as write-all-reads
 use Rattle.reporter.proofs.report_of.Reads as report-of-reads
 
--- src/main.rt:59:9
 report-of-requires : tie.Need-report-of-requires
 report-of-requires c κs = search needs
 
--- src/main.rt:62:38
 array-share-prefix-bytes : tie.Need-array-share-prefix-bytes
 array-share-prefix-bytes c =
     let h = c .before .report-of .ensures .fits in let l = c .before .report-of .ensures .size in omega arith
 
--- src/main.rt:62:38
 slice-aggregate-write-all : tie.Need-slice-aggregate-write-all
 slice-aggregate-write-all c =
     let h = c .before .before .report-of .ensures .fits in
     let l = c .before .before .report-of .ensures .size in sym (length-take-le _ _ (omega arith))
 
--- src/main.rt:62:9
 write-all-requires : tie.Need-write-all-requires
 write-all-requires c κs = search needs
 
--- src/main.rt:63:38
 slice-aggregate-write-all-2 : tie.Need-slice-aggregate-write-all-2
 slice-aggregate-write-all-2 c = search needs
 
--- src/main.rt:63:9
 write-all-requires-2 : tie.Need-write-all-requires-2
 write-all-requires-2 c κs = search needs
 
--- src/main.rt:58:1
 returns : tie.Need-returns
 returns c = search needs
 
--- src/main.rt:58:1
 returns-2 : tie.Need-returns-2
 returns-2 c = search needs
 

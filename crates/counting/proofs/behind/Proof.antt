@@ -1,0 +1,25 @@
+use Rattle.counting.proofs.RunLaws.{after-inside, after-past}
+use native.Mathlib.Omega.{arith}
+use mathlib.Core.Path.{_≡_, refl, ap, sym, _∙_}
+use Prim.Native.Nat.{ℕ, _+_, _-_, _*_, _≤_, _<_}
+use lib.ListN.{length, set, getD, length-set, take, drop}
+use borrow.Author.Needs.{needs}
+use Rattle.counting.proofs.behind.Statement.{statement}
+use Rattle.counting.proofs.behind.Tie as tie
+use Rattle.counting.proofs.behind.Reads as reads
+use Rattle.counting.proofs.behind.Lts as lts
+
+-- src/lib.rt:41:16
+add-result : tie.Need-add-result
+add-result c = search needs
+
+-- src/lib.rt:41:9
+returns : tie.Need-returns
+returns c = after-inside _ _ (c .if1 .taken)
+
+-- src/lib.rt:36:1
+returns-2 : tie.Need-returns-2
+returns-2 c = after-past _ _ (c .if1 .left)
+
+pub behind-spec : {M : Type 1} → statement M
+behind-spec = tie.close (tie.spec add-result returns returns-2)

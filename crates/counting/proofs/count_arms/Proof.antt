@@ -1,0 +1,32 @@
+use Rattle.counting.proofs.RunLaws.{branch-made}
+use native.Mathlib.Omega.{arith}
+use mathlib.Core.Path.{_≡_, refl, ap, sym, _∙_}
+use Prim.Native.Nat.{ℕ, _+_, _-_, _*_, _≤_, _<_}
+use lib.ListN.{length, set, getD, length-set, take, drop}
+use borrow.Author.Needs.{needs}
+use Rattle.counting.proofs.count_arms.Statement.{statement}
+use Rattle.counting.proofs.count_arms.Tie as tie
+use Rattle.counting.proofs.count_arms.Reads as reads
+use Rattle.counting.proofs.count_arms.Lts as lts
+use Rattle.counting.proofs.behind.Reads as behind-reads
+use Rattle.counting.proofs.sum.Reads as sum-reads
+
+-- src/lib.rt:69:9
+sum-requires : tie.Need-sum-requires
+sum-requires c κs = search needs
+
+-- src/lib.rt:70:9
+sum-requires-2 : tie.Need-sum-requires-2
+sum-requires-2 c κs = search needs
+
+-- src/lib.rt:71:9
+behind-requires : tie.Need-behind-requires
+behind-requires c κs = search needs
+
+-- src/lib.rt:65:1
+returns : tie.Need-returns
+returns c =
+    branch-made _ _ _ _ _ _ (c .before .before .sum .ensures) (c .before .sum2 .ensures) (c .behind .ensures)
+
+pub count-arms-spec : {M : Type 1} → statement M
+count-arms-spec = tie.close (tie.spec sum-requires sum-requires-2 behind-requires returns)

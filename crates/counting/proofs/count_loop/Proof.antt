@@ -1,0 +1,64 @@
+use Rattle.counting.proofs.RunLaws.{loop-made}
+use native.Mathlib.Omega.{arith}
+use mathlib.Core.Path.{_≡_, refl, ap, sym, _∙_}
+use Prim.Native.Nat.{ℕ, _+_, _-_, _*_, _≤_, _<_}
+use lib.ListN.{length, set, getD, length-set, take, drop}
+use borrow.Author.Needs.{needs}
+use Rattle.counting.proofs.count_loop.Statement.{statement}
+use Rattle.counting.proofs.count_loop.Tie as tie
+use Rattle.counting.proofs.count_loop.Reads as reads
+use Rattle.counting.proofs.count_loop.Lts as lts
+use Rattle.counting.proofs.behind.Reads as behind-reads
+use Rattle.counting.proofs.product.Reads as product-reads
+use Rattle.counting.proofs.sum.Reads as sum-reads
+
+-- src/lib.rt:59:31
+product-requires : tie.Need-product-requires
+product-requires c κs = search needs
+
+-- src/lib.rt:59:24
+sum-requires : tie.Need-sum-requires
+sum-requires c κs = search needs
+
+-- src/lib.rt:59:9
+sum-requires-2 : tie.Need-sum-requires-2
+sum-requires-2 c κs = search needs
+
+-- src/lib.rt:60:33
+product-requires-2 : tie.Need-product-requires-2
+product-requires-2 c κs = search needs
+
+-- src/lib.rt:60:48
+product-requires-3 : tie.Need-product-requires-3
+product-requires-3 c κs = search needs
+
+-- src/lib.rt:60:29
+sum-requires-3 : tie.Need-sum-requires-3
+sum-requires-3 c κs = search needs
+
+-- src/lib.rt:60:9
+sum-requires-4 : tie.Need-sum-requires-4
+sum-requires-4 c κs = search needs
+
+-- src/lib.rt:61:9
+behind-requires : tie.Need-behind-requires
+behind-requires c κs = search needs
+
+-- src/lib.rt:53:1
+returns : tie.Need-returns
+returns c =
+    loop-made _ _ _ _ _ _ _ _ _ _ (c .before .before .before .before .before .before .before .product .ensures) (c .before .before .before .before .before .before .sum .ensures) (c .before .before .before .before .before .sum2 .ensures) (c .before .before .before .before .product2 .ensures) (c .before .before .before .product3 .ensures) (c .before .before .sum3 .ensures) (c .before .sum4 .ensures) (c .behind .ensures)
+
+pub count-loop-spec : {M : Type 1} → statement M
+count-loop-spec =
+    tie.close
+    (tie.spec
+    product-requires
+    sum-requires
+    sum-requires-2
+    product-requires-2
+    product-requires-3
+    sum-requires-3
+    sum-requires-4
+    behind-requires
+    returns)

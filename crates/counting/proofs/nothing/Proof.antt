@@ -1,0 +1,18 @@
+use Rattle.choosing.specs.Codes.{nothingAt}
+use borrow.Author.Needs.{needs}
+use native.Mathlib.Omega.{arith}
+use mathlib.Core.Path.{_≡_, refl, ap, sym, _∙_}
+use Prim.Native.Nat.{ℕ, _+_, _-_, _*_, _≤_, _<_}
+use lib.ListN.{length, set, getD, length-set, take, drop}
+use Rattle.counting.proofs.nothing.Statement.{statement}
+use Rattle.counting.proofs.nothing.Tie as tie
+use Rattle.counting.proofs.nothing.Reads as reads
+use Rattle.counting.proofs.nothing.Lts as lts
+
+-- src/lib.rt:46:1
+returns : tie.Need-returns
+unfolding nothingAt
+returns c = cc
+
+pub nothing-spec : {M : Type 1} → statement M
+nothing-spec = tie.close (tie.spec returns)

@@ -1,0 +1,25 @@
+use Rattle.counting.proofs.RunLaws.{stops-large, stops-small, product-small}
+use borrow.Author.Needs.{needs}
+use native.Mathlib.Omega.{arith}
+use mathlib.Core.Path.{_≡_, refl, ap, sym, _∙_}
+use Prim.Native.Nat.{ℕ, _+_, _-_, _*_, _≤_, _<_}
+use lib.ListN.{length, set, getD, length-set, take, drop}
+use Rattle.counting.proofs.product.Statement.{statement}
+use Rattle.counting.proofs.product.Tie as tie
+use Rattle.counting.proofs.product.Reads as reads
+use Rattle.counting.proofs.product.Lts as lts
+
+-- src/lib.rt:28:13
+mul-x : tie.Need-mul-x
+mul-x c = omega (arith, product-small (c .args .a) (c .args .b) (c .pre .0) (c .pre .1))
+
+-- src/lib.rt:30:9
+returns : tie.Need-returns
+returns c = stops-large _ (search needs)
+
+-- src/lib.rt:24:1
+returns-2 : tie.Need-returns-2
+returns-2 c = stops-small _ (search needs)
+
+pub product-spec : {M : Type 1} → statement M
+product-spec = tie.close (tie.spec mul-x returns returns-2)

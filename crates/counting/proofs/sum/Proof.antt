@@ -1,0 +1,25 @@
+use Rattle.counting.proofs.RunLaws.{stops-large, stops-small, product-small}
+use native.Mathlib.Omega.{arith}
+use mathlib.Core.Path.{_≡_, refl, ap, sym, _∙_}
+use Prim.Native.Nat.{ℕ, _+_, _-_, _*_, _≤_, _<_}
+use lib.ListN.{length, set, getD, length-set, take, drop}
+use borrow.Author.Needs.{needs}
+use Rattle.counting.proofs.sum.Statement.{statement}
+use Rattle.counting.proofs.sum.Tie as tie
+use Rattle.counting.proofs.sum.Reads as reads
+use Rattle.counting.proofs.sum.Lts as lts
+
+-- src/lib.rt:17:13
+add-x : tie.Need-add-x
+add-x c = search needs
+
+-- src/lib.rt:19:9
+returns : tie.Need-returns
+returns c = stops-large _ (search needs)
+
+-- src/lib.rt:13:1
+returns-2 : tie.Need-returns-2
+returns-2 c = stops-small _ (search needs)
+
+pub sum-spec : {M : Type 1} → statement M
+sum-spec = tie.close (tie.spec add-x returns returns-2)

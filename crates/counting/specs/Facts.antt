@@ -1,0 +1,50 @@
+-- What the counting functions say of their results.
+use mathlib.Core.Bool.{cond}
+use mathlib.Core.List.{List}
+use mathlib.Core.Path.{_≡_}
+use Prim.Native.Nat.{ℕ, _≤_}
+use lib.Dec.{leb}
+use lib.ListN.{length, drop}
+use Rattle.text.specs.declared.Line.{Line}
+use Rattle.graph.specs.Program.{runOf}
+use Rattle.graph.specs.Unfolding.{nodesOf}
+use Rattle.report.specs.State.{statementsIn}
+use Rattle.choosing.specs.declared.Counted.{Counted}
+use Rattle.choosing.specs.declared.Totals.{Totals}
+use Rattle.choosing.specs.Cap.{cap}
+use Rattle.choosing.specs.Codes.{codesOf, nothingAt, itemAt, countAt}
+use Rattle.choosing.specs.CodesLaws.{Counts}
+use Rattle.choosing.specs.Pieces.{totalsBefore}
+
+-- a result equals what the definition counts, and is small
+pub record Counting (counted r : Counted) : Type 0 where
+  pub same : r ≡ counted
+  pub positive : 1 ≤ r .count
+  pub few : r .count ≤ 513
+  pub short : r .statements ≤ 513
+
+-- the run at a place; over the lines of a workload: the unfoldings and statements of the run that is read off there, stopped at 513, and its end
+pub record RunCounted (left : ℕ) (codes : List ℕ) (at : ℕ) (r : Counted) : Type 0 where
+  pub counting : Counting (countAt left codes at) r
+  pub means : (lines : List Line) → codes ≡ codesOf lines → Counts lines (runOf left (drop at lines)) r
+
+-- the statement or block at a place; past the lines nothing
+unfoldable pub placeAt : ℕ → List ℕ → ℕ → Counted
+placeAt left codes at = cond (leb (length codes) at) (nothingAt at) (itemAt (countAt left codes) codes at)
+
+-- a result equals a stopped number, and is small
+pub record Small (number r : ℕ) : Type 0 where
+  pub same : r ≡ number
+  pub few : r ≤ 513
+
+-- totals equal those of the definition, and are small
+pub record Totalled (totals r : Totals) : Type 0 where
+  pub same : r ≡ totals
+  pub few : r .count ≤ 513
+  pub short : r .statements ≤ 513
+
+-- all lines; over the lines of a workload: its nodes and the statements in them, stopped at 513
+pub record AllCounted (codes : List ℕ) (r : Totals) : Type 0 where
+  pub totalled : Totalled (totalsBefore codes (length codes)) r
+  pub nodes : (lines : List Line) → codes ≡ codesOf lines → r .count ≡ cap (length (nodesOf lines))
+  pub statements : (lines : List Line) → codes ≡ codesOf lines → r .statements ≡ cap (statementsIn (nodesOf lines))

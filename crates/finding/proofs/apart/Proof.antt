@@ -1,0 +1,10 @@
+use mathlib.Core.Path.{refl}
+use Rattle.finding.proofs.apart.Statement.{statement}
+use Rattle.finding.proofs.apart.Tie as tie
+
+-- the test as it stands
+returns : tie.Need-returns
+returns c = refl
+
+pub apart-spec : {M : Type 1} → statement M
+apart-spec = tie.close (tie.spec returns)

@@ -1,0 +1,76 @@
+-- The first edge from a slot on, and what the parts of the search for it answer.
+use mathlib.Core.Bool.{Bool, true, false, cond}
+use mathlib.Core.Option.{Option, none, some}
+use mathlib.Core.List.{List}
+use mathlib.Core.Path.{_≡_}
+use Prim.Native.Nat.{ℕ, _+_, _<_}
+use lib.ListN.{getElem?}
+use lib.Count.{onesIn, trailingZeros}
+use Rattle.graph.specs.Graph as G
+use Rattle.graph.specs.Edge as E
+use Rattle.tables.specs.declared.Row.{Row}
+use Rattle.tables.specs.Table.{rowStands, rowLetter, rowShared}
+use Rattle.edges.specs.Slots.{letterByte, noEdge, foundAs, tableEdges, edgesBelow, nextSlot}
+use Rattle.finding.specs.declared.Letter.{Letter}
+use Rattle.finding.specs.declared.Letter.the-variants.{A, B, C, D, E, Absent}
+use Rattle.finding.specs.declared.EdgeStep.{EdgeStep}
+
+-- E5: the first edge from slot x on. Its number is how many edges stand in the slots before; its slot is the first in which one stands,
+-- or the number of slots.
+unfoldable pub edgeFrom : List ℕ → ℕ → EdgeStep
+edgeFrom table x =
+    let answer = foundAs (getElem? (tableEdges table) (edgesBelow table x)) in
+    record { found = answer .found; slot = nextSlot table x; edge = answer .edge }
+
+-- the letter that a code names, if it names one
+abbrev pub letterMeant : Letter → Option E.Letter
+letterMeant A = some E.Letter.A
+letterMeant B = some E.Letter.B
+letterMeant C = some E.Letter.C
+letterMeant D = some E.Letter.D
+letterMeant E = some E.Letter.E
+letterMeant Absent = none
+
+-- the letter of the edge with this flow, if it stands
+unfoldable pub letterIn : G.Flow → Row → Row → Option E.Letter
+letterIn flow p q = cond (rowStands flow p q) (some (rowLetter flow p q)) none
+
+abbrev pub stands : Option E.Letter → Bool
+stands none = false
+stands (some l) = true
+
+-- what the letter's two sets share
+unfoldable pub sharedIn : Option E.Letter → Row → Row → ℕ
+sharedIn none p q = 0
+sharedIn (some l) p q = rowShared l p q
+
+abbrev pub byteIn : Option E.Letter → ℕ
+byteIn none = 0
+byteIn (some l) = letterByte l
+
+-- no edge so far: slot x is the next to look at
+abbrev pub nothingTo : ℕ → EdgeStep
+nothingTo x = record { found = false; slot = x; edge = noEdge }
+
+-- the edge in slot x with this byte for its flow and this letter, if it has one
+unfoldable pub stepIn : ℕ → ℕ → Row → Row → Option E.Letter → EdgeStep
+stepIn x flow p q none = nothingTo (x + 1)
+stepIn x flow p q (some l) = record {
+  found = true;
+  slot = x;
+  edge = record {
+    node = p .node;
+    leaves = p .place;
+    into = q .node;
+    enters = q .place;
+    sharing = onesIn 64 (rowShared l p q);
+    lowest = trailingZeros 64 (rowShared l p q);
+    flow = flow;
+    letter = letterByte l;
+  };
+}
+
+-- from slot x on: the answer, or a later slot with the same answer
+pub record Looked (table : List ℕ) (x : ℕ) (r : EdgeStep) : Type 0 where
+  pub here : r .found ≡ true → r ≡ edgeFrom table x
+  pub later : r .found ≡ false → (x < r .slot) × (edgeFrom table (r .slot) ≡ edgeFrom table x)

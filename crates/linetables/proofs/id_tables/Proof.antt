@@ -1,0 +1,27 @@
+use Rattle.linetables.proofs.CellLaws.{ids-made}
+use native.Mathlib.Omega.{arith}
+use mathlib.Core.Path.{_≡_, refl, ap, sym, _∙_}
+use Prim.Native.Nat.{ℕ, _+_, _-_, _*_, _≤_, _<_}
+use lib.ListN.{length, set, getD, length-set, take, drop}
+use borrow.Author.Needs.{needs}
+use Rattle.linetables.proofs.id_tables.Statement.{statement}
+use Rattle.linetables.proofs.id_tables.Tie as tie
+use Rattle.linetables.proofs.id_tables.Reads as reads
+use Rattle.linetables.proofs.id_tables.Lts as lts
+use Rattle.linetables.proofs.codes_in.Reads as codes-in-reads
+use Rattle.linetables.proofs.ids_in.Reads as ids-in-reads
+
+-- src/lib.rt:200:9
+codes-in-requires : tie.Need-codes-in-requires
+codes-in-requires c κs = search needs
+
+-- src/lib.rt:201:9
+ids-in-requires : tie.Need-ids-in-requires
+ids-in-requires c κs = search needs
+
+-- src/lib.rt:197:1
+returns : tie.Need-returns
+returns c = ids-made _ _ _ (c .before .codes-in .ensures) (c .ids-in .ensures)
+
+pub id-tables-spec : {M : Type 1} → statement M
+id-tables-spec = tie.close (tie.spec codes-in-requires ids-in-requires returns)

@@ -1,0 +1,15 @@
+use Rattle.putting.specs.PutLaws.{next-numbered}
+use borrow.Author.Needs.{needs}
+use Rattle.putting.proofs.edge_next.Statement.{statement}
+use Rattle.putting.proofs.edge_next.Tie as tie
+
+-- src/lib.rt:27:5
+edge-from-requires : tie.Need-edge-from-requires
+edge-from-requires c κs = search needs
+
+-- src/lib.rt:23:1
+returns : tie.Need-returns
+returns c = next-numbered _ _ _ _ (c .before .before .pre) (c .edge-from .ensures)
+
+pub edge-next-spec : {M : Type 1} → statement M
+edge-next-spec = tie.close (tie.spec edge-from-requires returns)

@@ -1,0 +1,84 @@
+// Edges by their numbers: one asked for, or all put into the caller's list.
+
+ghost use mathlib.Core.Path.{_≡_};
+ghost use lib.ListN.{length, getElem?};
+ghost use Rattle.edges.specs.Slots.{foundAs, tableEdges};
+ghost use Rattle.putting.specs.Put.{fittingIn, Ahead, Numbered, PutAs};
+use edges::Edge;
+use edges::Found;
+use edges::count_edges;
+use edges::no_edge;
+use finding::EdgeStep;
+use finding::edge_from;
+
+// How many edges a table has.
+fn edge_count(table: &[u64]) -> usize
+    ensures { λ r. ⌜ r ≡ length (tableEdges (now (table .entry))) ⌝ }
+{
+    let c = count_edges(table);
+    c.edges
+}
+
+// Edge number k of a table and its slot, found from a slot on before which the k edges with lower numbers stand.
+fn edge_next(table: &[u64], k: usize, from: usize) -> EdgeStep
+    requires { ⌜ Ahead (now table) k from ⌝ }
+    ensures { λ r. ⌜ Numbered (now (table .entry)) k r ⌝ }
+{
+    edge_from(table, from)
+}
+
+// Edge number k of a table: each edge is found from behind the slot of the one before.
+pub fn edge_of_number(table: &[u64], k: usize) -> Found
+    ensures { λ r. ⌜ r ≡ foundAs (getElem? (tableEdges (now (table .entry))) k) ⌝ }
+{
+    let n = edge_count(table);
+    if n <= k {
+        let none = no_edge();
+        return Found {
+            found: false,
+            edge: none,
+        };
+    }
+    let mut from: usize = 0;
+    let mut i: usize = 0;
+    while i < k {
+        let step = edge_next(table, i, from);
+        from = step.slot + 1;
+        i += 1;
+    }
+    let last = edge_next(table, k, from);
+    let edge = last.edge;
+    Found {
+        found: true,
+        edge: edge,
+    }
+}
+
+// How many of n edges to put into an area with this much room: all, or none where they do not fit.
+fn fitting(n: usize, room: usize) -> usize
+    ensures { λ r. ⌜ r ≡ fittingIn n room ⌝ }
+{
+    if n <= room {
+        return n;
+    }
+    0
+}
+
+// Puts the edges of a table at the front of an area that has room for them; the rest of the area stays as it was, and so does all of an
+// area that is too short. Answers how many edges there are.
+#[no_mangle]
+pub extern "C" fn put_edges<'b, 'a>(table: &'b [u64], out: &'a mut [Edge]) -> usize
+    ensures { λ r. ⌜ PutAs (tableEdges (now (table .entry))) (now (out .entry)) r (now (out .exit)) ⌝ }
+{
+    let total = edge_count(table);
+    let n = fitting(total, out.len());
+    let mut from: usize = 0;
+    let mut k: usize = 0;
+    while k < n {
+        let step = edge_next(table, k, from);
+        out[k] = step.edge;
+        from = step.slot + 1;
+        k += 1;
+    }
+    total
+}

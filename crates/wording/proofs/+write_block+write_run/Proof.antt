@@ -1,0 +1,1172 @@
+use Rattle.wording.proofs.PathLaws.{run-none, run-past, run-stop, run-statement, run-block, loop-none, loop-one, loop-two, branch-one, branch-two}
+use Rattle.wording.proofs.LaidLaws.{lays-inside}
+use borrow.Author.Needs.{needs}
+use native.Mathlib.Omega.{arith}
+use mathlib.Core.Path.{_≡_, refl, ap, sym, _∙_}
+use lib.ListN.{length, set, getD, length-set, take, drop}
+use Prim.Native.Nat.{ℕ, _+_, _≤_, _<_}
+use borrow.Fn.Kinds.{In}
+use borrow.Fn.PlainCycle.{Measures, is, falls, and}
+use Rattle.wording.proofs.write_block.Reads as write-block
+use Rattle.wording.proofs.write_block.Kinds as write-block-kinds
+use Rattle.wording.proofs.+write_block+write_run.Lts-write_block as write-block-lts
+use Rattle.wording.proofs.write_run.Reads as write-run
+use Rattle.wording.proofs.write_run.Kinds as write-run-kinds
+use Rattle.wording.proofs.+write_block+write_run.Lts-write_run as write-run-lts
+use Rattle.counting.proofs.behind.Reads as behind-reads
+use Rattle.counting.proofs.count_place.Reads as count-place-reads
+use Rattle.counting.proofs.count_run.Reads as count-run-reads
+use Rattle.wording.proofs.lay_word.Reads as lay-word-reads
+use Rattle.wording.proofs.mark_at.Reads as mark-at-reads
+use Rattle.wording.proofs.word_at.Reads as word-at-reads
+use Rattle.wording.proofs.+write_block+write_run.{statement}
+use Rattle.wording.proofs.+write_block+write_run.Tie.{close}
+
+abbrev μ-write-block : Measures 4 write-block-kinds.ps ℕ
+μ-write-block κs a = a .1 .1 .1 .1 .1 .0 + a .1 .1 .1 .1 .1 .0 + 1
+
+abbrev μ-write-run : Measures 4 write-run-kinds.ps ℕ
+μ-write-run κs a = a .1 .1 .1 .1 .1 .0 + a .1 .1 .1 .1 .1 .0
+
+abbrev write-block-at : ℕ → In 4 write-block-kinds.ps
+write-block-at t =
+    and 4 write-block-kinds.ps (is 4 write-block-kinds.ps μ-write-block t) write-block.Pre
+
+abbrev write-block-below : ℕ → In 4 write-block-kinds.ps
+write-block-below t =
+    and 4 write-block-kinds.ps (falls 4 write-block-kinds.ps _<_ μ-write-block t) write-block.Pre
+
+abbrev write-run-at : ℕ → In 4 write-run-kinds.ps
+write-run-at t = and 4 write-run-kinds.ps (is 4 write-run-kinds.ps μ-write-run t) write-run.Pre
+
+abbrev write-run-below : ℕ → In 4 write-run-kinds.ps
+write-run-below t =
+    and 4 write-run-kinds.ps (falls 4 write-run-kinds.ps _<_ μ-write-run t) write-run.Pre
+
+-- src/lib.rt:116:33
+write-block-add-count-run : (t : ℕ) → write-block-lts.Need-add-count-run (
+  count-run-reads.Asked,
+  count-run-reads.Learnt,
+  write-run-below t,
+  write-run.Post,
+  behind-reads.Asked,
+  behind-reads.Learnt,
+) (write-block-at t) write-block.Post
+write-block-add-count-run t c = search needs
+
+-- src/lib.rt:116:9
+write-block-count-run-requires : (t : ℕ) → write-block-lts.Need-count-run-requires (
+  count-run-reads.Asked,
+  count-run-reads.Learnt,
+  write-run-below t,
+  write-run.Post,
+  behind-reads.Asked,
+  behind-reads.Learnt,
+) (write-block-at t) write-block.Post
+write-block-count-run-requires t c κs = search needs
+
+-- src/lib.rt:118:8
+write-block-shared-slice-read-if1 : (t : ℕ) → write-block-lts.Need-shared-slice-read-if1 (
+  count-run-reads.Asked,
+  count-run-reads.Learnt,
+  write-run-below t,
+  write-run.Post,
+  behind-reads.Asked,
+  behind-reads.Learnt,
+) (write-block-at t) write-block.Post
+write-block-shared-slice-read-if1 t c = search needs
+
+-- src/lib.rt:120:13
+write-block-returns : (t : ℕ) → write-block-lts.Need-returns (
+  count-run-reads.Asked,
+  count-run-reads.Learnt,
+  write-run-below t,
+  write-run.Post,
+  behind-reads.Asked,
+  behind-reads.Learnt,
+) (write-block-at t) write-block.Post
+write-block-returns t c =
+    loop-none (c .before .before .before .before .before .before .before .before .args .codes .now) (c .before .before .before .before .before .before .before .before .args .words .now) (c .before .before .before .before .before .before .before .before .args .marks .now) (c .before .before .before .before .before .before .before .before .args .seen) (c .before .before .before .before .before .before .before .before .args .at) (c .before .before .before .before .before .before .before .before .args .k) _ (c .before .before .before .before .before .before .before .before .args .left) (c .before .before .before .count-run .result) (c .before .before .before .count-run .ensures) (c .before .if1 .taken) (c .if2 .taken)
+
+-- src/lib.rt:123:57
+write-block-add-write-run : (t : ℕ) → write-block-lts.Need-add-write-run (
+  count-run-reads.Asked,
+  count-run-reads.Learnt,
+  write-run-below t,
+  write-run.Post,
+  behind-reads.Asked,
+  behind-reads.Learnt,
+) (write-block-at t) write-block.Post
+write-block-add-write-run t c = search needs
+
+-- src/lib.rt:123:71
+write-block-sub-write-run : (t : ℕ) → write-block-lts.Need-sub-write-run (
+  count-run-reads.Asked,
+  count-run-reads.Learnt,
+  write-run-below t,
+  write-run.Post,
+  behind-reads.Asked,
+  behind-reads.Learnt,
+) (write-block-at t) write-block.Post
+write-block-sub-write-run t c = search needs
+
+-- src/lib.rt:123:13
+write-block-write-run-requires : (t : ℕ) → write-block-lts.Need-write-run-requires (
+  count-run-reads.Asked,
+  count-run-reads.Learnt,
+  write-run-below t,
+  write-run.Post,
+  behind-reads.Asked,
+  behind-reads.Learnt,
+) (write-block-at t) write-block.Post
+write-block-write-run-requires t c κs = search needs
+
+-- src/lib.rt:123:13
+write-block-same-length : (t : ℕ) → write-block-lts.Need-same-length (
+  count-run-reads.Asked,
+  count-run-reads.Learnt,
+  write-run-below t,
+  write-run.Post,
+  behind-reads.Asked,
+  behind-reads.Learnt,
+) (write-block-at t) write-block.Post
+write-block-same-length t c = search needs
+
+-- src/lib.rt:123:13
+write-block-returns-2 : (t : ℕ) → write-block-lts.Need-returns-2 (
+  count-run-reads.Asked,
+  count-run-reads.Learnt,
+  write-run-below t,
+  write-run.Post,
+  behind-reads.Asked,
+  behind-reads.Learnt,
+) (write-block-at t) write-block.Post
+write-block-returns-2 t c =
+    loop-one (c .before .before .before .before .before .before .before .before .before .before .before .before .before .args .codes .now) (c .before .before .before .before .before .before .before .before .before .before .before .before .before .args .words .now) (c .before .before .before .before .before .before .before .before .before .before .before .before .before .args .marks .now) (c .before .before .before .before .before .before .before .before .before .before .before .before .before .args .seen) (c .before .before .before .before .before .before .before .before .before .before .before .before .before .args .at) (c .before .before .before .before .before .before .before .before .before .before .before .before .before .args .k) _ (c .before .before .before .before .before .before .before .before .before .before .before .before .before .args .left) (c .before .before .before .before .before .before .before .before .count-run .result) (c .before .before .before .before .before .before .before .before .count-run .ensures) _ _ (c .before .before .before .before .before .before .if1 .taken) (c .before .before .before .before .before .if2 .left) (c .before .before .before .before .if3 .taken) (c .before .before .write-run .ensures)
+
+-- src/lib.rt:125:17
+write-block-sub-j : (t : ℕ) → write-block-lts.Need-sub-j (
+  count-run-reads.Asked,
+  count-run-reads.Learnt,
+  write-run-below t,
+  write-run.Post,
+  behind-reads.Asked,
+  behind-reads.Learnt,
+) (write-block-at t) write-block.Post
+write-block-sub-j t c = search needs
+
+-- src/lib.rt:125:17
+write-block-sub-j-2 : (t : ℕ) → write-block-lts.Need-sub-j-2 (
+  count-run-reads.Asked,
+  count-run-reads.Learnt,
+  write-run-below t,
+  write-run.Post,
+  behind-reads.Asked,
+  behind-reads.Learnt,
+) (write-block-at t) write-block.Post
+write-block-sub-j-2 t c = search needs
+
+-- src/lib.rt:126:54
+write-block-add-write-run-2 : (t : ℕ) → write-block-lts.Need-add-write-run-2 (
+  count-run-reads.Asked,
+  count-run-reads.Learnt,
+  write-run-below t,
+  write-run.Post,
+  behind-reads.Asked,
+  behind-reads.Learnt,
+) (write-block-at t) write-block.Post
+write-block-add-write-run-2 t c = search needs
+
+-- src/lib.rt:126:68
+write-block-div-write-run : (t : ℕ) → write-block-lts.Need-div-write-run (
+  count-run-reads.Asked,
+  count-run-reads.Learnt,
+  write-run-below t,
+  write-run.Post,
+  behind-reads.Asked,
+  behind-reads.Learnt,
+) (write-block-at t) write-block.Post
+write-block-div-write-run t c = search needs
+
+-- src/lib.rt:126:13
+write-block-write-run-requires-2 : (t : ℕ) → write-block-lts.Need-write-run-requires-2 (
+  count-run-reads.Asked,
+  count-run-reads.Learnt,
+  write-run-below t,
+  write-run.Post,
+  behind-reads.Asked,
+  behind-reads.Learnt,
+) (write-block-at t) write-block.Post
+write-block-write-run-requires-2 t c κs = search needs
+
+-- src/lib.rt:133:17
+write-block-add-write-run-3 : (t : ℕ) → write-block-lts.Need-add-write-run-3 (
+  count-run-reads.Asked,
+  count-run-reads.Learnt,
+  write-run-below t,
+  write-run.Post,
+  behind-reads.Asked,
+  behind-reads.Learnt,
+) (write-block-at t) write-block.Post
+write-block-add-write-run-3 t c = search needs
+
+-- src/lib.rt:135:17
+write-block-rem-write-run : (t : ℕ) → write-block-lts.Need-rem-write-run (
+  count-run-reads.Asked,
+  count-run-reads.Learnt,
+  write-run-below t,
+  write-run.Post,
+  behind-reads.Asked,
+  behind-reads.Learnt,
+) (write-block-at t) write-block.Post
+write-block-rem-write-run t c = search needs
+
+-- src/lib.rt:136:17
+write-block-mul-write-run : (t : ℕ) → write-block-lts.Need-mul-write-run (
+  count-run-reads.Asked,
+  count-run-reads.Learnt,
+  write-run-below t,
+  write-run.Post,
+  behind-reads.Asked,
+  behind-reads.Learnt,
+) (write-block-at t) write-block.Post
+write-block-mul-write-run t c = search needs
+
+-- src/lib.rt:136:17
+write-block-sub-write-run-2 : (t : ℕ) → write-block-lts.Need-sub-write-run-2 (
+  count-run-reads.Asked,
+  count-run-reads.Learnt,
+  write-run-below t,
+  write-run.Post,
+  behind-reads.Asked,
+  behind-reads.Learnt,
+) (write-block-at t) write-block.Post
+write-block-sub-write-run-2 t c = search needs
+
+-- src/lib.rt:136:17
+write-block-part-write-run-start : (t : ℕ) → write-block-lts.Need-part-write-run-start (
+  count-run-reads.Asked,
+  count-run-reads.Learnt,
+  write-run-below t,
+  write-run.Post,
+  behind-reads.Asked,
+  behind-reads.Learnt,
+) (write-block-at t) write-block.Post
+write-block-part-write-run-start t c = search needs
+
+-- src/lib.rt:136:17
+write-block-part-write-run-end : (t : ℕ) → write-block-lts.Need-part-write-run-end (
+  count-run-reads.Asked,
+  count-run-reads.Learnt,
+  write-run-below t,
+  write-run.Post,
+  behind-reads.Asked,
+  behind-reads.Learnt,
+) (write-block-at t) write-block.Post
+write-block-part-write-run-end t c = search needs
+
+-- src/lib.rt:128:15
+write-block-write-run-requires-3 : (t : ℕ) → write-block-lts.Need-write-run-requires-3 (
+  count-run-reads.Asked,
+  count-run-reads.Learnt,
+  write-run-below t,
+  write-run.Post,
+  behind-reads.Asked,
+  behind-reads.Learnt,
+) (write-block-at t) write-block.Post
+write-block-write-run-requires-3 t c κs = search needs
+
+-- src/lib.rt:127:16
+write-block-add-result : (t : ℕ) → write-block-lts.Need-add-result (
+  count-run-reads.Asked,
+  count-run-reads.Learnt,
+  write-run-below t,
+  write-run.Post,
+  behind-reads.Asked,
+  behind-reads.Learnt,
+) (write-block-at t) write-block.Post
+write-block-add-result t c =
+    omega (arith, lays-inside _ _ (c .before .before .before .before .before .before .before .before .before .before .before .before .before .before .before .before .before .args .out .now) _ _ _ _ (c .before .before .before .before .before .before .write-run2 .ensures) (c .before .before .write-run3 .ensures), (c .before .before .before .before .before .before .before .before .before .before .before .before .before .before .before .before .before .good .1 .1 .1 .1 .1 .1 .1 .0))
+
+-- src/lib.rt:127:9
+write-block-same-length-2 : (t : ℕ) → write-block-lts.Need-same-length-2 (
+  count-run-reads.Asked,
+  count-run-reads.Learnt,
+  write-run-below t,
+  write-run.Post,
+  behind-reads.Asked,
+  behind-reads.Learnt,
+) (write-block-at t) write-block.Post
+write-block-same-length-2 t c = search needs
+
+-- src/lib.rt:127:9
+write-block-returns-3 : (t : ℕ) → write-block-lts.Need-returns-3 (
+  count-run-reads.Asked,
+  count-run-reads.Learnt,
+  write-run-below t,
+  write-run.Post,
+  behind-reads.Asked,
+  behind-reads.Learnt,
+) (write-block-at t) write-block.Post
+write-block-returns-3 t c =
+    loop-two (c .before .before .before .before .before .before .before .before .before .before .before .before .before .before .before .before .before .args .codes .now) (c .before .before .before .before .before .before .before .before .before .before .before .before .before .before .before .before .before .args .words .now) (c .before .before .before .before .before .before .before .before .before .before .before .before .before .before .before .before .before .args .marks .now) (c .before .before .before .before .before .before .before .before .before .before .before .before .before .before .before .before .before .args .seen) (c .before .before .before .before .before .before .before .before .before .before .before .before .before .before .before .before .before .args .at) (c .before .before .before .before .before .before .before .before .before .before .before .before .before .before .before .before .before .args .k) _ (c .before .before .before .before .before .before .before .before .before .before .before .before .before .before .before .before .before .args .left) (c .before .before .before .before .before .before .before .before .before .before .before .before .count-run .result) (c .before .before .before .before .before .before .before .before .before .before .before .before .count-run .ensures) _ _ _ _ (c .before .before .before .before .before .before .before .before .before .before .if1 .taken) (c .before .before .before .before .before .before .before .before .before .if2 .left) (c .before .before .before .before .before .before .before .before .if3 .left) (c .before .before .before .before .before .before .write-run2 .ensures) (c .before .before .write-run3 .ensures)
+
+-- src/lib.rt:140:53
+write-block-add-write-run-4 : (t : ℕ) → write-block-lts.Need-add-write-run-4 (
+  count-run-reads.Asked,
+  count-run-reads.Learnt,
+  write-run-below t,
+  write-run.Post,
+  behind-reads.Asked,
+  behind-reads.Learnt,
+) (write-block-at t) write-block.Post
+write-block-add-write-run-4 t c = search needs
+
+-- src/lib.rt:140:9
+write-block-write-run-requires-4 : (t : ℕ) → write-block-lts.Need-write-run-requires-4 (
+  count-run-reads.Asked,
+  count-run-reads.Learnt,
+  write-run-below t,
+  write-run.Post,
+  behind-reads.Asked,
+  behind-reads.Learnt,
+) (write-block-at t) write-block.Post
+write-block-write-run-requires-4 t c κs = search needs
+
+-- src/lib.rt:140:9
+write-block-same-length-3 : (t : ℕ) → write-block-lts.Need-same-length-3 (
+  count-run-reads.Asked,
+  count-run-reads.Learnt,
+  write-run-below t,
+  write-run.Post,
+  behind-reads.Asked,
+  behind-reads.Learnt,
+) (write-block-at t) write-block.Post
+write-block-same-length-3 t c = search needs
+
+-- src/lib.rt:140:9
+write-block-returns-4 : (t : ℕ) → write-block-lts.Need-returns-4 (
+  count-run-reads.Asked,
+  count-run-reads.Learnt,
+  write-run-below t,
+  write-run.Post,
+  behind-reads.Asked,
+  behind-reads.Learnt,
+) (write-block-at t) write-block.Post
+write-block-returns-4 t c =
+    branch-one (c .before .before .before .before .before .before .before .before .before .before .before .before .args .codes .now) (c .before .before .before .before .before .before .before .before .before .before .before .before .args .words .now) (c .before .before .before .before .before .before .before .before .before .before .before .before .args .marks .now) (c .before .before .before .before .before .before .before .before .before .before .before .before .args .seen) (c .before .before .before .before .before .before .before .before .before .before .before .before .args .at) (c .before .before .before .before .before .before .before .before .before .before .before .before .args .k) _ (c .before .before .before .before .before .before .before .before .before .before .before .before .args .left) (c .before .before .before .before .before .before .before .count-run .result) (c .before .before .before .before .before .before .before .count-run .ensures) _ _ (c .before .before .before .before .before .if1 .left) (c .before .before .before .before .if4 .taken) (c .before .before .write-run4 .ensures)
+
+-- src/lib.rt:147:9
+write-block-behind-requires : (t : ℕ) → write-block-lts.Need-behind-requires (
+  count-run-reads.Asked,
+  count-run-reads.Learnt,
+  write-run-below t,
+  write-run.Post,
+  behind-reads.Asked,
+  behind-reads.Learnt,
+) (write-block-at t) write-block.Post
+write-block-behind-requires t c κs = search needs
+
+-- src/lib.rt:142:5
+write-block-write-run-requires-5 : (t : ℕ) → write-block-lts.Need-write-run-requires-5 (
+  count-run-reads.Asked,
+  count-run-reads.Learnt,
+  write-run-below t,
+  write-run.Post,
+  behind-reads.Asked,
+  behind-reads.Learnt,
+) (write-block-at t) write-block.Post
+write-block-write-run-requires-5 t c κs = search needs
+
+-- src/lib.rt:103:1
+write-block-same-length-4 : (t : ℕ) → write-block-lts.Need-same-length-4 (
+  count-run-reads.Asked,
+  count-run-reads.Learnt,
+  write-run-below t,
+  write-run.Post,
+  behind-reads.Asked,
+  behind-reads.Learnt,
+) (write-block-at t) write-block.Post
+write-block-same-length-4 t c = search needs
+
+-- src/lib.rt:103:1
+write-block-returns-5 : (t : ℕ) → write-block-lts.Need-returns-5 (
+  count-run-reads.Asked,
+  count-run-reads.Learnt,
+  write-run-below t,
+  write-run.Post,
+  behind-reads.Asked,
+  behind-reads.Learnt,
+) (write-block-at t) write-block.Post
+write-block-returns-5 t c =
+    branch-two (c .before .before .before .before .before .before .before .before .before .before .before .before .before .args .codes .now) (c .before .before .before .before .before .before .before .before .before .before .before .before .before .args .words .now) (c .before .before .before .before .before .before .before .before .before .before .before .before .before .args .marks .now) (c .before .before .before .before .before .before .before .before .before .before .before .before .before .args .seen) (c .before .before .before .before .before .before .before .before .before .before .before .before .before .args .at) (c .before .before .before .before .before .before .before .before .before .before .before .before .before .args .k) _ (c .before .before .before .before .before .before .before .before .before .before .before .before .before .args .left) (c .before .before .before .before .before .before .before .before .count-run .result) (c .before .before .before .before .before .before .before .before .count-run .ensures) _ _ _ (c .before .before .before .before .behind .ensures) (c .before .before .before .before .before .before .if1 .left) (c .before .before .before .before .before .if4 .left) (c .before .before .write-run5 .ensures)
+
+-- src/lib.rt:63:9
+write-run-returns : (t : ℕ) → write-run-lts.Need-returns (
+  word-at-reads.Asked,
+  word-at-reads.Learnt,
+  lay-word-reads.Asked,
+  lay-word-reads.Learnt,
+  mark-at-reads.Asked,
+  mark-at-reads.Learnt,
+  write-run-below t,
+  write-run.Post,
+  count-place-reads.Asked,
+  count-place-reads.Learnt,
+  count-run-reads.Asked,
+  count-run-reads.Learnt,
+  write-block-below t,
+  write-block.Post,
+) (write-run-at t) write-run.Post
+write-run-returns t c =
+    run-none (c .before .before .before .before .before .args .codes .now) (c .before .before .before .before .before .args .words .now) (c .before .before .before .before .before .args .marks .now) (c .before .before .before .before .before .args .seen) (c .before .before .before .before .before .args .at) (c .before .before .before .before .before .args .k) _ (c .before .before .before .before .before .args .left) (c .if1 .taken)
+
+-- src/lib.rt:66:9
+write-run-returns-2 : (t : ℕ) → write-run-lts.Need-returns-2 (
+  word-at-reads.Asked,
+  word-at-reads.Learnt,
+  lay-word-reads.Asked,
+  lay-word-reads.Learnt,
+  mark-at-reads.Asked,
+  mark-at-reads.Learnt,
+  write-run-below t,
+  write-run.Post,
+  count-place-reads.Asked,
+  count-place-reads.Learnt,
+  count-run-reads.Asked,
+  count-run-reads.Learnt,
+  write-block-below t,
+  write-block.Post,
+) (write-run-at t) write-run.Post
+write-run-returns-2 t c =
+    run-past (c .before .before .before .before .before .before .args .codes .now) (c .before .before .before .before .before .before .args .words .now) (c .before .before .before .before .before .before .args .marks .now) (c .before .before .before .before .before .before .args .seen) (c .before .before .before .before .before .before .args .at) (c .before .before .before .before .before .before .args .k) _ (c .before .before .before .before .before .before .args .left) (c .if2 .taken)
+
+-- src/lib.rt:68:8
+write-run-shared-slice-read-if3 : (t : ℕ) → write-run-lts.Need-shared-slice-read-if3 (
+  word-at-reads.Asked,
+  word-at-reads.Learnt,
+  lay-word-reads.Asked,
+  lay-word-reads.Learnt,
+  mark-at-reads.Asked,
+  mark-at-reads.Learnt,
+  write-run-below t,
+  write-run.Post,
+  count-place-reads.Asked,
+  count-place-reads.Learnt,
+  count-run-reads.Asked,
+  count-run-reads.Learnt,
+  write-block-below t,
+  write-block.Post,
+) (write-run-at t) write-run.Post
+write-run-shared-slice-read-if3 t c = search needs
+
+-- src/lib.rt:69:9
+write-run-returns-3 : (t : ℕ) → write-run-lts.Need-returns-3 (
+  word-at-reads.Asked,
+  word-at-reads.Learnt,
+  lay-word-reads.Asked,
+  lay-word-reads.Learnt,
+  mark-at-reads.Asked,
+  mark-at-reads.Learnt,
+  write-run-below t,
+  write-run.Post,
+  count-place-reads.Asked,
+  count-place-reads.Learnt,
+  count-run-reads.Asked,
+  count-run-reads.Learnt,
+  write-block-below t,
+  write-block.Post,
+) (write-run-at t) write-run.Post
+write-run-returns-3 t c =
+    run-stop (c .before .before .before .before .before .before .before .before .args .codes .now) (c .before .before .before .before .before .before .before .before .args .words .now) (c .before .before .before .before .before .before .before .before .args .marks .now) (c .before .before .before .before .before .before .before .before .args .seen) (c .before .before .before .before .before .before .before .before .args .at) (c .before .before .before .before .before .before .before .before .args .k) _ (c .before .before .before .before .before .before .before .before .args .left) (c .before .before .if2 .left) (c .if3 .taken)
+
+-- src/lib.rt:71:8
+write-run-shared-slice-read-if4 : (t : ℕ) → write-run-lts.Need-shared-slice-read-if4 (
+  word-at-reads.Asked,
+  word-at-reads.Learnt,
+  lay-word-reads.Asked,
+  lay-word-reads.Learnt,
+  mark-at-reads.Asked,
+  mark-at-reads.Learnt,
+  write-run-below t,
+  write-run.Post,
+  count-place-reads.Asked,
+  count-place-reads.Learnt,
+  count-run-reads.Asked,
+  count-run-reads.Learnt,
+  write-block-below t,
+  write-block.Post,
+) (write-run-at t) write-run.Post
+write-run-shared-slice-read-if4 t c = search needs
+
+-- src/lib.rt:72:28
+write-run-word-at-requires : (t : ℕ) → write-run-lts.Need-word-at-requires (
+  word-at-reads.Asked,
+  word-at-reads.Learnt,
+  lay-word-reads.Asked,
+  lay-word-reads.Learnt,
+  mark-at-reads.Asked,
+  mark-at-reads.Learnt,
+  write-run-below t,
+  write-run.Post,
+  count-place-reads.Asked,
+  count-place-reads.Learnt,
+  count-run-reads.Asked,
+  count-run-reads.Learnt,
+  write-block-below t,
+  write-block.Post,
+) (write-run-at t) write-run.Post
+write-run-word-at-requires t c κs = search needs
+
+-- src/lib.rt:72:13
+write-run-lay-word-requires : (t : ℕ) → write-run-lts.Need-lay-word-requires (
+  word-at-reads.Asked,
+  word-at-reads.Learnt,
+  lay-word-reads.Asked,
+  lay-word-reads.Learnt,
+  mark-at-reads.Asked,
+  mark-at-reads.Learnt,
+  write-run-below t,
+  write-run.Post,
+  count-place-reads.Asked,
+  count-place-reads.Learnt,
+  count-run-reads.Asked,
+  count-run-reads.Learnt,
+  write-block-below t,
+  write-block.Post,
+) (write-run-at t) write-run.Post
+write-run-lay-word-requires t c κs = search needs
+
+-- src/lib.rt:78:24
+write-run-mark-at-requires : (t : ℕ) → write-run-lts.Need-mark-at-requires (
+  word-at-reads.Asked,
+  word-at-reads.Learnt,
+  lay-word-reads.Asked,
+  lay-word-reads.Learnt,
+  mark-at-reads.Asked,
+  mark-at-reads.Learnt,
+  write-run-below t,
+  write-run.Post,
+  count-place-reads.Asked,
+  count-place-reads.Learnt,
+  count-run-reads.Asked,
+  count-run-reads.Learnt,
+  write-block-below t,
+  write-block.Post,
+) (write-run-at t) write-run.Post
+write-run-mark-at-requires t c κs = search needs
+
+-- src/lib.rt:79:17
+write-run-add-write-run : (t : ℕ) → write-run-lts.Need-add-write-run (
+  word-at-reads.Asked,
+  word-at-reads.Learnt,
+  lay-word-reads.Asked,
+  lay-word-reads.Learnt,
+  mark-at-reads.Asked,
+  mark-at-reads.Learnt,
+  write-run-below t,
+  write-run.Post,
+  count-place-reads.Asked,
+  count-place-reads.Learnt,
+  count-run-reads.Asked,
+  count-run-reads.Learnt,
+  write-block-below t,
+  write-block.Post,
+) (write-run-at t) write-run.Post
+write-run-add-write-run t c = search needs
+
+-- src/lib.rt:80:17
+write-run-sub-write-run : (t : ℕ) → write-run-lts.Need-sub-write-run (
+  word-at-reads.Asked,
+  word-at-reads.Learnt,
+  lay-word-reads.Asked,
+  lay-word-reads.Learnt,
+  mark-at-reads.Asked,
+  mark-at-reads.Learnt,
+  write-run-below t,
+  write-run.Post,
+  count-place-reads.Asked,
+  count-place-reads.Learnt,
+  count-run-reads.Asked,
+  count-run-reads.Learnt,
+  write-block-below t,
+  write-block.Post,
+) (write-run-at t) write-run.Post
+write-run-sub-write-run t c = search needs
+
+-- src/lib.rt:82:17
+write-run-mul-write-run : (t : ℕ) → write-run-lts.Need-mul-write-run (
+  word-at-reads.Asked,
+  word-at-reads.Learnt,
+  lay-word-reads.Asked,
+  lay-word-reads.Learnt,
+  mark-at-reads.Asked,
+  mark-at-reads.Learnt,
+  write-run-below t,
+  write-run.Post,
+  count-place-reads.Asked,
+  count-place-reads.Learnt,
+  count-run-reads.Asked,
+  count-run-reads.Learnt,
+  write-block-below t,
+  write-block.Post,
+) (write-run-at t) write-run.Post
+write-run-mul-write-run t c = search needs
+
+-- src/lib.rt:82:17
+write-run-sub-write-run-2 : (t : ℕ) → write-run-lts.Need-sub-write-run-2 (
+  word-at-reads.Asked,
+  word-at-reads.Learnt,
+  lay-word-reads.Asked,
+  lay-word-reads.Learnt,
+  mark-at-reads.Asked,
+  mark-at-reads.Learnt,
+  write-run-below t,
+  write-run.Post,
+  count-place-reads.Asked,
+  count-place-reads.Learnt,
+  count-run-reads.Asked,
+  count-run-reads.Learnt,
+  write-block-below t,
+  write-block.Post,
+) (write-run-at t) write-run.Post
+write-run-sub-write-run-2 t c = search needs
+
+-- src/lib.rt:82:17
+write-run-part-write-run-start : (t : ℕ) → write-run-lts.Need-part-write-run-start (
+  word-at-reads.Asked,
+  word-at-reads.Learnt,
+  lay-word-reads.Asked,
+  lay-word-reads.Learnt,
+  mark-at-reads.Asked,
+  mark-at-reads.Learnt,
+  write-run-below t,
+  write-run.Post,
+  count-place-reads.Asked,
+  count-place-reads.Learnt,
+  count-run-reads.Asked,
+  count-run-reads.Learnt,
+  write-block-below t,
+  write-block.Post,
+) (write-run-at t) write-run.Post
+write-run-part-write-run-start t c = search needs
+
+-- src/lib.rt:82:17
+write-run-part-write-run-end : (t : ℕ) → write-run-lts.Need-part-write-run-end (
+  word-at-reads.Asked,
+  word-at-reads.Learnt,
+  lay-word-reads.Asked,
+  lay-word-reads.Learnt,
+  mark-at-reads.Asked,
+  mark-at-reads.Learnt,
+  write-run-below t,
+  write-run.Post,
+  count-place-reads.Asked,
+  count-place-reads.Learnt,
+  count-run-reads.Asked,
+  count-run-reads.Learnt,
+  write-block-below t,
+  write-block.Post,
+) (write-run-at t) write-run.Post
+write-run-part-write-run-end t c = search needs
+
+-- src/lib.rt:74:15
+write-run-write-run-requires : (t : ℕ) → write-run-lts.Need-write-run-requires (
+  word-at-reads.Asked,
+  word-at-reads.Learnt,
+  lay-word-reads.Asked,
+  lay-word-reads.Learnt,
+  mark-at-reads.Asked,
+  mark-at-reads.Learnt,
+  write-run-below t,
+  write-run.Post,
+  count-place-reads.Asked,
+  count-place-reads.Learnt,
+  count-run-reads.Asked,
+  count-run-reads.Learnt,
+  write-block-below t,
+  write-block.Post,
+) (write-run-at t) write-run.Post
+write-run-write-run-requires t c κs = search needs
+
+-- src/lib.rt:73:16
+write-run-add-result : (t : ℕ) → write-run-lts.Need-add-result (
+  word-at-reads.Asked,
+  word-at-reads.Learnt,
+  lay-word-reads.Asked,
+  lay-word-reads.Learnt,
+  mark-at-reads.Asked,
+  mark-at-reads.Learnt,
+  write-run-below t,
+  write-run.Post,
+  count-place-reads.Asked,
+  count-place-reads.Learnt,
+  count-run-reads.Asked,
+  count-run-reads.Learnt,
+  write-block-below t,
+  write-block.Post,
+) (write-run-at t) write-run.Post
+write-run-add-result t c =
+    omega (arith, lays-inside _ _ (c .before .before .before .before .before .before .before .before .before .before .before .before .before .before .before .before .before .before .before .before .args .out .now) _ _ _ _ (c .before .before .before .before .before .before .before .lay-word .ensures) (c .before .before .write-run .ensures))
+
+-- src/lib.rt:73:9
+write-run-same-length : (t : ℕ) → write-run-lts.Need-same-length (
+  word-at-reads.Asked,
+  word-at-reads.Learnt,
+  lay-word-reads.Asked,
+  lay-word-reads.Learnt,
+  mark-at-reads.Asked,
+  mark-at-reads.Learnt,
+  write-run-below t,
+  write-run.Post,
+  count-place-reads.Asked,
+  count-place-reads.Learnt,
+  count-run-reads.Asked,
+  count-run-reads.Learnt,
+  write-block-below t,
+  write-block.Post,
+) (write-run-at t) write-run.Post
+write-run-same-length t c = search needs
+
+-- src/lib.rt:73:9
+write-run-returns-4 : (t : ℕ) → write-run-lts.Need-returns-4 (
+  word-at-reads.Asked,
+  word-at-reads.Learnt,
+  lay-word-reads.Asked,
+  lay-word-reads.Learnt,
+  mark-at-reads.Asked,
+  mark-at-reads.Learnt,
+  write-run-below t,
+  write-run.Post,
+  count-place-reads.Asked,
+  count-place-reads.Learnt,
+  count-run-reads.Asked,
+  count-run-reads.Learnt,
+  write-block-below t,
+  write-block.Post,
+) (write-run-at t) write-run.Post
+write-run-returns-4 t c =
+    run-statement (c .before .before .before .before .before .before .before .before .before .before .before .before .before .before .before .before .before .before .before .before .args .codes .now) (c .before .before .before .before .before .before .before .before .before .before .before .before .before .before .before .before .before .before .before .before .args .words .now) (c .before .before .before .before .before .before .before .before .before .before .before .before .before .before .before .before .before .before .before .before .args .marks .now) (c .before .before .before .before .before .before .before .before .before .before .before .before .before .before .before .before .before .before .before .before .args .seen) (c .before .before .before .before .before .before .before .before .before .before .before .before .before .before .before .before .before .before .before .before .args .at) (c .before .before .before .before .before .before .before .before .before .before .before .before .before .before .before .before .before .before .before .before .args .k) _ _ _ _ _ (c .before .before .before .before .before .before .before .before .before .before .before .before .before .before .before .before .before .before .before .before .args .left) _ _ (c .before .before .before .before .before .before .before .before .before .before .before .before .before .before .before .if1 .left) (c .before .before .before .before .before .before .before .before .before .before .before .before .before .before .if2 .left) (c .before .before .before .before .before .before .before .before .before .before .if4 .taken) (c .before .before .before .before .before .before .before .before .before .word-at .ensures) (c .before .before .before .before .mark-at .ensures) (c .before .before .before .before .before .before .before .lay-word .ensures) (c .before .before .write-run .ensures)
+
+-- src/lib.rt:85:36
+write-run-sub-count-place : (t : ℕ) → write-run-lts.Need-sub-count-place (
+  word-at-reads.Asked,
+  word-at-reads.Learnt,
+  lay-word-reads.Asked,
+  lay-word-reads.Learnt,
+  mark-at-reads.Asked,
+  mark-at-reads.Learnt,
+  write-run-below t,
+  write-run.Post,
+  count-place-reads.Asked,
+  count-place-reads.Learnt,
+  count-run-reads.Asked,
+  count-run-reads.Learnt,
+  write-block-below t,
+  write-block.Post,
+) (write-run-at t) write-run.Post
+write-run-sub-count-place t c = search needs
+
+-- src/lib.rt:85:9
+write-run-count-place-requires : (t : ℕ) → write-run-lts.Need-count-place-requires (
+  word-at-reads.Asked,
+  word-at-reads.Learnt,
+  lay-word-reads.Asked,
+  lay-word-reads.Learnt,
+  mark-at-reads.Asked,
+  mark-at-reads.Learnt,
+  write-run-below t,
+  write-run.Post,
+  count-place-reads.Asked,
+  count-place-reads.Learnt,
+  count-run-reads.Asked,
+  count-run-reads.Learnt,
+  write-block-below t,
+  write-block.Post,
+) (write-run-at t) write-run.Post
+write-run-count-place-requires t c κs = search needs
+
+-- src/lib.rt:86:40
+write-run-sub-count-run : (t : ℕ) → write-run-lts.Need-sub-count-run (
+  word-at-reads.Asked,
+  word-at-reads.Learnt,
+  lay-word-reads.Asked,
+  lay-word-reads.Learnt,
+  mark-at-reads.Asked,
+  mark-at-reads.Learnt,
+  write-run-below t,
+  write-run.Post,
+  count-place-reads.Asked,
+  count-place-reads.Learnt,
+  count-run-reads.Asked,
+  count-run-reads.Learnt,
+  write-block-below t,
+  write-block.Post,
+) (write-run-at t) write-run.Post
+write-run-sub-count-run t c = search needs
+
+-- src/lib.rt:86:9
+write-run-count-run-requires : (t : ℕ) → write-run-lts.Need-count-run-requires (
+  word-at-reads.Asked,
+  word-at-reads.Learnt,
+  lay-word-reads.Asked,
+  lay-word-reads.Learnt,
+  mark-at-reads.Asked,
+  mark-at-reads.Learnt,
+  write-run-below t,
+  write-run.Post,
+  count-place-reads.Asked,
+  count-place-reads.Learnt,
+  count-run-reads.Asked,
+  count-run-reads.Learnt,
+  write-block-below t,
+  write-block.Post,
+) (write-run-at t) write-run.Post
+write-run-count-run-requires t c κs = search needs
+
+-- src/lib.rt:88:56
+write-run-sub-write-block : (t : ℕ) → write-run-lts.Need-sub-write-block (
+  word-at-reads.Asked,
+  word-at-reads.Learnt,
+  lay-word-reads.Asked,
+  lay-word-reads.Learnt,
+  mark-at-reads.Asked,
+  mark-at-reads.Learnt,
+  write-run-below t,
+  write-run.Post,
+  count-place-reads.Asked,
+  count-place-reads.Learnt,
+  count-run-reads.Asked,
+  count-run-reads.Learnt,
+  write-block-below t,
+  write-block.Post,
+) (write-run-at t) write-run.Post
+write-run-sub-write-block t c = search needs
+
+-- src/lib.rt:88:66
+write-run-div-write-block : (t : ℕ) → write-run-lts.Need-div-write-block (
+  word-at-reads.Asked,
+  word-at-reads.Learnt,
+  lay-word-reads.Asked,
+  lay-word-reads.Learnt,
+  mark-at-reads.Asked,
+  mark-at-reads.Learnt,
+  write-run-below t,
+  write-run.Post,
+  count-place-reads.Asked,
+  count-place-reads.Learnt,
+  count-run-reads.Asked,
+  count-run-reads.Learnt,
+  write-block-below t,
+  write-block.Post,
+) (write-run-at t) write-run.Post
+write-run-div-write-block t c = search needs
+
+-- src/lib.rt:88:9
+write-run-write-block-requires : (t : ℕ) → write-run-lts.Need-write-block-requires (
+  word-at-reads.Asked,
+  word-at-reads.Learnt,
+  lay-word-reads.Asked,
+  lay-word-reads.Learnt,
+  mark-at-reads.Asked,
+  mark-at-reads.Learnt,
+  write-run-below t,
+  write-run.Post,
+  count-place-reads.Asked,
+  count-place-reads.Learnt,
+  count-run-reads.Asked,
+  count-run-reads.Learnt,
+  write-block-below t,
+  write-block.Post,
+) (write-run-at t) write-run.Post
+write-run-write-block-requires t c κs = search needs
+
+-- src/lib.rt:96:13
+write-run-sub-write-run-3 : (t : ℕ) → write-run-lts.Need-sub-write-run-3 (
+  word-at-reads.Asked,
+  word-at-reads.Learnt,
+  lay-word-reads.Asked,
+  lay-word-reads.Learnt,
+  mark-at-reads.Asked,
+  mark-at-reads.Learnt,
+  write-run-below t,
+  write-run.Post,
+  count-place-reads.Asked,
+  count-place-reads.Learnt,
+  count-run-reads.Asked,
+  count-run-reads.Learnt,
+  write-block-below t,
+  write-block.Post,
+) (write-run-at t) write-run.Post
+write-run-sub-write-run-3 t c = search needs
+
+-- src/lib.rt:97:13
+write-run-rem-write-run : (t : ℕ) → write-run-lts.Need-rem-write-run (
+  word-at-reads.Asked,
+  word-at-reads.Learnt,
+  lay-word-reads.Asked,
+  lay-word-reads.Learnt,
+  mark-at-reads.Asked,
+  mark-at-reads.Learnt,
+  write-run-below t,
+  write-run.Post,
+  count-place-reads.Asked,
+  count-place-reads.Learnt,
+  count-run-reads.Asked,
+  count-run-reads.Learnt,
+  write-block-below t,
+  write-block.Post,
+) (write-run-at t) write-run.Post
+write-run-rem-write-run t c = search needs
+
+-- src/lib.rt:98:13
+write-run-mul-write-run-2 : (t : ℕ) → write-run-lts.Need-mul-write-run-2 (
+  word-at-reads.Asked,
+  word-at-reads.Learnt,
+  lay-word-reads.Asked,
+  lay-word-reads.Learnt,
+  mark-at-reads.Asked,
+  mark-at-reads.Learnt,
+  write-run-below t,
+  write-run.Post,
+  count-place-reads.Asked,
+  count-place-reads.Learnt,
+  count-run-reads.Asked,
+  count-run-reads.Learnt,
+  write-block-below t,
+  write-block.Post,
+) (write-run-at t) write-run.Post
+write-run-mul-write-run-2 t c =
+    let h : (c .before .before .write-block .result) ≤ length (c .before .before .before .before .before .before .before .before .before .before .before .before .before .before .before .before .args .out .now) = (c .before .before .write-block .ensures .inside) in search (needs, h, (c .before .before .before .before .before .before .before .before .before .before .before .before .before .before .before .before .good .1 .1 .1 .1 .1 .1 .1 .0))
+
+-- src/lib.rt:98:13
+write-run-sub-write-run-4 : (t : ℕ) → write-run-lts.Need-sub-write-run-4 (
+  word-at-reads.Asked,
+  word-at-reads.Learnt,
+  lay-word-reads.Asked,
+  lay-word-reads.Learnt,
+  mark-at-reads.Asked,
+  mark-at-reads.Learnt,
+  write-run-below t,
+  write-run.Post,
+  count-place-reads.Asked,
+  count-place-reads.Learnt,
+  count-run-reads.Asked,
+  count-run-reads.Learnt,
+  write-block-below t,
+  write-block.Post,
+) (write-run-at t) write-run.Post
+write-run-sub-write-run-4 t c = search needs
+
+-- src/lib.rt:98:13
+write-run-part-write-run-start-2 : (t : ℕ) → write-run-lts.Need-part-write-run-start-2 (
+  word-at-reads.Asked,
+  word-at-reads.Learnt,
+  lay-word-reads.Asked,
+  lay-word-reads.Learnt,
+  mark-at-reads.Asked,
+  mark-at-reads.Learnt,
+  write-run-below t,
+  write-run.Post,
+  count-place-reads.Asked,
+  count-place-reads.Learnt,
+  count-run-reads.Asked,
+  count-run-reads.Learnt,
+  write-block-below t,
+  write-block.Post,
+) (write-run-at t) write-run.Post
+write-run-part-write-run-start-2 t c = search needs
+
+-- src/lib.rt:98:13
+write-run-part-write-run-end-2 : (t : ℕ) → write-run-lts.Need-part-write-run-end-2 (
+  word-at-reads.Asked,
+  word-at-reads.Learnt,
+  lay-word-reads.Asked,
+  lay-word-reads.Learnt,
+  mark-at-reads.Asked,
+  mark-at-reads.Learnt,
+  write-run-below t,
+  write-run.Post,
+  count-place-reads.Asked,
+  count-place-reads.Learnt,
+  count-run-reads.Asked,
+  count-run-reads.Learnt,
+  write-block-below t,
+  write-block.Post,
+) (write-run-at t) write-run.Post
+write-run-part-write-run-end-2 t c = search needs
+
+-- src/lib.rt:90:11
+write-run-write-run-requires-2 : (t : ℕ) → write-run-lts.Need-write-run-requires-2 (
+  word-at-reads.Asked,
+  word-at-reads.Learnt,
+  lay-word-reads.Asked,
+  lay-word-reads.Learnt,
+  mark-at-reads.Asked,
+  mark-at-reads.Learnt,
+  write-run-below t,
+  write-run.Post,
+  count-place-reads.Asked,
+  count-place-reads.Learnt,
+  count-run-reads.Asked,
+  count-run-reads.Learnt,
+  write-block-below t,
+  write-block.Post,
+) (write-run-at t) write-run.Post
+write-run-write-run-requires-2 t c κs = search needs
+
+-- src/lib.rt:89:5
+write-run-add-result-2 : (t : ℕ) → write-run-lts.Need-add-result-2 (
+  word-at-reads.Asked,
+  word-at-reads.Learnt,
+  lay-word-reads.Asked,
+  lay-word-reads.Learnt,
+  mark-at-reads.Asked,
+  mark-at-reads.Learnt,
+  write-run-below t,
+  write-run.Post,
+  count-place-reads.Asked,
+  count-place-reads.Learnt,
+  count-run-reads.Asked,
+  count-run-reads.Learnt,
+  write-block-below t,
+  write-block.Post,
+) (write-run-at t) write-run.Post
+write-run-add-result-2 t c =
+    omega (arith, lays-inside _ _ (c .before .before .before .before .before .before .before .before .before .before .before .before .before .before .before .before .before .before .before .before .args .out .now) _ _ _ _ (c .before .before .before .before .before .before .write-block .ensures) (c .before .before .write-run2 .ensures), (c .before .before .before .before .before .before .before .before .before .before .before .before .before .before .before .before .before .before .before .before .good .1 .1 .1 .1 .1 .1 .1 .0))
+
+-- src/lib.rt:50:1
+write-run-same-length-2 : (t : ℕ) → write-run-lts.Need-same-length-2 (
+  word-at-reads.Asked,
+  word-at-reads.Learnt,
+  lay-word-reads.Asked,
+  lay-word-reads.Learnt,
+  mark-at-reads.Asked,
+  mark-at-reads.Learnt,
+  write-run-below t,
+  write-run.Post,
+  count-place-reads.Asked,
+  count-place-reads.Learnt,
+  count-run-reads.Asked,
+  count-run-reads.Learnt,
+  write-block-below t,
+  write-block.Post,
+) (write-run-at t) write-run.Post
+write-run-same-length-2 t c = search needs
+
+-- src/lib.rt:50:1
+write-run-returns-5 : (t : ℕ) → write-run-lts.Need-returns-5 (
+  word-at-reads.Asked,
+  word-at-reads.Learnt,
+  lay-word-reads.Asked,
+  lay-word-reads.Learnt,
+  mark-at-reads.Asked,
+  mark-at-reads.Learnt,
+  write-run-below t,
+  write-run.Post,
+  count-place-reads.Asked,
+  count-place-reads.Learnt,
+  count-run-reads.Asked,
+  count-run-reads.Learnt,
+  write-block-below t,
+  write-block.Post,
+) (write-run-at t) write-run.Post
+write-run-returns-5 t c =
+    run-block (c .before .before .before .before .before .before .before .before .before .before .before .before .before .before .before .before .before .before .before .before .args .codes .now) (c .before .before .before .before .before .before .before .before .before .before .before .before .before .before .before .before .before .before .before .before .args .words .now) (c .before .before .before .before .before .before .before .before .before .before .before .before .before .before .before .before .before .before .before .before .args .marks .now) (c .before .before .before .before .before .before .before .before .before .before .before .before .before .before .before .before .before .before .before .before .args .seen) (c .before .before .before .before .before .before .before .before .before .before .before .before .before .before .before .before .before .before .before .before .args .at) (c .before .before .before .before .before .before .before .before .before .before .before .before .before .before .before .before .before .before .before .before .args .k) _ _ _ _ _ (c .before .before .before .before .before .before .before .before .before .before .before .before .before .before .before .before .before .before .before .before .args .left) (c .before .before .before .before .before .before .before .before .before .count-place .result) (c .before .before .before .before .before .before .before .before .count-run .result) (c .before .before .before .before .before .before .before .before .before .before .before .before .before .before .before .if1 .left) (c .before .before .before .before .before .before .before .before .before .before .before .before .before .before .if2 .left) (c .before .before .before .before .before .before .before .before .before .before .before .before .if3 .left) (c .before .before .before .before .before .before .before .before .before .before .if4 .left) (c .before .before .before .before .before .before .before .before .before .count-place .ensures) (c .before .before .before .before .before .before .before .before .count-run .ensures) (c .before .before .before .before .before .before .write-block .ensures) (c .before .before .write-run2 .ensures)
+
+pub +write-block+write-run-spec : {M : Type 1} → statement M
++write-block+write-run-spec = close μ-write-block μ-write-run (λ t. write-block-lts.spec (
+  count-run-reads.Asked,
+  count-run-reads.Learnt,
+  write-run-below t,
+  write-run.Post,
+  behind-reads.Asked,
+  behind-reads.Learnt,
+)
+    (write-block-at t)
+    write-block.Post
+    (write-block-add-count-run t)
+    (write-block-count-run-requires t)
+    (write-block-shared-slice-read-if1 t)
+    (write-block-returns t)
+    (write-block-add-write-run t)
+    (write-block-sub-write-run t)
+    (write-block-write-run-requires t)
+    (write-block-same-length t)
+    (write-block-returns-2 t)
+    (write-block-sub-j t)
+    (write-block-sub-j-2 t)
+    (write-block-add-write-run-2 t)
+    (write-block-div-write-run t)
+    (write-block-write-run-requires-2 t)
+    (write-block-add-write-run-3 t)
+    (write-block-rem-write-run t)
+    (write-block-mul-write-run t)
+    (write-block-sub-write-run-2 t)
+    (write-block-part-write-run-start t)
+    (write-block-part-write-run-end t)
+    (write-block-write-run-requires-3 t)
+    (write-block-add-result t)
+    (write-block-same-length-2 t)
+    (write-block-returns-3 t)
+    (write-block-add-write-run-4 t)
+    (write-block-write-run-requires-4 t)
+    (write-block-same-length-3 t)
+    (write-block-returns-4 t)
+    (write-block-behind-requires t)
+    (write-block-write-run-requires-5 t)
+    (write-block-same-length-4 t)
+    (write-block-returns-5 t))
+    λ t. write-run-lts.spec (
+      word-at-reads.Asked,
+      word-at-reads.Learnt,
+      lay-word-reads.Asked,
+      lay-word-reads.Learnt,
+      mark-at-reads.Asked,
+      mark-at-reads.Learnt,
+      write-run-below t,
+      write-run.Post,
+      count-place-reads.Asked,
+      count-place-reads.Learnt,
+      count-run-reads.Asked,
+      count-run-reads.Learnt,
+      write-block-below t,
+      write-block.Post,
+    )
+    (write-run-at t)
+    write-run.Post
+    (write-run-returns t)
+    (write-run-returns-2 t)
+    (write-run-shared-slice-read-if3 t)
+    (write-run-returns-3 t)
+    (write-run-shared-slice-read-if4 t)
+    (write-run-word-at-requires t)
+    (write-run-lay-word-requires t)
+    (write-run-mark-at-requires t)
+    (write-run-add-write-run t)
+    (write-run-sub-write-run t)
+    (write-run-mul-write-run t)
+    (write-run-sub-write-run-2 t)
+    (write-run-part-write-run-start t)
+    (write-run-part-write-run-end t)
+    (write-run-write-run-requires t)
+    (write-run-add-result t)
+    (write-run-same-length t)
+    (write-run-returns-4 t)
+    (write-run-sub-count-place t)
+    (write-run-count-place-requires t)
+    (write-run-sub-count-run t)
+    (write-run-count-run-requires t)
+    (write-run-sub-write-block t)
+    (write-run-div-write-block t)
+    (write-run-write-block-requires t)
+    (write-run-sub-write-run-3 t)
+    (write-run-rem-write-run t)
+    (write-run-mul-write-run-2 t)
+    (write-run-sub-write-run-4 t)
+    (write-run-part-write-run-start-2 t)
+    (write-run-part-write-run-end-2 t)
+    (write-run-write-run-requires-2 t)
+    (write-run-add-result-2 t)
+    (write-run-same-length-2 t)
+    (write-run-returns-5 t)

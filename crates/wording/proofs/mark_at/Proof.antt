@@ -1,0 +1,29 @@
+use lib.ListN.{List·getD-eq-default}
+use native.Mathlib.Omega.{arith}
+use mathlib.Core.Path.{_≡_, refl, ap, sym, _∙_}
+use Prim.Native.Nat.{ℕ, _+_, _-_, _*_, _≤_, _<_}
+use lib.ListN.{length, set, getD, length-set, take, drop}
+use borrow.Author.Needs.{needs}
+use Rattle.wording.proofs.mark_at.Statement.{statement}
+use Rattle.wording.proofs.mark_at.Tie as tie
+use Rattle.wording.proofs.mark_at.Reads as reads
+use Rattle.wording.proofs.mark_at.Lts as lts
+
+-- src/lib.rt:31:9
+returns : tie.Need-returns
+returns c = sym (List·getD-eq-default (c .before .args .marks .now) 0 {n = c .before .args .at} (c .if1 .taken))
+
+-- src/lib.rt:33:5
+mul-result : tie.Need-mul-result
+mul-result c = search needs
+
+-- src/lib.rt:33:5
+shared-slice-read-result : tie.Need-shared-slice-read-result
+shared-slice-read-result c = search needs
+
+-- src/lib.rt:27:1
+returns-2 : tie.Need-returns-2
+returns-2 c = search needs
+
+pub mark-at-spec : {M : Type 1} → statement M
+mark-at-spec = tie.close (tie.spec returns mul-result shared-slice-read-result returns-2)
