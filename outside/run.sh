@@ -1,14 +1,20 @@
 #!/bin/sh
-# run.sh PROGRAM [SEED]: everything at once, about two minutes: builds, checks this implementation against itself, then the
-# program on all examples and vectors and on 20,000 generated texts, then brute force against demand 3.
+# run.sh PROGRAM [SEED [INSPECT]]: everything but the timings, some two minutes: builds, checks this implementation against itself, then
+# the program on all examples and vectors and on 20,000 generated texts, every edge record and every unfolding of 2,000 of them by the
+# program inspect (beside PROGRAM unless named), then brute force against demand 3.
 here="$(cd "$(dirname "$0")" && pwd)"
-program="${1:?usage: run.sh PROGRAM [SEED]}"
+program="${1:?usage: run.sh PROGRAM [SEED [INSPECT]]}"
 seed="${2:-1}"
+inspect="${3:-$(dirname "$program")/inspect}"
+unfoldings="$here/listing.sh $inspect unfold"
+edges="$here/listing.sh $inspect edges"
 "$here/build.sh" || exit 1
 failed=0
 "$here/target/selfcheck" "$seed" 5000 "$here/../examples/tpcc.txt" || failed=1
-"$here/check.sh" "$program" || failed=1
+"$here/check.sh" "$program" "$unfoldings" "$edges" || failed=1
 "$here/target/compare" "$program" "$seed" 20000 || failed=1
+"$here/target/compare" "$edges" "$seed" 2000 edges || failed=1
+"$here/target/compare" "$unfoldings" "$seed" 2000 unfoldings || failed=1
 "$here/target/brute" "$seed" 3000 || failed=1
 [ $failed = 0 ] && echo "all passed" || echo "SOMETHING FAILED, see above"
 exit $failed

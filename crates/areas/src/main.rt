@@ -7,8 +7,6 @@ use libc::STDOUT_FILENO;
 use text::Line;
 use text::LineKind;
 use text::Workload;
-ghost use Prim.Native.Nat.{_≤_};
-ghost use lib.ListN.{length};
 ghost use Rattle.io.specs.Counts.{Counts};
 ghost use Rattle.listing.specs.Settled.{PutSettled};
 

@@ -211,3 +211,11 @@ has-one-other zero (suc k) d = has-past 1 1 (suc k) (omega arith) (omega arith)
 has-one-other (suc j) zero d = has-first (2 ^ suc j) ∙ ne-eqb (2 ^ suc j % 2) 1 (omega (arith, pow-suc 2 j))
 has-one-other (suc j) (suc k) d =
     has-later (2 ^ suc j) k ∙ ap (λ (z : ℕ). has z k) (omega (arith, pow-suc 2 j)) ∙ has-one-other j k (λ e. d (ap suc e))
+
+-- the word of one bit has that bit alone
+pub has-bit : (j k : ℕ) → has (2 ^ j) k ≡ eqb k j
+has-bit j k = go (ℕ-discrete k j)
+  where
+    go : Dec (k ≡ j) → has (2 ^ j) k ≡ eqb k j
+    go (yes e) = ap (has (2 ^ j)) e ∙ has-one j ∙ sym (eq-eqb k j e)
+    go (no d) = has-one-other j k d ∙ sym (ne-eqb k j d)

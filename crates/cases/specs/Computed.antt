@@ -19,7 +19,7 @@ use Rattle.graph.specs.Edge.{W, R, T, holds, sameRelation, leads, binds, guarde
 use Rattle.graph.specs.Edge.{shared, edgeOf, edgesBetween, edgesOf, placeAt, graphOf}
 use Rattle.walks.specs.Reach.{leavesFor, joins, joinedTo, grow, reachedFrom, opens, closesAt, dangerTest}
 use Rattle.graph.specs.Walk.{Step}
-use Rattle.report.specs.State.{Counts, countsOf, statementsIn, tooMany, summaryGraph}
+use Rattle.report.specs.State.{Counts, counted, countsOf, statementsIn, tooMany, summaryGraph}
 use Rattle.report.specs.Report.{Report, refusalReport, robustReport, dangerReport}
 use Rattle.report.specs.Report.Report.{refusal, robust, danger}
 use Rattle.reporting.specs.Reports.{robust-of, danger-of}
@@ -33,9 +33,6 @@ pub data Expected : Type 0 where
 pub record Case : Type 0 where
   pub text : List ℕ
   pub expected : Expected
-
-abbrev counted : ℕ → ℕ → ℕ → ℕ → Counts
-counted p n e b = record { programs = p; nodes = n; edges = e; back = b }
 
 -- the case holds by document 01: these bytes are a report of the text, where for danger some lawful walk is shown
 abbrev pub HoldsFor : List ℕ → Expected → Type 0

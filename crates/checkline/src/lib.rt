@@ -2,6 +2,7 @@
 use text::Line;
 use text::LineKind;
 use text::StatementKind;
+use words::word_at;
 ghost use mathlib.Core.Path.{_≡_};
 ghost use mathlib.Core.Bool.{not, _&&_};
 ghost use Prim.Native.Nat.{_-_};
@@ -28,8 +29,8 @@ fn is_sum(n: u64, a: u64, b: u64) -> bool
 fn in_body(words: &[u64]) -> bool
     ensures { λ r. ⌜ r ≡ inBodyOf (getD (now (words .entry)) 417 0) (getD (now (words .entry)) 419 0) ⌝ }
 {
-    let programs = kept::word(words, kept::PROGRAMS);
-    let links = kept::word(words, kept::LINKS);
+    let programs = word_at(words, kept::PROGRAMS);
+    let links = word_at(words, kept::LINKS);
     (programs != 0) & (links == 0)
 }
 
@@ -37,7 +38,7 @@ fn in_body(words: &[u64]) -> bool
 fn innermost(words: &[u64], part: u64) -> bool
     ensures { λ r. ⌜ r ≡ innermostOf (stateIn (now (words .entry)) .stack) part ⌝ }
 {
-    let depth = kept::word(words, kept::DEPTH);
+    let depth = word_at(words, kept::DEPTH);
     let innermost = kept::cell(words, kept::OPEN_PARTS, depth);
     (depth != 0) & (innermost == part)
 }
@@ -69,8 +70,8 @@ fn verdict(room: bool, ordered: bool, named: bool, sets: bool, link: bool, fits:
 fn check_relation(words: &[u64], l: Line) -> u8
     ensures { λ r. ⌜ r ≡ checkAs (stateIn (now (words .entry))) l Relation ⌝ }
 {
-    let lines = kept::word(words, kept::LINES);
-    let relations = kept::word(words, kept::RELATIONS);
+    let lines = word_at(words, kept::LINES);
+    let relations = word_at(words, kept::RELATIONS);
     verdict(
         relations < 32,
         lines == relations,
@@ -84,9 +85,9 @@ fn check_relation(words: &[u64], l: Line) -> u8
 fn check_key(words: &[u64], l: Line) -> u8
     ensures { λ r. ⌜ r ≡ checkAs (stateIn (now (words .entry))) l Key ⌝ }
 {
-    let lines = kept::word(words, kept::LINES);
-    let relations = kept::word(words, kept::RELATIONS);
-    let keys = kept::word(words, kept::KEYS);
+    let lines = word_at(words, kept::LINES);
+    let relations = word_at(words, kept::RELATIONS);
+    let keys = word_at(words, kept::KEYS);
     let ordered = is_sum(lines, relations, keys);
     let named = (l.id as u64 == keys) & ((l.rel as u64) < relations) & ((l.to as u64) < relations);
     verdict(keys < 32, ordered, named, true, false, true)
@@ -95,8 +96,8 @@ fn check_key(words: &[u64], l: Line) -> u8
 fn check_program(words: &[u64], l: Line) -> u8
     ensures { λ r. ⌜ r ≡ checkAs (stateIn (now (words .entry))) l Program ⌝ }
 {
-    let programs = kept::word(words, kept::PROGRAMS);
-    let depth = kept::word(words, kept::DEPTH);
+    let programs = word_at(words, kept::PROGRAMS);
+    let depth = word_at(words, kept::DEPTH);
     verdict(
         programs < 16,
         depth == 0,
@@ -140,10 +141,10 @@ fn sets_fit(whole: u64, kind: StatementKind, l: Line) -> bool
 fn check_statement(words: &[u64], kind: StatementKind, l: Line) -> u8
     ensures { λ r. ⌜ r ≡ checkAs (stateIn (now (words .entry))) l (Statement kind) ⌝ }
 {
-    let programs = kept::word(words, kept::PROGRAMS);
-    let statements = kept::word(words, kept::STATEMENTS);
-    let body = kept::word(words, kept::BODY);
-    let relations = kept::word(words, kept::RELATIONS);
+    let programs = word_at(words, kept::PROGRAMS);
+    let statements = word_at(words, kept::STATEMENTS);
+    let body = word_at(words, kept::BODY);
+    let relations = word_at(words, kept::RELATIONS);
     let whole = kept::cell(words, kept::SETS, l.rel as u64);
     let room = (programs == 0) | ((statements < 32) & (body < 64));
     let named = (l.id as u64 == statements) & ((l.rel as u64) < relations);
@@ -161,9 +162,9 @@ fn check_statement(words: &[u64], kind: StatementKind, l: Line) -> u8
 fn check_opening(words: &[u64], l: Line) -> u8
     ensures { λ r. ⌜ (r ≡ checkAs (stateIn (now (words .entry))) l Loop) × (r ≡ checkAs (stateIn (now (words .entry))) l Branch) ⌝ }
 {
-    let programs = kept::word(words, kept::PROGRAMS);
-    let body = kept::word(words, kept::BODY);
-    let depth = kept::word(words, kept::DEPTH);
+    let programs = word_at(words, kept::PROGRAMS);
+    let body = word_at(words, kept::BODY);
+    let depth = word_at(words, kept::DEPTH);
     let room = (programs == 0) | ((body < 64) & (depth < 8));
     verdict(room, in_body(words), true, true, false, true)
 }
@@ -171,8 +172,8 @@ fn check_opening(words: &[u64], l: Line) -> u8
 fn check_second(words: &[u64], l: Line) -> u8
     ensures { λ r. ⌜ r ≡ checkAs (stateIn (now (words .entry))) l Second ⌝ }
 {
-    let programs = kept::word(words, kept::PROGRAMS);
-    let body = kept::word(words, kept::BODY);
+    let programs = word_at(words, kept::PROGRAMS);
+    let body = word_at(words, kept::BODY);
     let room = (programs == 0) | (body < 64);
     let ordered = in_body(words) & innermost(words, 1);
     verdict(room, ordered, true, true, false, true)
@@ -181,8 +182,8 @@ fn check_second(words: &[u64], l: Line) -> u8
 fn check_closing(words: &[u64], l: Line) -> u8
     ensures { λ r. ⌜ r ≡ checkAs (stateIn (now (words .entry))) l Closing ⌝ }
 {
-    let programs = kept::word(words, kept::PROGRAMS);
-    let body = kept::word(words, kept::BODY);
+    let programs = word_at(words, kept::PROGRAMS);
+    let body = word_at(words, kept::BODY);
     let room = (programs == 0) | (body < 64);
     let ordered = in_body(words) & (innermost(words, 0) | innermost(words, 2));
     verdict(room, ordered, true, true, false, true)
@@ -232,11 +233,11 @@ fn link_fits(words: &[u64], l: Line) -> bool
 fn check_link(words: &[u64], l: Line) -> u8
     ensures { λ r. ⌜ r ≡ checkAs (stateIn (now (words .entry))) l Link ⌝ }
 {
-    let programs = kept::word(words, kept::PROGRAMS);
-    let links = kept::word(words, kept::LINKS);
-    let depth = kept::word(words, kept::DEPTH);
-    let keys = kept::word(words, kept::KEYS);
-    let statements = kept::word(words, kept::STATEMENTS);
+    let programs = word_at(words, kept::PROGRAMS);
+    let links = word_at(words, kept::LINKS);
+    let depth = word_at(words, kept::DEPTH);
+    let keys = word_at(words, kept::KEYS);
+    let statements = word_at(words, kept::STATEMENTS);
     let room = (programs == 0) | (links < 32);
     let ordered = (programs != 0) & (depth == 0);
     let named = ((l.id as u64) < keys)

@@ -30,19 +30,10 @@ pub cap-le : (x : ℕ) → cap x ≤ 513
 unfolding cap
 cap-le x = omega arith
 
--- what stays below 513 was not changed
-pub cap-exact : (x : ℕ) → cap x < 513 → cap x ≡ x
-unfolding cap
-cap-exact x h = omega arith
-
 -- the limits 64 and 512 are seen in the stopped numbers
 pub cap-over : (x : ℕ) (limit : ℕ) → limit < 513 → limit < x → limit < cap x
 unfolding cap
 cap-over x limit h p = omega arith
-
-pub over-cap : (x : ℕ) (limit : ℕ) → limit < cap x → limit < x
-unfolding cap
-over-cap x limit p = omega arith
 
 pub cap-add : (a b : ℕ) → cap (cap a + cap b) ≡ cap (a + b)
 unfolding cap

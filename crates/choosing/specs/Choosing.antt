@@ -1,7 +1,7 @@
 -- The unfoldings of a run by their number: how many, how many statements in them, and which occurrences number k has.
 use mathlib.Core.Bool.{cond}
 use mathlib.Core.List.{List, [], _∷_, _++_, map}
-use Prim.Native.Nat.{ℕ, zero, suc, _+_, _*_, _-_, _/_, _%_}
+use Prim.Native.Nat.{ℕ, suc, _+_, _*_, _-_, _/_, _%_}
 use lib.Dec.{eqb, leb, ltb}
 use Rattle.graph.specs.Program.{Item, Run}
 use Rattle.graph.specs.Program.Item.{statement, loop, branch}

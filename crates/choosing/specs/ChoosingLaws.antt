@@ -1,10 +1,10 @@
 -- A run has as many unfoldings as `countRun` says, with as many statements as `statementsRun` says; number k is the one `choose` gives.
-use mathlib.Core.Bool.{Bool, true, false, cond}
-use mathlib.Core.List.{List, [], _∷_, _++_, map, append-nil}
-use mathlib.Core.Option.{Option, none, some}
+use mathlib.Core.Bool.{Bool, true, false}
+use mathlib.Core.List.{List, _++_, map, append-nil}
+use mathlib.Core.Option.{Option, some}
 use mathlib.Core.Path.{_≡_, refl, sym, ap, _∙_}
 use Prim.Native.Nat.{ℕ, zero, suc, _+_, _*_, _-_, _/_, _%_, _<_, _≤_}
-use native.Mathlib.Nat.{mul-pos, one-mul, div-add-mod', mod-lt, div-lt-iff-lt-mul}
+use native.Mathlib.Nat.{mul-pos, div-add-mod', mod-lt, div-lt-iff-lt-mul}
 use native.Mathlib.Omega.{arith}
 use lib.ListN.{length, getElem?, length-append, length-map}
 use native.Mathlib.Numerals.{sub-one}
@@ -14,7 +14,7 @@ use Rattle.base.specs.ListLaws.{getElem?-append-left, getElem?-append-right, ge
 use Rattle.graph.specs.Program.{Statement, Item, Run}
 use Rattle.graph.specs.Program.Item.{statement, loop, branch}
 use Rattle.graph.specs.Program.Run.{done, next}
-use Rattle.graph.specs.Unfolding.{Execution, ItemExecution, Occurrence, inside, occurrences, itemOccurrences, turnOccurrences, pairs, unfoldings, itemUnfoldings}
+use Rattle.graph.specs.Unfolding.{Execution, ItemExecution, Occurrence, inside, occurrences, itemOccurrences, pairs, unfoldings, itemUnfoldings}
 use Rattle.graph.specs.Unfolding.Execution.{end, step}
 use Rattle.graph.specs.Unfolding.ItemExecution.{perform, turns, arm-one, arm-two}
 use Rattle.graph.specs.Unfolding.Turns.{stop, turn}

@@ -1,6 +1,6 @@
 -- Counting over the lines of a program, as numbers: 0 for a statement, 1 for `lo`, 2 for `br`, 3 for `pr`, 4 for every other kind.
 use mathlib.Core.Bool.{cond, _&&_}
-use mathlib.Core.List.{List, [], _∷_, _++_, map}
+use mathlib.Core.List.{List, map}
 use Prim.Native.Nat.{ℕ, zero, suc, _+_, _^_}
 use lib.Dec.{eqb, leb, ltb}
 use lib.ListN.{length, getD}

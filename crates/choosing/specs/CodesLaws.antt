@@ -15,9 +15,9 @@ use Rattle.text.specs.declared.LineKind.{LineKind}
 use Rattle.text.specs.declared.LineKind.the-variants.{Rl, Fk, Pr, St, Lo, Br, El, En, Li}
 use Rattle.text.specs.declared.StatementKind.{StatementKind}
 use Rattle.text.specs.declared.StatementKind.the-variants.{Is}
-use Rattle.graph.specs.Program.{Item, Parsed, runOf, behind, statementOf}
+use Rattle.graph.specs.Program.{Item, Run, Parsed, runOf, behind, statementOf}
 use Rattle.graph.specs.Program.Item.{statement, loop, branch}
-use Rattle.graph.specs.Program.Run.{done}
+use Rattle.graph.specs.Program.Run.{done, next}
 use Rattle.choosing.specs.declared.Counted.{Counted}
 use Rattle.choosing.specs.Cap.{cap, cap-over, stopped, alike-refl, plus-alike, times-alike, plus-same, times-same}
 use Rattle.choosing.specs.Choosing.{countRun, countItem, statementsRun, statementsItem}
@@ -33,6 +33,19 @@ pub record CountsItem (lines : List Line) (x : Item) (rest : List Line) (c : Cou
   pub counts : c .count ≡ cap (countItem x)
   pub states : c .statements ≡ cap (statementsItem x)
   pub leaves : rest ≡ drop (c .end) lines
+
+-- an item at a place with the run behind it, and what is counted
+pub record CountsPlace (lines : List Line) (left : ℕ) (x : Item) (more : Run) (c : Counted) : Type 0 where
+  pub counts : c .count ≡ cap (countItem x)
+  pub states : c .statements ≡ cap (statementsItem x)
+  pub leaves : runOf left (drop (c .end) lines) .run ≡ more
+
+-- the item that the run at a place begins with
+record Begins (lines : List Line) (n at : ℕ) : Type 0 where
+  item : Item
+  rest : List Line
+  read : runOf (suc n) (drop at lines) ≡ behind item (runOf n rest)
+  counted : CountsItem lines item rest (itemAt (countAt n (codesOf lines)) (codesOf lines) at)
 
 -- behind a closing line
 tail-suc : (lines : List Line) (e : ℕ) → tail (drop e lines) ≡ drop (suc e) lines
@@ -181,33 +194,39 @@ module _ (lines : List Line) where
   ends n at l k e d c p h =
       rw (count-stop (codesOf lines) at (suc n) p (omega arith), d, run-ends n l (drop (suc at) lines) k e h, ← d) (counts-nothing lines at)
 
-  begins : (n at : ℕ) (x : Item) (rest : List Line) (c : Counted) → itemAt (countAt n (codesOf lines)) (codesOf lines) at ≡ c
-      → at < length (codesOf lines) → getD (codesOf lines) at 0 ≤ 2
-      → runOf (suc n) (drop at lines) ≡ behind x (runOf n rest) → CountsItem lines x rest c
+  begins : (n at : ℕ) → Begins lines n at → at < length (codesOf lines) → getD (codesOf lines) at 0 ≤ 2
       → ((e : ℕ) → Counts lines (runOf n (drop e lines)) (countAt n (codesOf lines) e))
       → Counts lines (runOf (suc n) (drop at lines)) (countAt (suc n) (codesOf lines) at)
-  begins n at x rest c i p h r t onward =
-      rw (count-next (codesOf lines) at n p h, i, r) (counts-on n at x rest c t onward)
+  begins n at b p h onward =
+      rw (count-next (codesOf lines) at n p h, b .read)
+      (counts-on n at (b .item) (b .rest) (itemAt (countAt n (codesOf lines)) (codesOf lines) at) (b .counted) onward)
 
-  -- one line more
-  counts-line : (n at : ℕ) (l : Line) (k : LineKind) → l .kind ≡ k → drop at lines ≡ l ∷ drop (suc at) lines
-      → getD (codesOf lines) at 0 ≡ codeOf k → at < length (codesOf lines)
-      → ((e : ℕ) → Counts lines (runOf n (drop e lines)) (countAt n (codesOf lines) e))
-      → Counts lines (runOf (suc n) (drop at lines)) (countAt (suc n) (codesOf lines) at)
+  -- the item that a line begins
+  line-begins : (n at : ℕ) (l : Line) (k : LineKind) → l .kind ≡ k → drop at lines ≡ l ∷ drop (suc at) lines
+      → getD (codesOf lines) at 0 ≡ codeOf k → codeOf k ≤ 2
+      → ((e : ℕ) → Counts lines (runOf n (drop e lines)) (countAt n (codesOf lines) e)) → Begins lines n at
   unfolding codeOf
-  counts-line n at l (St k) e d c p onward =
-      let codes = codesOf lines in
+  line-begins n at l (St k) e d c h onward =
       let run : drop at lines ≡ l ∷ drop (at + 1) lines = rw add-one d in
-      begins n at (statement (statementOf k l)) (drop (at + 1) lines) (statementAt at) (item-statement codes at (countAt n codes) c) p (omega arith)
-      (rw run (run-statement n l (drop (at + 1) lines) k e)) (counts-statement lines k l at) onward
-  counts-line n at l Lo e d c p onward =
+      record {
+        item = statement (statementOf k l);
+        rest = drop (at + 1) lines;
+        read = rw run (run-statement n l (drop (at + 1) lines) k e);
+        counted = rw (item-statement (codesOf lines) at (countAt n (codesOf lines)) c) (counts-statement lines k l at);
+      }
+  line-begins n at l Lo e d c h onward =
       let codes = codesOf lines in
       let run : drop at lines ≡ l ∷ drop (at + 1) lines = rw add-one d in
       let body = runOf n (drop (at + 1) lines) in
-      begins n at (loop (body .run)) (tail (body .rest)) (loopCounted (length lines) (countAt n codes (at + 1)))
-      (item-loop codes at (countAt n codes) c ∙ rw length-codes) p (omega arith)
-      (rw run (run-loop n l (drop (at + 1) lines) e)) (counts-loop lines body (countAt n codes (at + 1)) (onward (at + 1))) onward
-  counts-line n at l Br e d c p onward =
+      let item : itemAt (countAt n codes) codes at ≡ loopCounted (length lines) (countAt n codes (at + 1)) =
+      item-loop codes at (countAt n codes) c ∙ rw length-codes in
+      record {
+        item = loop (body .run);
+        rest = tail (body .rest);
+        read = rw run (run-loop n l (drop (at + 1) lines) e);
+        counted = rw item (counts-loop lines body (countAt n codes (at + 1)) (onward (at + 1)));
+      }
+  line-begins n at l Br e d c h onward =
       let codes = codesOf lines in
       let run : drop at lines ≡ l ∷ drop (at + 1) lines = rw add-one d in
       let one = runOf n (drop (at + 1) lines) in
@@ -216,16 +235,33 @@ module _ (lines : List Line) where
       let behind-first = after (length lines) (first .end) in
       let second : Counts lines two (countAt n codes behind-first) =
       rw (onward (at + 1) .leaves, tail-drop lines (first .end)) (onward behind-first) in
-      begins n at (branch (one .run) (two .run)) (tail (two .rest)) (branchCounted (length lines) first (countAt n codes behind-first))
-      (item-branch codes at (countAt n codes) (λ (z : getD codes at 0 ≡ 0). omega arith) (λ (z : getD codes at 0 ≡ 1). omega arith) ∙ rw length-codes)
-      p (omega arith)
-      (rw run (run-branch n l (drop (at + 1) lines) e)) (counts-branch lines one two first (countAt n codes behind-first) (onward (at + 1)) second) onward
-  counts-line n at l Pr e d c p onward = ends n at l Pr e d c p (omega arith)
-  counts-line n at l Rl e d c p onward = ends n at l Rl e d c p (omega arith)
-  counts-line n at l Fk e d c p onward = ends n at l Fk e d c p (omega arith)
-  counts-line n at l El e d c p onward = ends n at l El e d c p (omega arith)
-  counts-line n at l En e d c p onward = ends n at l En e d c p (omega arith)
-  counts-line n at l Li e d c p onward = ends n at l Li e d c p (omega arith)
+      let item : itemAt (countAt n codes) codes at ≡ branchCounted (length lines) first (countAt n codes behind-first) =
+      item-branch codes at (countAt n codes) (λ (z : getD codes at 0 ≡ 0). omega arith) (λ (z : getD codes at 0 ≡ 1). omega arith) ∙ rw length-codes in
+      record {
+        item = branch (one .run) (two .run);
+        rest = tail (two .rest);
+        read = rw run (run-branch n l (drop (at + 1) lines) e);
+        counted = rw item (counts-branch lines one two first (countAt n codes behind-first) (onward (at + 1)) second);
+      }
+  line-begins n at l Pr e d c h onward = absurd (omega arith)
+  line-begins n at l Rl e d c h onward = absurd (omega arith)
+  line-begins n at l Fk e d c h onward = absurd (omega arith)
+  line-begins n at l El e d c h onward = absurd (omega arith)
+  line-begins n at l En e d c h onward = absurd (omega arith)
+  line-begins n at l Li e d c h onward = absurd (omega arith)
+
+  -- one line more: it begins an item, or the run ends before it
+  counts-line : (n at : ℕ) (l : Line) → drop at lines ≡ l ∷ drop (suc at) lines
+      → getD (codesOf lines) at 0 ≡ codeOf (l .kind) → at < length (codesOf lines)
+      → ((e : ℕ) → Counts lines (runOf n (drop e lines)) (countAt n (codesOf lines) e))
+      → Counts lines (runOf (suc n) (drop at lines)) (countAt (suc n) (codesOf lines) at)
+  counts-line n at l d c p onward = go (leb (codeOf (l .kind)) 2) refl
+    where
+      go : (t : Bool) → leb (codeOf (l .kind)) 2 ≡ t → Counts lines (runOf (suc n) (drop at lines)) (countAt (suc n) (codesOf lines) at)
+      go true h =
+          let few : codeOf (l .kind) ≤ 2 = leb-true (codeOf (l .kind)) 2 h in
+          begins n at (line-begins n at l (l .kind) refl d c few onward) p (omega arith) onward
+      go false h = ends n at l (l .kind) refl d c p (leb-false (codeOf (l .kind)) 2 h)
 
   -- what is counted from a place on is what the run read off there counts, and ends where that run ends
   pub counts-run : (n at : ℕ) → Counts lines (runOf n (drop at lines)) (countAt n (codesOf lines) at)
@@ -242,10 +278,49 @@ module _ (lines : List Line) where
       go false h onward =
           let inner : at < length lines = leb-false (length lines) at h in
           let l = first-line at inner in
-          counts-line n at (l .0) (l .0 .kind) refl (l .1) (l .2) (omega (arith, length-codes)) onward
+          counts-line n at (l .0) (l .1) (l .2) (omega (arith, length-codes)) onward
 
--- every run of lines counts at least one unfolding
-positive-cap : (x : ℕ) → 1 ≤ x → 1 ≤ cap x
+  -- an item that the run at a place begins with: what is counted there is what it counts, up to the run behind it
+  begun : (n at : ℕ) (x : Item) (more : Run) → Begins lines n at → runOf (suc n) (drop at lines) .run ≡ next x more
+      → CountsPlace lines n x more (itemAt (countAt n (codesOf lines)) (codesOf lines) at)
+  unfolding behind
+  begun n at x more b e =
+      let same : _≡_ {A = Run} (next (b .item) (runOf n (b .rest) .run)) (next x more) = rw (b .read) at e in
+      let first : b .item ≡ x = cc in
+      let then : runOf n (b .rest) .run ≡ more = cc in
+      record {
+        counts = b .counted .counts ∙ rw first;
+        states = b .counted .states ∙ rw first;
+        leaves = rw (← b .counted .leaves) then;
+      }
+
+  not-done : (x : Item) (more : Run) → _≡_ {A = Run} done (next x more) → ⊥
+  not-done x more e = let z : _≡_ {A = ℕ} 0 1 = cc in omega arith
+
+  pub counts-place : (n at : ℕ) (x : Item) (more : Run) → runOf (suc n) (drop at lines) .run ≡ next x more
+      → (at < length lines) × CountsPlace lines n x more (itemAt (countAt n (codesOf lines)) (codesOf lines) at)
+  unfolding runOf
+  counts-place n at x more e = go (leb (length lines) at) refl
+    where
+      go : (t : Bool) → leb (length lines) at ≡ t
+          → (at < length lines) × CountsPlace lines n x more (itemAt (countAt n (codesOf lines)) (codesOf lines) at)
+      go true h =
+          let empty : drop at lines ≡ [] = drop-of-length-le lines (leb-true (length lines) at h) in
+          absurd (not-done x more (rw empty at e))
+      go false h =
+          let inner : at < length lines = leb-false (length lines) at h in
+          let l = first-line at inner in
+          (inner, begun n at x more (there (l .0) (l .1) (l .2) (leb (codeOf (l .0 .kind)) 2) refl) e)
+        where
+          there : (l : Line) → drop at lines ≡ l ∷ drop (suc at) lines → getD (codesOf lines) at 0 ≡ codeOf (l .kind)
+              → (t : Bool) → leb (codeOf (l .kind)) 2 ≡ t → Begins lines n at
+          there l d c true u = line-begins n at l (l .kind) refl d c (leb-true (codeOf (l .kind)) 2 u) (λ m. counts-run n m)
+          there l d c false u =
+              let ended = run-ends n l (drop (suc at) lines) (l .kind) refl (leb-false (codeOf (l .kind)) 2 u) in
+              absurd (not-done x more (rw (d, ended) at e))
+
+-- what counts something still does when stopped; every run of lines counts at least one unfolding
+pub positive-cap : (x : ℕ) → 1 ≤ x → 1 ≤ cap x
 positive-cap x h = cap-over x 0 (omega arith) h
 
 pub count-positive : (n : ℕ) (codes : List ℕ) (at : ℕ) → 1 ≤ countAt n codes at .count

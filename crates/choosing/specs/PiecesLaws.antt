@@ -1,15 +1,15 @@
 -- The pieces of all lines are the nodes, the totals their number and that of their statements.
 use mathlib.Core.Bool.{Bool, true, false, cond}
-use mathlib.Core.List.{List, [], _∷_, _++_, map, append-assoc, append-nil, map-append}
-use mathlib.Core.Option.{Option, none, some}
-use mathlib.Core.Path.{_≡_, refl, sym, ap, subst, _∙_}
-use Prim.Native.Nat.{ℕ, zero, suc, _+_, _*_, _-_, _<_, _≤_}
-use native.Mathlib.Nat.{zero-add, add-zero, add-assoc}
+use mathlib.Core.List.{List, [], _∷_, _++_, map, append-assoc, append-nil}
+use mathlib.Core.Option.{none, some}
+use mathlib.Core.Path.{_≡_, refl, sym, ap, _∙_}
+use Prim.Native.Nat.{ℕ, zero, suc, _+_, _-_, _<_, _≤_}
+use native.Mathlib.Nat.{zero-add, add-zero}
 use native.Mathlib.Numerals.{add-one}
 use native.Mathlib.Omega.{arith}
-use lib.ListN.{length, getD, getElem?, drop, length-map, length-append, length-drop, drop-of-length-le}
+use lib.ListN.{length, getD, getElem?, drop, length-map, length-append, length-drop}
 use lib.Seq.{drop-length}
-use lib.Dec.{eqb, leb, ltb}
+use lib.Dec.{eqb, ltb}
 use borrow.Author.Tests.{eq-eqb, ne-eqb, ltb-true, lt-ltb}
 use Rattle.base.specs.BoolLaws.{same-test}
 use Rattle.base.specs.ListLaws.{getElem?-map-some, some-injective}
@@ -19,17 +19,15 @@ use Rattle.text.specs.declared.LineKind.the-variants.{Rl, Fk, Pr, St, Lo, Br, E
 use Rattle.graph.specs.Program.{Statement, Run, Program, Link, runOf, linksOf, programsOf}
 use Rattle.graph.specs.Unfolding.{Execution, Node, occurrences, unfoldings, nodesOfProgram, nodesFrom, nodesOf}
 use Rattle.report.specs.State.{statementsIn}
-use Rattle.choosing.specs.declared.Counted.{Counted}
 use Rattle.choosing.specs.declared.Totals.{Totals}
 use Rattle.choosing.specs.Pairs.{sumOf}
 use Rattle.choosing.specs.Cap.{cap, plus, Alike, alike-refl, stopped, plus-alike, cap-small, cap-add}
-use Rattle.choosing.specs.Choosing.{countRun, statementsRun, choose}
-use Rattle.choosing.specs.ChoosingLaws.{run-counts, length-unfoldings, chosen, statements-run}
+use Rattle.choosing.specs.Choosing.{countRun, statementsRun}
+use Rattle.choosing.specs.ChoosingLaws.{length-unfoldings, chosen, statements-run}
 use Rattle.choosing.specs.Codes.{codeOf, codesOf, countAt}
 use Rattle.choosing.specs.CodesLaws.{counts-run, length-codes, first-line}
 use Rattle.choosing.specs.Shown.{PlaceWords}
 use Rattle.choosing.specs.ShownLaws.{words-length}
-use Rattle.choosing.specs.Writing.{writeAt}
 use Rattle.choosing.specs.WritingLaws.{Tables, written-whole}
 use Rattle.choosing.specs.Pieces.{Piece, flat, tabulate, row, countedBehind, lineTotals, linePrograms, linePieces, totalsBefore, programsBefore, piecesBefore}
 
@@ -180,7 +178,13 @@ new-behind lines i h = go (l .kind) refl
 
     go : (k : LineKind) → l .kind ≡ k → nodesBehind lines i ≡ newNodes lines i ++ nodesBehind lines (suc i)
     go Pr e =
-        rw d (rw (programs-there l (drop (suc i) lines) e, eq-eqb (getD (codesOf lines) i 0) 3 (c ∙ ap codeOf e), programsBefore, body-same, add-one (programsBefore (codesOf lines) i)))
+        rw d (rw (
+          programs-there l (drop (suc i) lines) e,
+          eq-eqb (getD (codesOf lines) i 0) 3 (c ∙ ap codeOf e),
+          programsBefore,
+          body-same,
+          add-one (programsBefore (codesOf lines) i),
+        ))
     go (St s) e = other (St s) e (λ z. omega arith)
     go Lo e = other Lo e (λ z. omega arith)
     go Br e = other Br e (λ z. omega arith)
@@ -219,7 +223,10 @@ module _ (lines : List Line) where
           ∙ ap cap (sym (program-counts lines (programsBefore (codesOf lines) i) (i + 1) left (linksOf (drop (suc i) lines))))
 
       go : (b : Bool)
-          → Alike (cond b (record { count = plus (t .count) (countAt left (codesOf lines) (i + 1) .count); statements = plus (t .statements) (countAt left (codesOf lines) (i + 1) .statements) }) t .count)
+          → Alike (cond b (record {
+            count = plus (t .count) (countAt left (codesOf lines) (i + 1) .count);
+            statements = plus (t .statements) (countAt left (codesOf lines) (i + 1) .statements);
+          }) t .count)
           (t .count + length (cond b program []))
       go true = plus-alike (alike-refl (t .count)) (stopped counts)
       go false = rw add-zero (alike-refl (t .count))
@@ -239,7 +246,10 @@ module _ (lines : List Line) where
           ∙ ap cap (sym (program-statements lines (programsBefore (codesOf lines) i) (i + 1) left (linksOf (drop (suc i) lines))))
 
       go : (b : Bool)
-          → Alike (cond b (record { count = plus (t .count) (countAt left (codesOf lines) (i + 1) .count); statements = plus (t .statements) (countAt left (codesOf lines) (i + 1) .statements) }) t .statements)
+          → Alike (cond b (record {
+            count = plus (t .count) (countAt left (codesOf lines) (i + 1) .count);
+            statements = plus (t .statements) (countAt left (codesOf lines) (i + 1) .statements);
+          }) t .statements)
           (t .statements + statementsIn (cond b program []))
       go true = plus-alike (alike-refl (t .statements)) (stopped states)
       go false = rw add-zero (alike-refl (t .statements))

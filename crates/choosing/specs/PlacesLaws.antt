@@ -1,13 +1,12 @@
 -- The two kinds of words that are written: statement ids with nothing seen, and line numbers with what is seen.
-use mathlib.Core.Bool.{Bool, true, false, cond, _&&_}
+use mathlib.Core.Bool.{Bool, true, false, cond}
 use mathlib.Core.List.{List, [], _∷_, _++_, map}
 use mathlib.Core.Option.{Option, none, some}
-use mathlib.Core.Path.{_≡_, refl, sym, ap, _∙_}
-use Prim.Native.Nat.{ℕ, zero, suc, _+_, _*_, _/_, _%_, _^_, _<_, _≤_}
+use mathlib.Core.Path.{_≡_, refl, ap, _∙_}
+use Prim.Native.Nat.{ℕ, zero, suc, _+_, _*_, _<_, _≤_}
 use native.Mathlib.Omega.{arith}
 use lib.Bits.{bitOr, or-zero-l}
-use lib.Dec.{ltb}
-use lib.ListN.{length, getD, getElem?, take, drop, length-append}
+use lib.ListN.{length, getD, getElem?}
 use lib.Seq.{take-at, drop-at}
 use Rattle.base.specs.ListLaws.{getElem?-lt}
 use Rattle.text.specs.declared.Line.{Line}
@@ -16,15 +15,15 @@ use Rattle.text.specs.declared.LineKind.the-variants.{Rl, Fk, Pr, St, Lo, Br, E
 use Rattle.text.specs.declared.StatementKind.{StatementKind}
 use Rattle.graph.specs.Program.{Statement, statementOf}
 use Rattle.graph.specs.Unfolding.{Around, Occurrence, Node}
-use Rattle.graph.specs.Edge.{shields, leads}
+use Rattle.graph.specs.Edge.{leads}
 use Rattle.choosing.specs.Codes.{codeOf, idsOf, markIn, bitIn, marksOf}
-use Rattle.choosing.specs.Seen.{markOf, seenAt, statementIn, statementOn, StandsFor, NodeWords, WordsFor}
-use Rattle.choosing.specs.Shown.{shown, PlaceWord, PlaceWords}
+use Rattle.choosing.specs.Seen.{markOf, seenAt, statementIn, statementOn, NodeWords, WordsFor}
+use Rattle.choosing.specs.Shown.{shown, PlaceWords}
 use Rattle.choosing.specs.ShownLaws.{words-length}
 use Rattle.choosing.specs.Writing.{placeIds}
 use Rattle.choosing.specs.WritingLaws.{Tables}
 use Rattle.choosing.specs.Pieces.{Piece, flat}
-use Rattle.choosing.specs.PiecesLaws.{PieceFor, PiecesFor}
+use Rattle.choosing.specs.PiecesLaws.{PiecesFor}
 
 -- what a function makes of a list, at a place that holds this
 map-there : {A : Type 0} (f : A → ℕ) (l : List A) (i : ℕ) {x : A} → getElem? l i ≡ some x → getD (map f l) i 0 ≡ f x

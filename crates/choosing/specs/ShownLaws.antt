@@ -1,11 +1,10 @@
 -- What is seen at places: in a block what the run around has seen; behind a block nothing more than before it.
-use mathlib.Core.Bool.{Bool, true, false, cond, _&&_, _||_}
+use mathlib.Core.Bool.{Bool, true, false, cond, _||_}
 use mathlib.Core.List.{List, [], _∷_, _++_, map, append-assoc, append-nil, map-append}
 use mathlib.Core.Path.{_≡_, refl, sym, ap, _∙_}
-use Prim.Native.Nat.{ℕ, zero, suc, _+_, _*_, _<_, _≤_}
+use Prim.Native.Nat.{ℕ, suc, _+_, _*_}
 use native.Mathlib.Omega.{arith}
 use lib.Bits.{bitOr, or-zero-l, or-zero-r}
-use lib.Dec.{eqb}
 use lib.ListN.{length}
 use borrow.Author.Tests.{eq-eqb, ne-eqb}
 use Rattle.base.specs.Basic.{has}
@@ -13,7 +12,7 @@ use Rattle.base.specs.WordLaws.{has-equal, has-bitOr}
 use Rattle.graph.specs.Program.{Statement}
 use Rattle.graph.specs.Unfolding.{Around, Occurrence, inside}
 use Rattle.graph.specs.Edge.{leads}
-use Rattle.choosing.specs.Shown.{shown, PlaceWord, PlaceWords, Later}
+use Rattle.choosing.specs.Shown.{shown, PlaceWords, Later}
 
 pub or-assoc : (x y z : ℕ) → bitOr (bitOr x y) z ≡ bitOr x (bitOr y z)
 or-assoc x y z =
@@ -44,11 +43,6 @@ pub later-less : (i : ℕ) (path : List Around) → Later (suc i) path → Later
 unfolding Later
 later-less i [] h = h
 later-less i (a ∷ path) h = omega arith
-
-pub later-first : (path : List Around) → Later 0 path
-unfolding Later
-later-first [] = _
-later-first (a ∷ path) = omega arith
 
 module _ (mark : Statement → ℕ) where
   pub shown-append : (a b : List Occurrence) (path : List Around) → shown mark (a ++ b) path ≡ bitOr (shown mark a path) (shown mark b path)

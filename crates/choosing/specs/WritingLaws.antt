@@ -24,7 +24,8 @@ use Rattle.choosing.specs.Cap.{cap-small}
 use Rattle.choosing.specs.Choosing.{countRun, countItem, choose, chooseItem}
 use Rattle.choosing.specs.ChoosingLaws.{run-counts, item-counts}
 use Rattle.choosing.specs.Codes.{codeOf, codesOf, after, itemAt, countAt, loopCounted, branchCounted}
-use Rattle.choosing.specs.CodesLaws.{Counts, counts-run, length-codes, item-loop, item-branch, run-ends, run-statement, run-loop, run-branch, tail-drop, first-line, counts-loop, counts-branch}
+use Rattle.choosing.specs.CodesLaws.{Counts, counts-run, length-codes, item-loop, item-branch, tail-drop, first-line, counts-loop, counts-branch}
+use Rattle.choosing.specs.CodesLaws.{run-ends, run-statement, run-loop, run-branch}
 use Rattle.choosing.specs.Shown.{shown, PlaceWords, Later}
 use Rattle.choosing.specs.ShownLaws.{or-assoc, around, apart-later, apart-turn, later-less, shown-append, shown-apart, behind-apart, words-append, words-inside}
 use Rattle.choosing.specs.Writing.{writeLoop, writeBranch, writeBlock, writeAt}

@@ -7,15 +7,15 @@ use mathlib.Core.Option.{some}
 use Prim.Native.Nat.{ℕ, _≤_, _<_}
 use native.Mathlib.Omega.{arith}
 use native.Mathlib.Decide.{decLt}
-use borrow.Author.Tests.{eqb-true, eq-eqb}
+use borrow.Author.Tests.{eqb-true}
 use lib.Dec.{eqb}
 use lib.ListN.{getElem?}
 use Rattle.base.specs.Basic.{any, keep, from}
-use Rattle.base.specs.BoolLaws.{true-false, false-of, and-true, and-of}
+use Rattle.base.specs.BoolLaws.{true-false, false-of, and-true}
 use Rattle.base.specs.ListLaws.{getElem?-same, any-true, any-false, keep-member, member-keep, from-member, member-from}
 use Rattle.schedule.specs.Event.{Event, by, writesTo, pastAt, writesOf, committed, seen}
 use Rattle.dependency.specs.Dependency.{Numbered, same, sees}
-use Rattle.dependency.specs.Positions.{one-position, position-past}
+use Rattle.dependency.specs.Positions.{one-position, same-self, position-past}
 use Rattle.committing.specs.Past.{Falling, falling-past, falling-keep, falling-from}
 use Rattle.committing.specs.Past.{falling-member, falling-up-to, past-up-to}
 
@@ -139,16 +139,11 @@ module _ (events : List Event) (n i r t : ℕ) where
 
 -- ---- the test of a dependency
 
--- an event is the same operation as itself
-pub same-itself : (e : Event) → same e e ≡ true
-unfolding same
-same-itself e = and-of (eq-eqb (e .transaction) (e .transaction) refl) (eq-eqb (e .number) (e .number) refl)
-
 -- what the test does not find is not in the version seen
 pub sees-not : (events : List Event) (n : ℕ) (e w : Event) → sees events n e w ≡ false
     → List·Memᴰ w (seen (pastAt events n) (e .transaction) (w .relation) (w .tuple)) → ⊥
 unfolding sees
-sees-not events n e w h m = true-false (same-itself w) (any-false (same w) h m)
+sees-not events n e w h m = true-false (same-self w) (any-false (same w) h m)
 
 -- what the test finds is in the version seen
 pub sees-found : {events : List Event} → Numbered events → (m n : ℕ) (e w : Event) → getElem? events m ≡ some w → sees events n e w ≡ true

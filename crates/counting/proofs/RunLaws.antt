@@ -7,11 +7,11 @@ use native.Mathlib.Numerals.{sub-one}
 use native.Mathlib.Omega.{arith}
 use lib.ListN.{length, getD}
 use borrow.Author.Tests.{lt-ltb, le-ltb, lt-leb, le-leb}
-use Rattle.choosing.specs.Cap.{cap, plus, times, cap-small, cap-large, cap-le, cap-over}
-use Rattle.choosing.specs.Codes.{after, nothingAt, statementAt, loopCounted, branchCounted, nextCounted, itemAt, countAt}
-use Rattle.choosing.specs.CodesLaws.{counts-run, count-past, count-stop, count-next, item-statement, item-loop, item-branch}
+use Rattle.choosing.specs.Cap.{cap, plus, times, cap-small, cap-large, cap-le}
+use Rattle.choosing.specs.Codes.{codesOf, after, nothingAt, statementAt, loopCounted, branchCounted, nextCounted, itemAt, countAt}
+use Rattle.choosing.specs.CodesLaws.{positive-cap, length-codes, counts-run, counts-place, count-past, count-stop, count-next, item-statement, item-loop, item-branch}
 use Rattle.choosing.specs.declared.Counted.{Counted}
-use Rattle.counting.specs.Facts.{Small, Counting, RunCounted, placeAt}
+use Rattle.counting.specs.Facts.{Small, Counting, RunCounted, PlaceCounted, placeAt}
 
 pub after-inside : (lines e : ℕ) → e < lines → e + 1 ≡ after lines e
 unfolding after
@@ -35,13 +35,21 @@ counting : (counted made r : Counted) → r ≡ made → counted ≡ made
     → 1 ≤ made .count → made .count ≤ 513 → made .statements ≤ 513 → Counting counted r
 counting counted made r e d positive few short = rw e (record { same = sym d; positive = positive; few = few; short = short })
 
-positive-cap : {x : ℕ} → 1 ≤ x → 1 ≤ cap x
-positive-cap {x} h = cap-over x 0 (omega arith) h
-
 -- what is counted is what the run read off the lines counts
 counted-run : (codes : List ℕ) (at left : ℕ) (r : Counted) → Counting (countAt left codes at) r → RunCounted left codes at r
 counted-run codes at left r h =
     record { counting = h; means = λ lines e. rw (h .same, e) (counts-run lines left at) }
+
+-- what is counted at a place is what the item that the run there begins with counts
+counted-place : (codes : List ℕ) (at left : ℕ) (r : Counted) → Counting (placeAt left codes at) r → PlaceCounted left codes at r
+unfolding placeAt
+counted-place codes at left r h =
+    record {
+      counting = h;
+      means = λ lines x more e begins.
+          let p = counts-place lines left at x more begins in
+          rw (h .same, e, lt-leb (length (codesOf lines)) at (omega (arith, p .0, length-codes lines))) (p .1);
+    }
 
 -- the paths through `count_run`, `count_block` and `count_place`
 module _ (codes : List ℕ) (at : ℕ) where
@@ -69,7 +77,7 @@ module _ (codes : List ℕ) (at : ℕ) where
   run-next (suc n) x more r z h k p q e =
       counted-run codes at (suc n) r
       (counting (countAt (suc n) codes at) (nextCounted x more) r e (count-next codes at n h k ∙ parts)
-      (positive-cap (mul-pos (p .positive) (q .counting .positive))) (cap-le (x .count * more .count))
+      (positive-cap _ (mul-pos (p .positive) (q .counting .positive))) (cap-le (x .count * more .count))
       (cap-le (times (x .statements) (more .count) + times (x .count) (more .statements))))
     where
       item : itemAt (countAt n codes) codes at ≡ x
@@ -99,7 +107,7 @@ module _ (codes : List ℕ) (at : ℕ) where
   block-loop left body r k p e =
       counting (itemAt (countAt left codes) codes at) (loopCounted (length codes) body) r e
       (item-loop codes at (countAt left codes) k ∙ ap (loopCounted (length codes)) (sym (p .counting .same)))
-      (positive-cap (omega arith)) (cap-le (1 + plus (body .count) (times (body .count) (body .count))))
+      (positive-cap _ (omega arith)) (cap-le (1 + plus (body .count) (times (body .count) (body .count))))
       (cap-le (body .statements + plus (times (body .statements) (body .count)) (times (body .count) (body .statements))))
 
   pub block-branch : (left other : ℕ) (body two r : Counted) → other ≡ after (length codes) (body .end)
@@ -111,16 +119,17 @@ module _ (codes : List ℕ) (at : ℕ) where
   block-branch left other body two r o k j p q e =
       counting (itemAt (countAt left codes) codes at) (branchCounted (length codes) body two) r e
       (item-branch codes at (countAt left codes) k j ∙ rw (← p .counting .same, ← o, ← q .counting .same))
-      (positive-cap (omega (arith, p .counting .positive))) (cap-le (body .count + two .count)) (cap-le (body .statements + two .statements))
+      (positive-cap _ (omega (arith, p .counting .positive))) (cap-le (body .count + two .count)) (cap-le (body .statements + two .statements))
 
-  pub place-past : (left : ℕ) (r : Counted) → length codes ≤ at → r ≡ nothingAt at → Counting (placeAt left codes at) r
+  pub place-past : (left : ℕ) (r : Counted) → length codes ≤ at → r ≡ nothingAt at → PlaceCounted left codes at r
   unfolding placeAt
-  place-past left r h e = counts-nothing (placeAt left codes at) r e (simp (le-leb (length codes) at h))
+  place-past left r h e = counted-place codes at left r (counts-nothing (placeAt left codes at) r e (simp (le-leb (length codes) at h)))
 
-  pub place-inside : (left : ℕ) (r : Counted) → at < length codes → Counting (itemAt (countAt left codes) codes at) r → Counting (placeAt left codes at) r
+  pub place-inside : (left : ℕ) (r : Counted) → at < length codes → Counting (itemAt (countAt left codes) codes at) r → PlaceCounted left codes at r
   unfolding placeAt
   place-inside left r h p =
-      record { same = p .same ∙ sym (simp (lt-leb (length codes) at h)); positive = p .positive; few = p .few; short = p .short }
+      counted-place codes at left r
+      (record { same = p .same ∙ sym (simp (lt-leb (length codes) at h)); positive = p .positive; few = p .few; short = p .short })
 
 -- a loop, a branch and a run put together from stopped sums and products
 pub loop-made : (lines : ℕ) (body : Counted) (square more count second first both statements end : ℕ)

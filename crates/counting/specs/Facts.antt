@@ -2,18 +2,19 @@
 use mathlib.Core.Bool.{cond}
 use mathlib.Core.List.{List}
 use mathlib.Core.Path.{_≡_}
-use Prim.Native.Nat.{ℕ, _≤_}
+use Prim.Native.Nat.{ℕ, suc, _≤_}
 use lib.Dec.{leb}
 use lib.ListN.{length, drop}
 use Rattle.text.specs.declared.Line.{Line}
-use Rattle.graph.specs.Program.{runOf}
+use Rattle.graph.specs.Program.{Item, Run, runOf}
+use Rattle.graph.specs.Program.Run.{next}
 use Rattle.graph.specs.Unfolding.{nodesOf}
 use Rattle.report.specs.State.{statementsIn}
 use Rattle.choosing.specs.declared.Counted.{Counted}
 use Rattle.choosing.specs.declared.Totals.{Totals}
 use Rattle.choosing.specs.Cap.{cap}
 use Rattle.choosing.specs.Codes.{codesOf, nothingAt, itemAt, countAt}
-use Rattle.choosing.specs.CodesLaws.{Counts}
+use Rattle.choosing.specs.CodesLaws.{Counts, CountsPlace}
 use Rattle.choosing.specs.Pieces.{totalsBefore}
 
 -- a result equals what the definition counts, and is small
@@ -31,6 +32,13 @@ pub record RunCounted (left : ℕ) (codes : List ℕ) (at : ℕ) (r : Counted) :
 -- the statement or block at a place; past the lines nothing
 unfoldable pub placeAt : ℕ → List ℕ → ℕ → Counted
 placeAt left codes at = cond (leb (length codes) at) (nothingAt at) (itemAt (countAt left codes) codes at)
+
+-- the same as a result; over the lines of a workload, where the run that is read off there begins with a statement or block:
+-- its unfoldings and statements, stopped at 513, and its end, from where the rest of the run is read off
+pub record PlaceCounted (left : ℕ) (codes : List ℕ) (at : ℕ) (r : Counted) : Type 0 where
+  pub counting : Counting (placeAt left codes at) r
+  pub means : (lines : List Line) (x : Item) (more : Run) → codes ≡ codesOf lines → runOf (suc left) (drop at lines) .run ≡ next x more
+      → CountsPlace lines left x more r
 
 -- a result equals a stopped number, and is small
 pub record Small (number r : ℕ) : Type 0 where

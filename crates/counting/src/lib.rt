@@ -8,7 +8,7 @@ ghost use lib.ListN.{length};
 ghost use Rattle.choosing.specs.Cap.{plus, times};
 ghost use Rattle.choosing.specs.Codes.{after, nothingAt, loopCounted, branchCounted, nextCounted, itemAt, countAt};
 ghost use Rattle.choosing.specs.Pieces.{lineTotals};
-ghost use Rattle.counting.specs.Facts.{Counting, RunCounted, placeAt, Small, Totalled, AllCounted};
+ghost use Rattle.counting.specs.Facts.{Counting, RunCounted, PlaceCounted, Small, Totalled, AllCounted};
 
 // Sums and products that stop at 513: no rule tells larger counts apart.
 fn sum(a: u64, b: u64) -> u64
@@ -142,7 +142,7 @@ fn count_block(codes: &[u8], at: usize, left: usize) -> Counted
 
 // The same at any place: past the lines nothing.
 pub fn count_place(codes: &[u8], at: usize, left: usize) -> Counted
-    ensures { λ r. ⌜ Counting (placeAt left (now (codes .entry)) at) r ⌝ }
+    ensures { λ r. ⌜ PlaceCounted left (now (codes .entry)) at r ⌝ }
 {
     if codes.len() <= at {
         return nothing(at);

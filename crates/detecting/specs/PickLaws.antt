@@ -16,7 +16,7 @@ use Rattle.base.specs.BoolLaws.{true-false, and-true, and-of, or-true, or-left,
 use Rattle.base.specs.ListLaws.{any-numbers-of, any-true, first-found, first-some, numbers-member}
 use Rattle.graph.specs.Graph.{Flow, Graph, isBack}
 use Rattle.graph.specs.Walk.{Step, isEdge, dangerousPair, isDangerous, DangerousWalk}
-use Rattle.walks.specs.Reach.{Regular, Reachable, stepsOf, closes, DangerousReturn, walk-return, roundsFor, reach-short}
+use Rattle.walks.specs.Reach.{Regular, Reachable, stepsOf, closes, DangerousReturn, walk-return, back-of, roundsFor, reach-short}
 use Rattle.walks.specs.Reach.Reachable.{here, along}
 use Rattle.detecting.specs.Pick.{Pick, Picks, picked, dangerousPicks, onwardTo, reaches, returnsAt, nodeTest, stepAlong, wayTo, walkAt}
 
@@ -47,11 +47,6 @@ dangerous-some (some e) (some c) h = (e, c, refl, refl, h)
 along-some : (m : ℕ) (flow : Flow) {o : Option Pick} {p : Pick} → o ≡ some p
     → stepAlong m flow o ≡ record { node = m; leaves = p .leaves; enters = p .enters; flow = flow } ∷ []
 along-some m flow e = ap (stepAlong m flow) e
-
--- the flow that is back
-back-of : (flow : Flow) → isBack flow ≡ true → flow ≡ Flow.back
-back-of Flow.forward h = absurd (false≢true h)
-back-of Flow.back h = refl
 
 -- the rounds are fewer than the nodes
 rounds-short : (n : ℕ) → 0 < n → roundsFor n + 2 ≤ n + 1

@@ -42,7 +42,8 @@ unfolding putStep stepWords
 put-step-at front k a b c d s rest h =
     put-words-at front k a b c d (s .node) (s .leaves) (s .enters) (flowWord (s .flow)) rest h ∙ sym (append-assoc front _ rest)
 
-length-words : (s : Step) → length (stepWords s) ≡ 4
+-- a step is four words
+pub length-words : (s : Step) → length (stepWords s) ≡ 4
 unfolding stepWords
 length-words s = refl
 
@@ -98,7 +99,7 @@ unfolding walkOn
 walk-short ahead behind rows u x = let h = way-short ahead rows (layersTo rows u) 63 (x % 64) in suc-le-suc (suc-le-suc h)
 
 -- an empty walk leaves the area as it is
-shown-empty : (area : List ℕ) → shownIn [] area ≡ area
+pub shown-empty : (area : List ℕ) → shownIn [] area ≡ area
 unfolding shownIn flatMap
 shown-empty area = refl
 

@@ -15,7 +15,7 @@ use borrow.Author.Tests.{ltb-true, ltb-false, lt-ltb, le-ltb}
 use Rattle.base.specs.Basic.{any, first, numbers, has, meets}
 use Rattle.base.specs.BoolLaws.{decide, true-false, same-test, and-true, and-of}
 use Rattle.base.specs.ListLaws.{any-numbers, any-numbers-of}
-use Rattle.base.specs.WordLaws.{has-empty, has-bitAnd, meets-has, has-meets}
+use Rattle.base.specs.WordLaws.{has-empty, has-bitAnd, has-bit, meets-has, has-meets}
 use Rattle.graph.specs.Graph.{Flow, Graph}
 use Rattle.graph.specs.Walk.{Step, isDangerous, DangerousWalk}
 use Rattle.walks.specs.Reach.{Regular, roundsFor}
@@ -26,7 +26,7 @@ use Rattle.detector.specs.Table.{growsTo, grown, layer, layersTo, closes
 use Rattle.detector.specs.Table.{wayOn, walkOn, tableWalk}
 use Rattle.detector.specs.Turns.{first-within, first-passes, first-found}
 use Rattle.detector.specs.Paths.{way-none, way-stays, way-along}
-use Rattle.detector.specs.WordLaws.{has-one, word-out, word-in, list-at, trailing-first, first-is}
+use Rattle.detector.specs.WordLaws.{word-out, word-in, list-at, trailing-first, first-is}
 
 -- an edge is picked where its word is not 0
 pub picked-word : (x : ℕ) → picked (aheadPick x) ≡ not (eqb x 0)
@@ -117,7 +117,7 @@ module _ (ahead : List ℕ) (n : ℕ) (full : n ≡ 64) where
   -- a layer has the nodes from which u is reached in so many steps
   pub layer-has : (u d w : ℕ) → w < n → has (layer (joinedRows ahead) u d) w ≡ reaches (aheadIn ahead) n u d w
   unfolding layer reaches grown growsTo
-  layer-has u zero w h = has-one u w
+  layer-has u zero w h = has-bit u w
   layer-has u (suc d) w h =
       word-in (growsTo (joinedRows ahead) (layer (joinedRows ahead) u d)) 64 w (omega arith)
       ∙ ap₂ (λ (a b : Bool). a || b) (layer-has u d w h)

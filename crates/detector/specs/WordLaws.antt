@@ -13,21 +13,8 @@ use lib.Seq.{getD-set-same, getD-set-other}
 use borrow.Author.Tests.{eqb-true, eqb-false, eq-eqb, ne-eqb}
 use Rattle.base.specs.Basic.{first, numbers, numbersFrom, has}
 use Rattle.base.specs.BoolLaws.{decide, true-false}
-use Rattle.base.specs.WordLaws.{has-first, has-later, has-empty, has-bitOr}
+use Rattle.base.specs.WordLaws.{has-first, has-later, has-empty, has-bitOr, has-bit}
 use Rattle.detector.specs.Table.{withBit, wordBelow, listBelow}
-
--- the word of one number has just that number
-pub has-one : (j k : ℕ) → has (2 ^ j) k ≡ eqb k j
-has-one zero zero = refl
-has-one zero (suc k) = has-later (2 ^ 0) k ∙ has-empty k ∙ sym (ne-eqb (suc k) 0 (omega arith))
-has-one (suc j) zero = has-first (2 ^ suc j) ∙ ne-eqb (2 ^ suc j % 2) 1 (omega arith) ∙ sym (ne-eqb 0 (suc j) (omega arith))
-has-one (suc j) (suc k) =
-    let half : 2 ^ suc j / 2 ≡ 2 ^ j = omega arith in
-    has-later (2 ^ suc j) k ∙ ap (λ (y : ℕ). has y k) half ∙ has-one j k ∙ same (decide (eqb k j))
-  where
-    same : (eqb k j ≡ true) ⊎ (eqb k j ≡ false) → eqb k j ≡ eqb (suc k) (suc j)
-    same (inl e) = let q = eqb-true k j e in e ∙ sym (eq-eqb (suc k) (suc j) (omega arith))
-    same (inr e) = let q = eqb-false k j e in e ∙ sym (ne-eqb (suc k) (suc j) (λ r. q (omega arith)))
 
 or-none : (b : Bool) → b || false ≡ b
 or-none true = refl
@@ -35,13 +22,13 @@ or-none false = refl
 
 with-same : (word : ℕ) (b : Bool) (j : ℕ) → has (withBit word b j) j ≡ has word j || b
 unfolding withBit
-with-same word true j = has-bitOr word (2 ^ j) j ∙ ap (λ (c : Bool). has word j || c) (has-one j j ∙ eq-eqb j j refl)
+with-same word true j = has-bitOr word (2 ^ j) j ∙ ap (λ (c : Bool). has word j || c) (has-bit j j ∙ eq-eqb j j refl)
 with-same word false j = sym (or-none (has word j))
 
 with-other : (word : ℕ) (b : Bool) (j k : ℕ) → (k ≡ j → ⊥) → has (withBit word b j) k ≡ has word k
 unfolding withBit
 with-other word true j k h =
-    has-bitOr word (2 ^ j) k ∙ ap (λ (c : Bool). has word k || c) (has-one j k ∙ ne-eqb k j h) ∙ or-none (has word k)
+    has-bitOr word (2 ^ j) k ∙ ap (λ (c : Bool). has word k || c) (has-bit j k ∙ ne-eqb k j h) ∙ or-none (has word k)
 with-other word false j k h = refl
 
 module _ (test : ℕ → Bool) where

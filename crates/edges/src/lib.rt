@@ -2,12 +2,12 @@
 // rows that `rows::fill_rows` makes, a set that the kind lacks is 0.
 
 ghost use mathlib.Core.Path.{_≡_};
-ghost use Prim.Native.Nat.{_+_, _*_, _≤_, _<_};
+ghost use Prim.Native.Nat.{_+_, _*_, _<_};
 ghost use Rattle.edges.specs.Slots.{noEdge, tableCounts, one, countsBelow, CountedTo};
+use fetching::row_at;
+use fetching::row_count;
 use standing::back_stands;
 use standing::forward_stands;
-use standing::row_at;
-use standing::row_count;
 
 // An edge: node and place left, node and place entered, how many attributes its sets share and the lowest of them, flow and letter.
 // Numbers only, so that a caller in another language can own a list of edges: flow is b'f' or b'b', letter b'A' to b'E'.
@@ -81,7 +81,7 @@ fn count_row(table: &[u64], n: usize, i: usize, before: Counts) -> Counts
     Counts { edges, back }
 }
 
-// How many edges a table has, and how many of them are back edges.
+// How many edges a table has, and how many of them are back edges. Rows past the 512th are not looked at: no workload has more.
 pub fn count_edges(table: &[u64]) -> Counts
     ensures { λ r. ⌜ r ≡ tableCounts (now (table .entry)) ⌝ }
 {

@@ -2,9 +2,9 @@
 use mathlib.Core.Bool.{Bool, true, false, cond, not, _&&_, _||_}
 use mathlib.Core.List.{List, [], _∷_}
 use mathlib.Core.Option.{Option, none, some}
-use mathlib.Core.Path.{_≡_, refl, sym, _∙_, ap}
+use mathlib.Core.Path.{_≡_, refl, sym, _∙_}
 use Prim.Native.Nat.{ℕ, zero, suc, _+_, _*_, _-_, _/_, _%_, _^_, _≤_, _<_}
-use native.Mathlib.Nat.{mul-le-mul, mul-le-mul-right, mul-assoc, pow-suc, pow-succ', pow-le-pow-right, lt-of-lt-of-le}
+use native.Mathlib.Nat.{mul-le-mul, pow-suc, pow-le-pow-right}
 use native.Mathlib.Numerals.{add-one}
 use native.Mathlib.Omega.{arith}
 use lib.Dec.{eqb, leb, ltb, eqb·suc-zero}
@@ -112,15 +112,6 @@ digit-none b e = go (digit-view b)
     go (letter l h d x v w) = let z : true ≡ false = sym x ∙ e in cc
     go (neither d x v) = sym v
 
--- no digit stands for more than 16
-pub hexadecimal-small : (b : ℕ) → hexadecimal b ≤ 16
-hexadecimal-small b = go (digit-view b)
-  where
-    go : Digit b → hexadecimal b ≤ 16
-    go (decimal l h d x v w) = omega arith
-    go (letter l h d x v w) = omega arith
-    go (neither d x v) = omega arith
-
 -- the tests of digits' form in the order of the code, and all at once
 form-tests : (digits fit leading lone : Bool) (value : ℕ)
     → cond (not fit) none
@@ -200,46 +191,6 @@ number-small field {v} e = go (digitsForm isDecimal 3 field && leb (valueBehind 
     go true h q =
         let same : valueBehind 10 0 field ≡ v = cc in
         let small : valueBehind 10 0 field ≤ 255 = leb-true _ 255 (and-true (digitsForm isDecimal 3 field) _ h .1) in
-        omega arith
-    go false h q = let z : _≡_ {A = ℕ} 0 1 = cc in omega arith
-
--- a hexadecimal digit stands for less than 16
-pub digit-small : (b : ℕ) → isHexadecimal b ≡ true → digitValue b < 16
-digit-small b e =
-    let value : hexadecimal b ≡ digitValue b = hexadecimal-value b e in
-    let small : hexadecimal b < 16 = leb-false 16 _ (below-sixteen b ∙ ap not e) in
-    omega arith
-
--- the value of hexadecimal digits, by their count
-pub value-bound : (n : ℕ) (field : List ℕ) → all isHexadecimal field ≡ true → valueBehind 16 n field < suc n * 16 ^ length field
-unfolding valueBehind
-value-bound n [] e = omega arith
-value-bound n (b ∷ field) e =
-    let tested : (isHexadecimal b ≡ true) × (all isHexadecimal field ≡ true) = and-true (isHexadecimal b) (all isHexadecimal field) e in
-    let small : digitValue b < 16 = digit-small b (tested .0) in
-    let rest : valueBehind 16 (n * 16 + digitValue b) field < suc (n * 16 + digitValue b) * 16 ^ length field =
-    value-bound (n * 16 + digitValue b) field (tested .1)
-    in
-    let more : suc (n * 16 + digitValue b) * 16 ^ length field ≤ suc n * 16 * 16 ^ length field =
-    mul-le-mul-right (16 ^ length field) (omega arith)
-    in
-    rw (pow-succ' 16 (length field), ← mul-assoc (suc n) 16 (16 ^ length field)) (lt-of-lt-of-le rest more)
-
--- a set is below 2 ^ 64
-pub set-small : (field : List ℕ) {v : ℕ} → setOf field ≡ some v → v < 2 ^ 64
-unfolding setOf digitsForm
-set-small [] {v} e = let z : _≡_ {A = ℕ} 0 1 = cc in omega arith
-set-small (d ∷ more) {v} e = go (digitsForm isHexadecimal 16 (d ∷ more)) refl e
-  where
-    go : (t : Bool) → digitsForm isHexadecimal 16 (d ∷ more) ≡ t
-        → cond t (some (valueBehind 16 0 (d ∷ more))) none ≡ some v → v < 2 ^ 64
-    go true h q =
-        let formed = and-true (all isHexadecimal (d ∷ more) && leb (suc (length more)) 16) _ h .0 in
-        let tested = and-true (all isHexadecimal (d ∷ more)) (leb (suc (length more)) 16) formed in
-        let short : suc (length more) ≤ 16 = leb-true _ 16 (tested .1) in
-        let bound : valueBehind 16 0 (d ∷ more) < 1 * 16 ^ suc (length more) = value-bound 0 (d ∷ more) (tested .0) in
-        let powers : 16 ^ suc (length more) ≤ 16 ^ 16 = pow-le-pow-right (omega arith) short in
-        let same : valueBehind 16 0 (d ∷ more) ≡ v = cc in
         omega arith
     go false h q = let z : _≡_ {A = ℕ} 0 1 = cc in omega arith
 

@@ -9,8 +9,7 @@ use native.Mathlib.Omega.{arith}
 use lib.Dec.{eqb}
 use lib.ListN.{length, take, drop, getD, drop-of-length-le, length-drop}
 use lib.Seq.{drop-cons, drop-drop}
-use borrow.Author.Tests.{eqb-true, eq-eqb, ne-eqb}
-use Rattle.base.specs.BoolLaws.{and-true}
+use borrow.Author.Tests.{eq-eqb, ne-eqb}
 use Rattle.base.specs.ListLaws.{first-some}
 use Rattle.text.specs.declared.Line.{Line}
 use Rattle.text.specs.declared.LineKind.{LineKind}
@@ -18,7 +17,7 @@ use Rattle.text.specs.declared.LineKind.the-variants.{Rl, Fk, Pr, St, Lo, Br, E
 use Rattle.text.specs.declared.StatementKind.the-variants.{Is, Ks, Ps, Ku, Pu, Kd, Pd}
 use Rattle.text.specs.Text.{space, same, onFirst, fieldsIn}
 use Rattle.text.specs.Text.{wordOf, kinds, kindOf, Form, formsOf, fieldOf, valuesOf, lineWith, lineOf}
-use Rattle.reading.specs.TextLaws.{same-equal, forms-six}
+use Rattle.reading.specs.TextLaws.{same-equal}
 use Rattle.fields.specs.Field.{fieldLength, othersIn, numberIf, before, stepAt, lineFrom, lineBehind}
 use Rattle.fields.specs.DigitLaws.{number-small, dash-zero}
 

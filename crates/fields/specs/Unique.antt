@@ -21,8 +21,8 @@ use Rattle.text.specs.Text.{same, onFirst, fieldsIn, Form, formsOf, fieldOf, va
 use Rattle.text.specs.Text.Form.{number, set, nothing}
 use Rattle.text.specs.Text.{space, dash, newline, isDecimal, isHexadecimal, digitsForm, digitValue, valueBehind, numberOf, setOf, dashOf}
 use Rattle.text.specs.Value.{digit, digitsOf, fieldWritten, fieldsWritten, lineWritten}
-use Rattle.reading.specs.TextLaws.{same-equal, forms-six, six-values, fits, allFit, valuesIn, lineFits}
-use Rattle.fields.specs.DigitLaws.{Digit, digit-view, digit-small}
+use Rattle.reading.specs.TextLaws.{digit-below, same-equal, forms-six, six-values, fits, allFit, valuesIn, lineFits}
+use Rattle.fields.specs.DigitLaws.{Digit, digit-view}
 use Rattle.fields.specs.Field.{fieldLength, othersIn, lineFrom, lineBehind}
 use Rattle.fields.specs.FieldLaws.{inFront, withValue, values-cons, values-split}
 use Rattle.fields.specs.FieldLaws.{fields-cut, kind-word, line-none, line-some}
@@ -153,7 +153,7 @@ field-written set field {n} e = go (digitsForm isHexadecimal 16 field) refl e
         → digitsOf 16 16 n ≡ field
     go true h q =
         let value : valueBehind 16 0 field ≡ n = cc in
-        rw (← value) (digits-written 16 (omega arith) isHexadecimal digit-small digit-back 16 field h)
+        rw (← value) (digits-written 16 (omega arith) isHexadecimal digit-below digit-back 16 field h)
     go false h q = cc
 field-written nothing field {n} e = go (same field (dash ∷ [])) refl e
   where
@@ -236,14 +236,6 @@ text-of-line bytes {l} e =
     in
     let joined : take (fieldLength bytes) bytes ++ spaced others ≡ bytes = cc in
     sym joined ∙ rw (parts .0, values-written (formsOf (l .kind)) others (parts .1) .0)
-
--- and behind it stands the byte that ends the line
-pub line-unique : (bytes : List ℕ) {l : Line} → lineOf bytes ≡ some l → bytes ++ (newline ∷ []) ≡ lineWritten l
-line-unique bytes {l} e = rw (line-ended l, text-of-line bytes e)
-
--- so one line has one text
-pub same-text : (bytes others : List ℕ) {l : Line} → lineOf bytes ≡ some l → lineOf others ≡ some l → bytes ≡ others
-same-text bytes others e f = text-of-line bytes e ∙ sym (text-of-line others f)
 
 -- the digits that a number below the base is written with
 digit-value : (n : ℕ) → n < 16 → (digitValue (digit n) ≡ n) × (isHexadecimal (digit n) ≡ true)
@@ -401,11 +393,6 @@ front-field [] line fields e q = q
 front-field (b ∷ field) line fields e q =
     let tested : (notSpace b ≡ true) × (all notSpace field ≡ true) = and-true (notSpace b) (all notSpace field) e in
     rw (not-true (eqb b space) (tested .0), fieldsIn, front-field field line fields (tested .1) q)
-
--- bytes with no space in front of a space are a field
-pub field-before-space : (field line : List ℕ) → all notSpace field ≡ true → fieldsIn (field ++ (space ∷ line)) ≡ field ∷ fieldsIn line
-unfolding fieldsIn
-field-before-space field line e = front-field field (space ∷ line) (fieldsIn line) e refl
 
 -- fields with no space, and a space in front of each, are the fields of the line behind an empty one
 spaced-fields : (fields : List (List ℕ)) → all (all notSpace) fields ≡ true → fieldsIn (spaced fields) ≡ [] ∷ fields

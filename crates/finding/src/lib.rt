@@ -9,14 +9,14 @@ ghost use Rattle.graph.specs.Graph as G;
 ghost use Rattle.finding.specs.Steps.{letterMeant, letterIn, stands, sharedIn, byteIn, nothingTo, stepIn, edgeFrom, Looked};
 use edges::Edge;
 use edges::no_edge;
+use fetching::row_at;
+use fetching::row_count;
 use standing::back_stands;
 use standing::holds_a;
 use standing::holds_b;
 use standing::holds_c;
 use standing::holds_d;
 use standing::holds_e;
-use standing::row_at;
-use standing::row_count;
 use tables::Row;
 
 // The letter of the edge that may stand between two rows; absent where none stands.
@@ -135,7 +135,7 @@ fn nothing_to(slot: usize) -> EdgeStep
     }
 }
 
-// The edge between two rows with this flow and letter, in its slot.
+// The edge between two rows with this flow and letter, in its slot. There are 524288 slots: 512 rows of 1024.
 fn step_with(slot: usize, flow: u8, l: Letter, p: Row, q: Row) -> EdgeStep
     requires { ⌜ slot < 524288 ⌝ }
     ensures { λ r. ⌜ r ≡ stepIn slot flow p q (letterMeant l) ⌝ }

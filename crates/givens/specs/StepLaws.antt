@@ -1,5 +1,5 @@
 -- The steps of the code decide S21.
-use mathlib.Core.Bool.{Bool, true, false, cond, not}
+use mathlib.Core.Bool.{Bool, true, false, cond}
 use mathlib.Core.List.{List, [], _∷_, _++_, append-assoc, append-nil}
 use mathlib.Core.Option.{Option, none, Option·some-ne-none}
 use mathlib.Core.Path.{_≡_, refl, sym, ap, subst, _∙_}
@@ -17,10 +17,10 @@ use Rattle.text.specs.declared.Line.{Line}
 use Rattle.text.specs.declared.LineKind.{LineKind}
 use Rattle.text.specs.declared.LineKind.the-variants.{Rl, Fk, Pr, St, Lo, Br, El, En, Li}
 use Rattle.text.specs.declared.Workload.{Workload}
-use Rattle.text.specs.Text.{unusedLine, namesLine, newline, formsOf}
+use Rattle.text.specs.Text.{unusedLine, namesLine, newline}
 use Rattle.text.specs.Reading.{fault, noneOpen}
 use Rattle.text.specs.Value.{linesOf, lineWritten, linesWritten, written}
-use Rattle.reading.specs.TextLaws.{fits, allFit, lineFits}
+use Rattle.reading.specs.TextLaws.{fits, lineFits}
 use Rattle.writing.specs.Givens.{SoundLines, SoundValue, sound-given, given-sound}
 use Rattle.readstate.specs.Holds.{faultOf}
 use Rattle.lengths.specs.Size.{sizeOf}
@@ -90,37 +90,27 @@ end-kind El e = absurd (true-false e refl)
 end-kind En e = refl
 end-kind Li e = absurd (true-false e refl)
 
-all-zero : (k : LineKind) (a b c d e f : ℕ) → k ≡ En → allFit (formsOf En) (a ∷ b ∷ c ∷ d ∷ e ∷ f ∷ []) ≡ true
+all-zero : (k : LineKind) (a b c d e f : ℕ) → k ≡ En → a ≡ 0 → b ≡ 0 → c ≡ 0 → d ≡ 0 → e ≡ 0 → f ≡ 0
     → record { kind = k; id = a; rel = b; to = c; reads = d; writes = e; tests = f } ≡ unusedLine
-unfolding allFit formsOf fits unusedLine
-all-zero k a b c d e f h q =
-    let fit-a = and-true (eqb a 0) _ q in
-    let fit-b = and-true (eqb b 0) _ (fit-a .1) in
-    let fit-c = and-true (eqb c 0) _ (fit-b .1) in
-    let fit-d = and-true (eqb d 0) _ (fit-c .1) in
-    let fit-e = and-true (eqb e 0) _ (fit-d .1) in
-    let fit-f = and-true (eqb f 0) _ (fit-e .1) in
-    rw (
-      h,
-      eqb-true a 0 (fit-a .0),
-      eqb-true b 0 (fit-b .0),
-      eqb-true c 0 (fit-c .0),
-      eqb-true d 0 (fit-d .0),
-      eqb-true e 0 (fit-e .0),
-      eqb-true f 0 (fit-f .0),
-    )
+unfolding unusedLine
+all-zero k a b c d e f h ha hb hc hd he hf = rw (h, ha, hb, hc, hd, he, hf)
 
 -- the test tells the unused line
 pub empty-line : (l : Line) → isEmpty l ≡ true → l ≡ unusedLine
-unfolding isEmpty lineFits
-empty-line l e =
-    let both = and-true (isEnd (l .kind)) (lineFits l) e in
-    let kind = end-kind (l .kind) (both .0) in
-    all-zero (l .kind) (l .id) (l .rel) (l .to) (l .reads) (l .writes) (l .tests) kind
-    (subst (λ (k : LineKind). allFit (formsOf k) (l .id ∷ l .rel ∷ l .to ∷ l .reads ∷ l .writes ∷ l .tests ∷ []) ≡ true) kind (both .1))
+unfolding isEmpty
+empty-line l t =
+    let f = and-true _ (eqb (l .tests) 0) t in
+    let e = and-true _ (eqb (l .writes) 0) (f .0) in
+    let d = and-true _ (eqb (l .reads) 0) (e .0) in
+    let c = and-true _ (eqb (l .to) 0) (d .0) in
+    let b = and-true _ (eqb (l .rel) 0) (c .0) in
+    let a = and-true (isEnd (l .kind)) (eqb (l .id) 0) (b .0) in
+    all-zero (l .kind) (l .id) (l .rel) (l .to) (l .reads) (l .writes) (l .tests) (end-kind (l .kind) (a .0))
+    (eqb-true (l .id) 0 (a .1)) (eqb-true (l .rel) 0 (b .1)) (eqb-true (l .to) 0 (c .1)) (eqb-true (l .reads) 0 (d .1))
+    (eqb-true (l .writes) 0 (e .1)) (eqb-true (l .tests) 0 (f .1))
 
 pub line-empty : isEmpty unusedLine ≡ true
-unfolding isEmpty isEnd unusedLine lineFits allFit fits formsOf
+unfolding isEmpty isEnd unusedLine
 line-empty = refl
 
 pub cells-empty : (lines : List Line) → all isEmpty lines ≡ true → lines ≡ replicate (length lines) unusedLine
@@ -186,14 +176,6 @@ size-zero l e f = omega (arith, size-fits l f .0)
 
 size-some : (l : Line) → (sizeOf l ≡ 0 → ⊥) → lineFits l ≡ true
 size-some l h = true-of (lineFits l) (λ e. h (size-unfit l e))
-
--- the size tells whether the line fits
-pub size-test : (l : Line) → not (eqb (sizeOf l) 0) ≡ lineFits l
-size-test l = go (lineFits l) refl
-  where
-    go : (t : Bool) → lineFits l ≡ t → not (eqb (sizeOf l) 0) ≡ lineFits l
-    go true e = rw (e, ne-eqb (sizeOf l) 0 (λ q. size-zero l q e))
-    go false e = rw (e, size-unfit l e)
 
 -- the line does not fit
 pub step-unfit : (words : List ℕ) (l : Line) → sizeOf l ≡ 0 → Stepped words l 0 words

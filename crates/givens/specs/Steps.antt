@@ -4,6 +4,7 @@ use mathlib.Core.List.{List, [], _∷_, _++_}
 use mathlib.Core.Option.{none}
 use mathlib.Core.Path.{_≡_}
 use Prim.Native.Nat.{ℕ, _≤_}
+use lib.Dec.{eqb}
 use lib.ListN.{length}
 use Rattle.text.specs.declared.Line.{Line}
 use Rattle.text.specs.declared.LineKind.{LineKind}
@@ -18,9 +19,10 @@ use Rattle.readstate.specs.Words.{HoldsWords}
 unfoldable pub isEnd : LineKind → Bool
 isEnd k = elim k [ Rl ↦ false | Fk ↦ false | Pr ↦ false | St s ↦ false | Lo ↦ false | Br ↦ false | El ↦ false | En ↦ true | Li ↦ false ]
 
--- the test of a cell without a line: a line `en` whose values fit holds nothing but zeros
+-- the test of a cell without a line: kind `en`, all values 0
 unfoldable pub isEmpty : Line → Bool
-isEmpty l = isEnd (l .kind) && lineFits l
+isEmpty l =
+    isEnd (l .kind) && eqb (l .id) 0 && eqb (l .rel) 0 && eqb (l .to) 0 && eqb (l .reads) 0 && eqb (l .writes) 0 && eqb (l .tests) 0
 
 -- a line taken behind others: the bytes that it is written with, or 0 where it does not fit or has a fault
 pub record Stepped (before : List ℕ) (l : Line) (r : ℕ) (after : List ℕ) : Type 0 where

@@ -26,15 +26,18 @@ fn is_end(kind: LineKind) -> bool
     }
 }
 
-// The cell holds the unused line: a line `en` whose values fit holds nothing but zeros.
+// The cell holds the unused line.
 fn is_empty(l: Line) -> bool
     ensures { λ r. ⌜ r ≡ isEmpty l ⌝ }
 {
     let kind = l.kind;
-    if !is_end(kind) {
-        return false;
-    }
-    lengths::line_size(l) != 0
+    is_end(kind)
+        & (l.id == 0)
+        & (l.rel == 0)
+        & (l.to == 0)
+        & (l.reads == 0)
+        & (l.writes == 0)
+        & (l.tests == 0)
 }
 
 // The cells behind the lines are empty.

@@ -1,18 +1,16 @@
 -- E3: a key guards a place exactly if a link of its child by that key has its parent among what is seen at the place.
 use mathlib.Core.Path.{_≡_, refl, sym, ap, ap₂, _∙_}
 use mathlib.Core.Bool.{Bool, true, false, cond, _&&_, _||_}
-use mathlib.Core.List.{List, [], _∷_, _++_, List·Memᴰ}
+use mathlib.Core.List.{List, [], _∷_, List·Memᴰ}
 use mathlib.Core.List.List·Memᴰ.{List·Memᴰ·head, List·Memᴰ·tail}
 use Prim.Native.Nat.{ℕ, _^_, _<_}
-use native.Mathlib.Decide.{ℕ-discrete}
-use lib.Bits.{bitOr}
-use lib.Dec.{eqb, ltb}
-use lib.ListN.{length, take}
-use borrow.Author.Tests.{eq-eqb, ne-eqb, lt-ltb}
+use lib.Dec.{eqb}
+use lib.ListN.{take}
+use borrow.Author.Tests.{lt-ltb}
 use Rattle.base.specs.Basic.{any, has}
 use Rattle.base.specs.BoolLaws.{and-right}
 use Rattle.base.specs.ListLaws.{any-same}
-use Rattle.base.specs.WordLaws.{has-empty, has-bitOr, has-one, has-one-other}
+use Rattle.base.specs.WordLaws.{has-empty, has-bitOr, has-bit}
 use Rattle.graph.specs.Program.{Statement, Link}
 use Rattle.graph.specs.Unfolding.{Occurrence}
 use Rattle.graph.specs.Edge.{shields, leads, binds, guarded, Place, at}
@@ -22,21 +20,13 @@ use Rattle.choosing.specs.Seen.{markOf, seenAt}
 abbrev pub IdsSmall : List Occurrence → Type 0
 IdsSmall l = (o : Occurrence) → List·Memᴰ o l → o .statement .id < 32
 
--- the word of one bit has that bit alone
-pub bit-same : (j k : ℕ) → has (2 ^ j) k ≡ eqb k j
-bit-same j k = go (ℕ-discrete k j)
-  where
-    go : Dec (k ≡ j) → has (2 ^ j) k ≡ eqb k j
-    go (yes e) = ap (has (2 ^ j)) e ∙ has-one j ∙ sym (eq-eqb k j e)
-    go (no d) = has-one-other j k d ∙ sym (ne-eqb k j d)
-
 -- the mark of a statement has its id where its kind shields
 mark-has : (s : Statement) (k : ℕ) → s .id < 32 → has (markOf s) k ≡ eqb k (s .id) && shields (s .kind)
 unfolding markOf
 mark-has s k h = rw (lt-ltb (s .id) 32 h) (go (shields (s .kind)))
   where
     go : (b : Bool) → has (cond (b && true) (2 ^ (s .id)) 0) k ≡ eqb k (s .id) && b
-    go true = bit-same (s .id) k ∙ both (eqb k (s .id))
+    go true = has-bit (s .id) k ∙ both (eqb k (s .id))
       where
         both : (b : Bool) → b ≡ b && true
         both true = refl

@@ -1,23 +1,23 @@
 -- The word of the keys that shield a place, gathered link by link.
-use mathlib.Core.Path.{_≡_, refl, sym, ap, ap₂, _∙_, fun-ext}
+use mathlib.Core.Path.{_≡_, refl, sym, ap, _∙_}
 use mathlib.Core.Bool.{Bool, true, false, cond, _&&_, _||_}
-use mathlib.Core.List.{List, [], _∷_, _++_, List·Memᴰ}
+use mathlib.Core.List.{List, [], _∷_}
 use Prim.Native.Nat.{ℕ, _^_, _<_}
 use native.Mathlib.Decide.{ℕ-discrete}
 use native.Mathlib.Omega.{arith}
 use lib.Bits.{bitOr, or-lt}
 use lib.Dec.{eqb, ltb}
-use lib.ListN.{length, take}
+use lib.ListN.{take}
 use lib.Pow.{pow-lt}
-use borrow.Author.Tests.{eq-eqb, ne-eqb, lt-ltb, ltb-true, ltb-false}
+use borrow.Author.Tests.{eq-eqb, ne-eqb, ltb-true, ltb-false}
 use Rattle.base.specs.Basic.{any, has}
-use Rattle.base.specs.WordLaws.{has-empty, has-bitOr, words-equal}
-use Rattle.graph.specs.Program.{Statement, Link}
+use Rattle.base.specs.WordLaws.{has-empty, has-bitOr, has-bit, words-equal}
+use Rattle.graph.specs.Program.{Link}
 use Rattle.graph.specs.Edge.{guarded, Place, at}
 use Rattle.choosing.specs.Seen.{seenAt}
 use Rattle.tables.specs.Table.{wordOf}
 use Rattle.tables.specs.TableLaws.{wordOf-small, wordOf-has}
-use Rattle.guarding.specs.Guarded.{IdsSmall, bit-same, guarded-seen}
+use Rattle.guarding.specs.Guarded.{IdsSmall, guarded-seen}
 
 -- E3: a link of this child whose parent is seen adds its key
 unfoldable pub withLink : ℕ → ℕ → Link → ℕ → ℕ
@@ -71,7 +71,7 @@ withLink-has child seen l word f h = go (eqb (l .child) child) (has seen (l .par
     go : (a b c : Bool) → ltb (l .key) 32 ≡ c
         → has (cond (a && b && c) (bitOr word (2 ^ (l .key))) word) f ≡ has word f || (eqb (l .key) f && (a && b))
     go true true true e =
-        has-bitOr word (2 ^ (l .key)) f ∙ ap (λ (b : Bool). has word f || b) (bit-same (l .key) f ∙ eqb-comm f (l .key) ∙ whole (eqb (l .key) f))
+        has-bitOr word (2 ^ (l .key)) f ∙ ap (λ (b : Bool). has word f || b) (has-bit (l .key) f ∙ eqb-comm f (l .key) ∙ whole (eqb (l .key) f))
     go true true false e =
         let big = ltb-false (l .key) 32 e in
         nothing (has word f) _ (ap (λ (b : Bool). b && true) (ne-eqb (l .key) f (λ d. omega arith)))

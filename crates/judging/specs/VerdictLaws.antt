@@ -1,6 +1,6 @@
 -- From what the parts promise to what the verdict promises.
 use mathlib.Core.Bool.{true, false, not}
-use mathlib.Core.List.{List, [], _∷_, flatMap}
+use mathlib.Core.List.{List, [], _∷_}
 use mathlib.Core.Logic.{_⊎_, inl, inr}
 use mathlib.Core.Option.{Option, none, some}
 use mathlib.Core.Path.{_≡_, refl, sym, ap, subst, _∙_}
@@ -17,6 +17,7 @@ use Rattle.soundness.specs.Theorem.{demand-3}
 use Rattle.report.specs.State.{StateRefusal, shortForWalk, tooMany, Counts, countsOf, summaryGraph, Robust, refusalOf}
 use Rattle.report.specs.State.StateRefusal.{too-short, taken}
 use Rattle.detector.specs.Table.{tableWalk, shownWalk, shownIn, Shown, Answered}
+use Rattle.detector.specs.ShowLaws.{shown-empty}
 use Rattle.rows.specs.declared.Rows.{Rows}
 use Rattle.rows.specs.Rows.{RowsSettled}
 use Rattle.rows.specs.Whole.{Whole, whole-refused, whole-filled}
@@ -73,11 +74,6 @@ unfolding isDangerous
 not-empty g [] d n e = let z : _≡_ {A = ℕ} 0 1 = cc in absurd (omega arith)
 not-empty g (s ∷ walk) d n e = ne-eqb n 0 (λ z. omega arith)
 
--- no step leaves the area as it was
-nothing-shown : (before : List ℕ) → shownIn [] before ≡ before
-unfolding shownIn flatMap
-nothing-shown before = refl
-
 module _ (w : Workload) (given : Given w) (few : tooMany (linesOf w) ≡ false) (before : List ℕ) (ahead behind : List ℕ) where
   -- what the detector's tables show is the verdict
   pub judged-given : shortForWalk (length before / 4) ≡ false
@@ -111,7 +107,7 @@ module _ (w : Workload) (given : Given w) (few : tooMany (linesOf w) ≡ false) 
       go (inr (e, safe)) =
           let word = robust safe (λ s. demand-3 w given safe s) in
           let no-step : steps ≡ 0 = many ∙ ap length e in
-          let same : after ≡ before = area ∙ ap (λ (steps : List Step). shownIn steps before) e ∙ nothing-shown before in
+          let same : after ≡ before = area ∙ ap (λ (steps : List Step). shownIn steps before) e ∙ shown-empty before in
           rw (same, no-step) word
 
 -- a refusal of the table of places is the verdict's

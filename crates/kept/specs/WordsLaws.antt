@@ -21,3 +21,8 @@ pub cell-short : (words : List ℕ) (from i : ℕ) → length words - from ≤ i
 unfolding arrayIn
 cell-short words from i h =
     List·getD-eq-default (arrayIn words from) 0 (omega (arith, length-take 32 (drop from words), length-drop from words))
+
+-- an array that the words hold whole has 32 cells
+pub array-length : (words : List ℕ) (from : ℕ) → from + 32 ≤ length words → length (arrayIn words from) ≡ 32
+unfolding arrayIn
+array-length words from h = omega (arith, length-take 32 (drop from words), length-drop from words)

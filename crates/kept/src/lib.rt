@@ -49,16 +49,6 @@ pub const DEPTH: usize = 422;
 
 pub const STATEMENTS: usize = 423;
 
-// A word, 0 past the end.
-pub fn word(words: &[u64], at: usize) -> u64
-    ensures { λ r. ⌜ r ≡ getD (now (words .entry)) at 0 ⌝ }
-{
-    if at < words.len() {
-        return words[at];
-    }
-    0
-}
-
 // A cell of the array that begins at a word, 0 past its end.
 pub fn cell(words: &[u64], from: usize, i: u64) -> u64
     ensures { λ r. ⌜ r ≡ getD (arrayIn (now (words .entry)) from) i 0 ⌝ }

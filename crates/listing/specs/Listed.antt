@@ -1,5 +1,5 @@
 -- What follows for the answers from the table of a workload's places.
-use mathlib.Core.Bool.{Bool, true, false, cond}
+use mathlib.Core.Bool.{Bool, false, cond}
 use mathlib.Core.List.{List, [], _++_, map, flatMap}
 use mathlib.Core.Option.{Option, none, some}
 use mathlib.Core.Path.{_≡_, refl, sym, ap, subst, _∙_}
@@ -23,7 +23,7 @@ use Rattle.listing.specs.declared.EdgeAnswer.{EdgeAnswer}
 use Rattle.listing.specs.declared.Prepared.{Prepared}
 use Rattle.rows.specs.declared.Rows.{Rows}
 use Rattle.rows.specs.Rows.{RowsSettled}
-use Rattle.rows.specs.Refusals.{refusal-some, refusal-none, same-number, not-both, taken-given, other-area}
+use Rattle.report.specs.Refusals.{refusal-some, refusal-none, same-number, not-both, taken-given, other-area}
 use Rattle.rows.specs.Whole.{whole-refusal, whole-kept, whole-edges, whole-filled}
 use Rattle.listing.specs.Settled.{edgesIn, countsRefused, edgeRefused, edgeTold, CountsSettled, EdgeSettled, PutSettled}
 use Rattle.listing.specs.Steps.{TabledFor, PreparedFor}

@@ -11,8 +11,7 @@ use borrow.Author.Tests.{ltb-true}
 use Rattle.base.specs.BoolLaws.{and-true, and-of, and-left, and-right}
 use Rattle.graph.specs.Edge.{loosens}
 use Rattle.tables.specs.declared.Row.{Row}
-use Rattle.tables.specs.Table.{rowAt, rowCount, rowForward, rowBack}
-use Rattle.edges.specs.SlotLaws.{rows-small}
+use Rattle.tables.specs.Table.{rowAt, rowForward, rowBack}
 use Rattle.detector.specs.Coding.{aheadWord, behindWord}
 use Rattle.picking.specs.declared.Tally.{Tally}
 use Rattle.picking.specs.Picks.{forwardWord, backWord}
@@ -57,9 +56,6 @@ module _ (p q : Row) {f b : Bool} {r : Tally} (forward : f ≡ rowForward p q) (
   }
 
 -- ---- sums
-
-pub few-rows : (table : List ℕ) {n : ℕ} → n ≡ rowCount table → n ≤ 512
-few-rows table e = let h = rows-small table in omega arith
 
 -- no more than so many from each
 sum-most : (f : ℕ → ℕ) (b : ℕ) → ((j : ℕ) → f j ≤ b) → (n : ℕ) → sumBelow f n ≤ n * b

@@ -7,10 +7,10 @@ ghost use Rattle.graph.specs.Edge.{loosens};
 ghost use Rattle.detector.specs.Coding.{aheadWord, behindWord};
 ghost use Rattle.picking.specs.Picks.{picksOf};
 ghost use Rattle.picking.specs.Kept.{keptAt, hasEntries, tallyOf, PairKept, RowAdded};
+use fetching::row_at;
+use fetching::row_count;
 use standing::back_stands;
 use standing::forward_stands;
-use standing::row_at;
-use standing::row_count;
 use tables::Row;
 use text::StatementKind;
 

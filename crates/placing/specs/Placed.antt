@@ -148,7 +148,7 @@ module _ (text : List ℕ) (lines : List Line) (taken : read text ≡ accepted l
 
 -- ---- rows
 
-placesFrom-length : (m : ℕ) (n : Node) (i : ℕ) (l : List Occurrence) → length (placesFrom m n i l) ≡ length l
+pub placesFrom-length : (m : ℕ) (n : Node) (i : ℕ) (l : List Occurrence) → length (placesFrom m n i l) ≡ length l
 unfolding placesFrom
 placesFrom-length m n i [] = refl
 placesFrom-length m n i (o ∷ l) = ap suc (placesFrom-length m n (suc i) l)

@@ -14,10 +14,6 @@ use Rattle.printing.specs.declared.Printed.{Printed}
 unfoldable pub printedAs : List ℕ → Printed
 printedAs bytes = record { length = length bytes; bytes = bytes ++ replicate (8192 - length bytes) 0 }
 
--- the four counts
-abbrev pub counted : ℕ → ℕ → ℕ → ℕ → Counts
-counted programs nodes edges back = record { programs = programs; nodes = nodes; edges = edges; back = back }
-
 -- the first two lines of a report that is no refusal
 abbrev pub verdictLines : List ℕ → Counts → List ℕ
 verdictLines word c = verdictNames ++ verdictLine word c

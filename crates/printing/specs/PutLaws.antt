@@ -1,6 +1,6 @@
 -- Bytes that are written one behind the other.
 use mathlib.Core.List.{List, [], _∷_, _++_}
-use mathlib.Core.Path.{_≡_, refl, sym, ap, ap₂, subst, _∙_}
+use mathlib.Core.Path.{_≡_, sym, ap, ap₂, subst, _∙_}
 use Prim.Native.Nat.{ℕ, zero, suc, _+_, _-_, _≤_, _<_, zero-le}
 use native.Mathlib.Nat.{add-zero, zero-add, sub-zero}
 use native.Mathlib.Numerals.{add-one}
@@ -27,10 +27,6 @@ put-both {a} {b} {m} {n} {at} {r} {s} {before} {mid} {after} p q =
       area =
           q .area ∙ ap₂ (λ (l : List ℕ) (k : ℕ). sets l k b) (p .area) (p .place) ∙ sym (sets-append a b before at);
     }
-
--- one byte
-pub put-one : (b at : ℕ) (before : List ℕ) → Put (b ∷ []) 1 at before (at + 1) (set before at b)
-put-one b at before = record { place = refl; few = omega arith; area = refl }
 
 -- a looser bound
 pub put-most : {a : List ℕ} {m n at r : ℕ} {before after : List ℕ} → m ≤ n → Put a m at before r after → Put a n at before r after

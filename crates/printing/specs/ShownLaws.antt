@@ -1,13 +1,14 @@
 -- A walk of at most 65 steps that stands at the front of an area is the one that is read from it.
 use mathlib.Core.List.{List, [], _∷_, _++_, append-assoc, flatMap}
 use mathlib.Core.Path.{_≡_, refl, sym, ap, ap₂, _∙_}
-use Prim.Native.Nat.{ℕ, zero, suc, _+_, _*_, _≤_, min}
+use Prim.Native.Nat.{ℕ, suc, _+_, _*_, _≤_, min}
 use native.Mathlib.Omega.{arith}
 use lib.ListN.{length, getD, drop, length-append}
 use lib.Seq.{getD-append-add}
 use Rattle.graph.specs.Graph.{Flow}
 use Rattle.graph.specs.Walk.{Step}
 use Rattle.detector.specs.Table.{flowWord, stepWords, shownIn}
+use Rattle.detector.specs.ShowLaws.{length-words}
 use Rattle.printing.specs.Printed.{flowOf, stepAt, stepsIn, walkIn}
 
 flow-back : (f : Flow) → flowOf (flowWord f) ≡ f
@@ -33,10 +34,6 @@ step-back s front rest k h =
     let d = ap flowOf (word-behind front words (k * 4) 3 h) ∙ flow-back (s .flow) in
     λ i. record { node = a i; leaves = b i; enters = c i; flow = d i }
 
-four : (s : Step) → length (stepWords s) ≡ 4
-unfolding stepWords
-four s = refl
-
 steps-back : (steps : List Step) (front rest : List ℕ) (k : ℕ) → length front ≡ k * 4
     → stepsIn (front ++ (flatMap stepWords steps ++ rest)) k (length steps) ≡ steps
 unfolding stepsIn flatMap
@@ -52,7 +49,7 @@ steps-back (s ∷ steps) front rest k h =
     (ap (λ (l : List ℕ). stepsIn l (suc k) (length steps)) others ∙ steps-back steps (front ++ stepWords s) rest (suc k) (longer s))
   where
     longer : (t : Step) → length (front ++ stepWords t) ≡ suc k * 4
-    longer t = let a = length-append front (stepWords t) in let b = four t in omega arith
+    longer t = let a = length-append front (stepWords t) in let b = length-words t in omega arith
 
 -- W5
 pub walk-shown : (walk : List Step) (area : List ℕ) → length walk ≤ 65 → walkIn (shownIn walk area) (length walk) ≡ walk

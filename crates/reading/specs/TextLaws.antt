@@ -63,7 +63,7 @@ same-equal (a ∷ l) (b ∷ r) e =
     cc
 
 -- a hexadecimal digit stands for a number below 16
-digit-below : (d : ℕ) → isHexadecimal d ≡ true → digitValue d < 16
+pub digit-below : (d : ℕ) → isHexadecimal d ≡ true → digitValue d < 16
 unfolding digitValue
 digit-below d h = go (isDecimal d) refl
   where

@@ -3,7 +3,7 @@ use mathlib.Core.Path.{_≡_, refl, sym, ap, ap₂, subst, _∙_}
 use mathlib.Core.Bool.{Bool, true, false, cond, not, _&&_, _||_}
 use mathlib.Core.Bool as B
 use mathlib.Core.List.{List, [], _∷_, _++_, map, tail, append-nil, map-append, List·Memᴰ}
-use mathlib.Core.Option.{none, some, Option·none-ne-some}
+use mathlib.Core.Option.{none, Option·none-ne-some}
 use Prim.Native.Nat.{ℕ, zero, suc, _+_, _-_, _*_, _^_, _≤_, _<_}
 use native.Mathlib.Omega.{arith}
 use native.Mathlib.Numerals.{add-one}
@@ -250,13 +250,6 @@ unfolding stateBounded boundsTest
 good-bounds b h =
     bounds-facts (length (b .relations)) (length (b .keys)) (b .programs) (length (b .own .statements)) (b .own .body) (b .own .links)
     (length (b .own .open-blocks)) h
-
-pub bounds-good : (b : Before)
-    → Bounded (length (b .relations)) (length (b .keys)) (b .programs) (length (b .own .statements)) (b .own .body) (b .own .links)
-    (length (b .own .open-blocks))
-    → stateBounded b ≡ true
-unfolding stateBounded boundsTest
-bounds-good b h = bounds-of h
 
 -- the numbers that the code keeps are those of the lines
 pub record Numbers (s : State) (b : Before) : Type 0 where
@@ -1335,8 +1328,3 @@ holds-few s lines h =
     let place = h .good .place in
     let short = h .good .short in
     omega arith
-
--- how many lines were taken
-pub holds-lines : (s : State) (lines : List Line) → Holds s lines → s .lines ≡ length lines
-unfolding stateOf
-holds-lines s lines h = h .keeps .lines

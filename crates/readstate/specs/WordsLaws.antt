@@ -6,14 +6,14 @@ use mathlib.Core.Option.{none}
 use Prim.Native.Nat.{ℕ, _+_, _≤_, _<_}
 use native.Mathlib.Omega.{arith}
 use lib.Dec.{eqb, leb}
-use lib.ListN.{length, getD, drop, replicate, length-take, length-drop, length-append, length-replicate, getD-replicate, List·getD-append}
+use lib.ListN.{length, getD, drop, replicate, length-drop, length-append, length-replicate, getD-replicate, List·getD-append}
 use lib.Seq.{ext-getD}
 use borrow.Author.Tests.{le-leb, leb-true}
 use Rattle.text.specs.declared.Line.{Line}
 use Rattle.text.specs.Reading.{fault, noneOpen}
 use Rattle.kept.specs.Kept.{checkOf, emptyKept}
 use Rattle.kept.specs.Words.{arrayIn, stateIn, startedIn, Taken}
-use Rattle.kept.specs.WordsLaws.{cell-word}
+use Rattle.kept.specs.WordsLaws.{cell-word, array-length}
 use Rattle.readstate.specs.Holds.{Holds, faultOf}
 use Rattle.readstate.specs.HoldsLaws.{holds-start, holds-check, holds-take, holds-open}
 use Rattle.readstate.specs.Words.{HoldsWords}
@@ -31,13 +31,9 @@ zeros-size : (rest : List ℕ) → length (zeros rest) ≡ 424 + length rest
 unfolding zeros
 zeros-size rest = length-append (replicate 424 0) rest ∙ ap (λ n. n + length rest) (length-replicate {A = ℕ} 424 0)
 
-array-size : (words : List ℕ) (from : ℕ) → from + 32 ≤ length words → length (arrayIn words from) ≡ 32
-unfolding arrayIn
-array-size words from h = omega (arith, length-take 32 (drop from words), length-drop from words)
-
 zeros-array : (rest : List ℕ) (from : ℕ) → from + 32 ≤ 424 → arrayIn (zeros rest) from ≡ replicate 32 0
 zeros-array rest from h =
-    let long : length (arrayIn (zeros rest) from) ≡ 32 = array-size (zeros rest) from (omega (arith, zeros-size rest)) in
+    let long : length (arrayIn (zeros rest) from) ≡ 32 = array-length (zeros rest) from (omega (arith, zeros-size rest)) in
     ext-getD 0 (arrayIn (zeros rest) from) (replicate 32 0) (long ∙ sym (length-replicate {A = ℕ} 32 0))
     (λ i k. let small : i < 32 = omega (arith, long, k) in
     cell-word (zeros rest) from i small ∙ zeros-word rest (from + i) (omega arith) ∙ sym (getD-replicate 32 i 0 0 small))

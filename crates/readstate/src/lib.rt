@@ -1,5 +1,6 @@
 // What reading keeps of the lines taken so far, in lent words: no line yet, the tests of a line, and taking a line.
 use text::Line;
+use words::word_at;
 ghost use mathlib.Core.Path.{_≡_};
 ghost use mathlib.Core.List.{List, [], _∷_, _++_};
 ghost use mathlib.Core.Option.{none};
@@ -51,5 +52,5 @@ pub fn depth(words: &[u64]) -> u64
         × ((lines : List LineValue) → HoldsWords (now (words .entry)) lines → noneOpen lines ≡ eqb r 0)
         ⌝ }
 {
-    kept::word(words, kept::DEPTH)
+    word_at(words, kept::DEPTH)
 }

@@ -56,6 +56,9 @@ pub record Counts : Type 0 where
   pub edges : ℕ
   pub back : ℕ
 
+abbrev pub counted : ℕ → ℕ → ℕ → ℕ → Counts
+counted programs nodes edges back = record { programs = programs; nodes = nodes; edges = edges; back = back }
+
 unfoldable pub countsOf : List Line → Counts
 countsOf lines =
     let nodes = nodesOf lines in

@@ -3,7 +3,7 @@ use mathlib.Core.Bool.{true, false}
 use mathlib.Core.List.{List}
 use mathlib.Core.Option.{Option, none, some}
 use mathlib.Core.Path.{_≡_, refl, sym, ap, subst, _∙_}
-use Prim.Native.Nat.{ℕ, zero, suc, _-_, _/_}
+use Prim.Native.Nat.{ℕ, _-_, _/_}
 use native.Mathlib.Omega.{arith}
 use lib.ListN.{length, replicate, length-append, length-replicate}
 use lib.Seq.{take-at, drop-at}
@@ -14,8 +14,9 @@ use Rattle.text.specs.Reading.Outcome.{accepted}
 use Rattle.text.specs.Value.{Given, linesOf}
 use Rattle.graph.specs.Walk.{Step}
 use Rattle.reading.specs.ValueLaws.{lines-of-value, value-given}
-use Rattle.report.specs.State.{countsOf, tooMany, shortForWalk, StateRefusal, refusalOf}
+use Rattle.report.specs.State.{counted, countsOf, tooMany, shortForWalk, StateRefusal, refusalOf}
 use Rattle.report.specs.State.StateRefusal.{not-given, too-many, too-short, taken}
+use Rattle.report.specs.Refusals.{refusal-some, refusal-none}
 use Rattle.report.specs.Report.{Report, refusalReport, robustReport, dangerReport}
 use Rattle.report.specs.Report.Report.{refusal, unfolding-refusal, robust, danger}
 use Rattle.reader.specs.declared.Parsed.{Parsed}
@@ -24,7 +25,7 @@ use Rattle.judging.specs.declared.Verdict.{Verdict}
 use Rattle.judging.specs.Verdict.{robustWith, dangerWith, Word, Judged}
 use Rattle.judging.specs.Verdict.Word.{robust as robust-word, danger as danger-word}
 use Rattle.printing.specs.declared.Printed.{Printed}
-use Rattle.printing.specs.Printed.{printedAs, counted, walkIn}
+use Rattle.printing.specs.Printed.{printedAs, walkIn}
 use Rattle.printing.specs.ShownLaws.{walk-shown}
 use Rattle.printing.specs.SizeLaws.{report-size}
 use Rattle.reporter.specs.Reported.{Reported, ValueReported}
@@ -71,16 +72,6 @@ some-number m n e = cc
 
 none-some : (m : ℕ) → _≡_ {A = Option ℕ} none (some m) → ⊥
 none-some m e = let wrong : _≡_ {A = ℕ} 0 1 = cc in omega arith
-
-refusal-some : (n : ℕ) → (n ≡ 0 → ⊥) → refusalOf n ≡ some n
-unfolding refusalOf
-refusal-some zero h = absurd (h refl)
-refusal-some (suc n) h = refl
-
-refusal-none : (n : ℕ) → n ≡ 0 → refusalOf n ≡ none
-unfolding refusalOf
-refusal-none zero h = refl
-refusal-none (suc n) h = absurd (omega arith)
 
 module _ {w : Workload} {before after : List ℕ} {v : Verdict} (long : length before ≡ 260) (j : Judged w before v after) where
   abbrev Refusal : Option ℕ → Type 0

@@ -1,9 +1,9 @@
 -- The paths through the filling of a table for a workload value.
-use mathlib.Core.Bool.{Bool, true, false, true≢false}
-use mathlib.Core.List.{List, [], _∷_, _++_, map}
-use mathlib.Core.Option.{Option, none, some}
-use mathlib.Core.Path.{_≡_, refl, sym, ap, subst, _∙_}
-use Prim.Native.Nat.{ℕ, zero, suc, _+_, _*_, _-_, _/_, _≤_, _<_}
+use mathlib.Core.Bool.{false}
+use mathlib.Core.List.{List, _++_, map}
+use mathlib.Core.Option.{some}
+use mathlib.Core.Path.{_≡_, refl, ap, subst, _∙_}
+use Prim.Native.Nat.{ℕ, _+_, _*_, _-_, _/_, _≤_, _<_}
 use native.Mathlib.Omega.{arith}
 use lib.Dec.{ltb}
 use lib.ListN.{length, getD, getElem?, take, drop, replicate, length-take, length-map, List·getD-append}
@@ -13,22 +13,20 @@ use Rattle.text.specs.declared.Line.{Line}
 use Rattle.text.specs.declared.Workload.{Workload}
 use Rattle.text.specs.Value.{Given, linesOf}
 use Rattle.reading.specs.ValueLaws.{given-read, given-fits, given-cells}
-use Rattle.graph.specs.Program.{programsOf}
 use Rattle.graph.specs.Unfolding.{Node, nodesOf}
 use Rattle.report.specs.State.{StateRefusal, statementsIn, tooMany, shortForUnfoldings, refusalOf}
 use Rattle.report.specs.State.StateRefusal.{too-short, taken}
 use Rattle.tables.specs.Table.{rowsOf, tableOf}
 use Rattle.choosing.specs.Table.{cells}
 use Rattle.unfolder.specs.declared.Unfolded.{Unfolded}
-use Rattle.unfolder.specs.Result.{refusedWith, nodesTold}
+use Rattle.unfolder.specs.Result.{nodesTold}
 use Rattle.unfolder.specs.Settled.{PlacesStand, PlacesSettled}
-use Rattle.rows.specs.Refusals.{refusal-some, refusal-none, same-number, not-both, places-few, taken-given, other-area}
+use Rattle.report.specs.Refusals.{refusal-some, refusal-none, same-number, not-both, places-few, taken-given, other-area}
 use Rattle.rows.specs.declared.Begun.{Begun}
 use Rattle.rows.specs.declared.Rows.{Rows}
 use Rattle.rows.specs.Lines.{lineTable}
 use Rattle.rows.specs.Words.{putAt, totalOf, allRows, begunBefore, begunIn, rowsTold, FilledBy}
 use Rattle.rows.specs.Rows.{rowsRefused, RowsSettled}
-use Rattle.rows.proofs.LineLaws.{lineTable-length}
 use Rattle.rows.proofs.PutLaws.{all-length}
 use Rattle.rows.proofs.RowLaws.{element-default}
 use Rattle.rows.proofs.NodeLaws.{Told, table-filled, places-told}

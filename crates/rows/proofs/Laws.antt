@@ -1,24 +1,23 @@
 -- The steps of the small functions.
-use mathlib.Core.Bool.{Bool, true, false, cond, not, _&&_}
-use mathlib.Core.List.{List, [], _∷_, _++_, append-assoc}
+use mathlib.Core.Bool.{Bool, true, false, cond, not}
+use mathlib.Core.List.{List, [], _∷_, append-assoc}
 use mathlib.Core.Path.{_≡_, refl, sym, ap, _∙_}
-use Prim.Native.Nat.{ℕ, zero, suc, _+_, _*_, _-_, _/_, _%_, _^_, _≤_, _<_}
+use Prim.Native.Nat.{ℕ, zero, suc, _+_, _*_, _-_, _%_, _^_, _≤_, _<_}
 use native.Mathlib.Nat.{one-mul}
 use native.Mathlib.Numerals.{add-one}
 use native.Mathlib.Omega.{arith}
 use lib.Bits.{bitOr}
-use lib.Dec.{eqb, ltb}
+use lib.Dec.{eqb}
 use lib.ListN.{length, getD, set, take, drop, length-set, List·getD-eq-default}
 use lib.Pow.{shl-exact}
-use lib.Seq.{sets, sets-eq, set-out}
+use lib.Seq.{sets-eq, set-out}
 use borrow.Author.Tests.{eq-eqb, ne-eqb, lt-ltb, le-ltb}
 use Rattle.base.specs.Basic.{has}
 use Rattle.base.specs.BoolLaws.{not-true, not-false}
-use Rattle.base.specs.WordLaws.{has-past}
 use Rattle.graph.specs.Program.{Link}
 use Rattle.guarding.specs.Keys.{withLink}
 use Rattle.rows.specs.declared.Begun.{Begun}
-use Rattle.rows.specs.Lines.{readsBy, writesBy, testsBy}
+use Rattle.rows.specs.Lines.{readsBy}
 use Rattle.rows.specs.Words.{putAt, begunWith, begunLine, begunBefore, linkOf, linkAt, keyAt, keysFrom}
 
 -- past the end of a list stands 0

@@ -1,8 +1,8 @@
 -- The rows of a node's places, and of all nodes, from the words that stand for the places.
-use mathlib.Core.List.{List, [], _∷_, _++_, map, flatMap, append-assoc, append-nil, map-append, List·Memᴰ}
-use mathlib.Core.Option.{none, some}
+use mathlib.Core.List.{List, [], _∷_, _++_, map, flatMap, append-assoc, append-nil, map-append}
+use mathlib.Core.Option.{some}
 use mathlib.Core.Path.{_≡_, refl, sym, ap, ap₂, subst, _∙_}
-use Prim.Native.Nat.{ℕ, zero, suc, _+_, _*_, _-_, _≤_, _<_, min}
+use Prim.Native.Nat.{ℕ, zero, suc, _+_, _-_, _≤_, _<_}
 use native.Mathlib.Nat.{add-zero, zero-add}
 use native.Mathlib.Omega.{arith}
 use lib.ListN.{length, getD, getElem?, take, drop, length-take, length-drop, List·getD-append}
@@ -18,6 +18,7 @@ use Rattle.report.specs.State.{statementsIn}
 use Rattle.tables.specs.Table.{rowOf, rowsOf, wordsOf, tableOf}
 use Rattle.edges.specs.Flattened.{flatMap-append}
 use Rattle.choosing.specs.Seen.{StandsFor, NodeWords, WordsFor}
+use Rattle.placing.specs.Placed.{placesFrom-length}
 use Rattle.guarding.specs.Ids.{on-line-id}
 use Rattle.guarding.specs.Guarded.{IdsSmall}
 use Rattle.rows.specs.Lines.{lineTable}
@@ -64,11 +65,6 @@ place-at m n i (p ∷ places) (suc k) {o} e =
     let z : suc i + k ≡ i + suc k = omega arith in
     place-at m n (suc i) places k e ∙ ap (λ (j : ℕ). some (placeOf m n j o)) z
 
-places-many : (m : ℕ) (n : Node) (i : ℕ) (l : List Occurrence) → length (placesFrom m n i l) ≡ length l
-unfolding placesFrom
-places-many m n i [] = refl
-places-many m n i (o ∷ l) = ap suc (places-many m n (suc i) l)
-
 -- rows of one place more
 rows-more : (l : List Place) (s : Place) → flatMap wordsOf (map rowOf (l ++ (s ∷ []))) ≡ flatMap wordsOf (map rowOf l) ++ wordsOf (rowOf s)
 unfolding flatMap
@@ -108,7 +104,7 @@ module _ (text : List ℕ) (lines : List Line) (taken : read text ≡ accepted l
     -- the rows of a node
     pub node-rows : nodeRows (lineTable lines) first m area start (length (n .places)) ≡ flatMap wordsOf (map rowOf (placesFrom m n 0 (n .places)))
     node-rows =
-        let many = places-many m n 0 (n .places) in
+        let many = placesFrom-length m n 0 (n .places) in
         part-rows (length (n .places)) (omega arith)
         ∙ ap (λ (l : List Place). flatMap wordsOf (map rowOf l)) (take-all (length (n .places)) (placesFrom m n 0 (n .places)) (omega arith))
 

@@ -1,19 +1,19 @@
 -- The programs of the lines: how many, and where the lines of each begin.
 use mathlib.Core.Bool.{Bool, true, false, cond}
-use mathlib.Core.List.{List, [], _∷_, _++_, map, append-assoc, append-nil, List·Memᴰ}
+use mathlib.Core.List.{List, [], _∷_, _++_, append-nil, List·Memᴰ}
 use mathlib.Core.List.{List·Memᴰ·not-nil, List·Memᴰ·append-cases}
 use mathlib.Core.Logic.{_⊎_, inl, inr, ⊎-elim}
-use mathlib.Core.Option.{none, some}
-use mathlib.Core.Path.{_≡_, refl, sym, ap, ap₂, subst, _∙_}
-use Prim.Native.Nat.{ℕ, zero, suc, _+_, _*_, _/_, _≤_, _<_}
+use mathlib.Core.Option.{some}
+use mathlib.Core.Path.{_≡_, refl, sym, ap, subst, _∙_}
+use Prim.Native.Nat.{ℕ, zero, suc, _+_, _/_, _≤_, _<_}
 use native.Mathlib.Nat.{add-zero, zero-add}
 use native.Mathlib.Decide.{ℕ-discrete}
 use native.Mathlib.Numerals.{add-one}
 use native.Mathlib.Omega.{arith}
 use lib.Dec.{eqb}
 use lib.ListN.{length, getD, getElem?, set, take, drop, length-append, length-set, length-take, List·getD-append}
-use lib.Seq.{take-all, append-snoc, getD-append-seam, getD-set-same, getD-set-other, drop-append-seam, drop-at}
-use borrow.Author.Tests.{eq-eqb, ne-eqb}
+use lib.Seq.{take-all, append-snoc, getD-append-seam, getD-set-same, getD-set-other, drop-at}
+use borrow.Author.Tests.{ne-eqb}
 use Rattle.base.specs.Basic.{count}
 use Rattle.base.specs.ListLaws.{some-injective, getElem?-found, getElem?-lt, map-member}
 use Rattle.text.specs.declared.Line.{Line}
@@ -23,7 +23,7 @@ use Rattle.text.specs.Reading.{sort, isProgram, withinBounds, read}
 use Rattle.text.specs.Reading.Outcome.{accepted}
 use Rattle.reading.specs.ReadingLaws.{line-passes}
 use Rattle.reading.specs.SizeLaws.{bounded-true}
-use Rattle.graph.specs.Program.{Link, Program, runOf, linksOf, programsOf}
+use Rattle.graph.specs.Program.{Program, runOf, linksOf, programsOf}
 use Rattle.graph.specs.Unfolding.{Node, unfoldings, nodesOfProgram, nodesFrom, nodesOf}
 use Rattle.rows.specs.declared.Begun.{Begun}
 use Rattle.rows.specs.Lines.{lineNumber, lineTable}

@@ -1,6 +1,5 @@
 -- The rows of places, of a node's places and of all nodes, put one behind the other.
-use mathlib.Core.Bool.{Bool, true, false, cond}
-use mathlib.Core.List.{List, [], _∷_, _++_, append-assoc, append-nil}
+use mathlib.Core.List.{List, [], _∷_, _++_, append-assoc}
 use mathlib.Core.Path.{_≡_, refl, sym, ap, ap₂, _∙_}
 use Prim.Native.Nat.{ℕ, zero, suc, _+_, _*_, _-_, _/_, _%_, _≤_, _<_}
 use native.Mathlib.Nat.{add-zero}
@@ -8,7 +7,7 @@ use native.Mathlib.Decide.{decLt}
 use native.Mathlib.Numerals.{add-one}
 use native.Mathlib.Omega.{arith}
 use lib.ListN.{length, getD, take, drop, length-append, take-append-drop}
-use lib.Seq.{drop-at, drop-append-add, drop-drop, length-take-le}
+use lib.Seq.{drop-append-add, drop-drop, length-take-le}
 use Rattle.rows.specs.Words.{putAt, keysFrom, rowWords, nodeRows, totalOf, allRows}
 use Rattle.rows.proofs.LineLaws.{putAt-length, putAt-take}
 

@@ -1,14 +1,12 @@
 -- The row made of a place's word is the row of the place.
-use mathlib.Core.Bool.{Bool, true, false, cond}
-use mathlib.Core.List.{List, [], _∷_, _++_, flatMap, append-nil}
-use mathlib.Core.Option.{none, some}
-use mathlib.Core.Path.{_≡_, refl, sym, ap, ap₂, _∙_}
+use mathlib.Core.Bool.{cond}
+use mathlib.Core.List.{List, [], _∷_, _++_, flatMap}
+use mathlib.Core.Option.{some}
+use mathlib.Core.Path.{_≡_, refl, sym, ap, _∙_}
 use Prim.Native.Nat.{ℕ, zero, suc, _+_, _*_, _-_, _/_, _%_, _≤_, _<_}
 use native.Mathlib.Nat.{add-zero}
-use native.Mathlib.Numerals.{add-one}
 use native.Mathlib.Omega.{arith}
-use lib.Dec.{eqb}
-use lib.ListN.{length, getD, getElem?, take, drop, length-drop, drop-of-length-le, List·getD-append}
+use lib.ListN.{length, getD, getElem?, take, drop, drop-of-length-le, List·getD-append}
 use lib.Seq.{drop-cons, getD-append-add}
 use borrow.Author.Tests.{eq-eqb, ne-eqb}
 use Rattle.base.specs.ListLaws.{getElem?-lt, some-injective}
@@ -18,7 +16,7 @@ use Rattle.text.specs.declared.LineKind.the-variants.{Rl, Fk, Pr, St, Lo, Br, E
 use Rattle.text.specs.declared.StatementKind.{StatementKind}
 use Rattle.text.specs.declared.StatementKind.the-variants.{Is, Ks, Ps, Ku, Pu, Kd, Pd}
 use Rattle.graph.specs.Program.{Statement, Link, statementOf, linksOf}
-use Rattle.graph.specs.Unfolding.{Node, Occurrence}
+use Rattle.graph.specs.Unfolding.{Occurrence}
 use Rattle.graph.specs.Edge.{hasReads, hasWrites, hasTests, R, W, T, Place, at}
 use Rattle.tables.specs.Table.{kindNumber, rowOf, wordsOf}
 use Rattle.choosing.specs.Seen.{StandsFor, seenAt}

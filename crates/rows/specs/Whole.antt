@@ -22,7 +22,7 @@ use Rattle.edges.specs.Slots.{tableEdges}
 use Rattle.placing.specs.Placed.{rowsOf-length, accepted-edges}
 use Rattle.rows.specs.declared.Rows.{Rows}
 use Rattle.rows.specs.Rows.{RowsSettled}
-use Rattle.rows.specs.Refusals.{refusal-some, refusal-none, places-few, taken-given, other-area}
+use Rattle.report.specs.Refusals.{refusal-some, refusal-none, places-few, taken-given, other-area}
 
 -- the value is given and not too large, and the table begins with the rows of all its places
 pub record Whole (w : Workload) (r : Rows) (table : List ℕ) : Type 0 where

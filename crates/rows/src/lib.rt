@@ -3,12 +3,12 @@
 use text::LineKind;
 use text::StatementKind;
 use text::Workload;
-ghost use mathlib.Core.Bool.{cond};
-ghost use mathlib.Core.List.{[], _∷_, _++_};
+use words::word_at;
+ghost use mathlib.Core.List.{[], _∷_};
 ghost use mathlib.Core.Path.{_≡_};
 ghost use Prim.Native.Nat.{_+_, _*_, _-_, _/_, _≤_, _<_, _^_};
 ghost use lib.Bits.{bitOr};
-ghost use lib.ListN.{length, getD, take, drop};
+ghost use lib.ListN.{length, getD, take};
 ghost use Rattle.base.specs.Basic.{has};
 ghost use Rattle.text.specs.Value.{linesOf};
 ghost use Rattle.tables.specs.Table.{kindNumber};
@@ -30,16 +30,6 @@ pub struct Rows {
 struct Begun {
     programs: usize,
     firsts: [u64; 16],
-}
-
-// The word at a place, or 0 past the end.
-fn word_at(words: &[u64], i: usize) -> u64
-    ensures { λ r. ⌜ r ≡ getD (now (words .entry)) i 0 ⌝ }
-{
-    if i < words.len() {
-        return words[i];
-    }
-    0
 }
 
 fn byte_at(bytes: &[u8], i: usize) -> u8
@@ -75,7 +65,7 @@ fn with_bit(set: u64, k: u64) -> u64
     set | 1u64 << k
 }
 
-// A line's kind as a number: 0 to 6 for the kinds of statement, 7 for `pr`, 8 for `li`, 9 for every other.
+// A statement's kind as a number, 0 to 6.
 fn kind_number(k: StatementKind) -> u64
     ensures { λ r. ⌜ r ≡ kindNumber k ⌝ }
 {
@@ -104,6 +94,7 @@ fn kind_number(k: StatementKind) -> u64
     }
 }
 
+// A line's kind as a number: 0 to 6 for the kinds of statement, 7 for `pr`, 8 for `li`, 9 for every other.
 fn line_number(k: LineKind) -> u64
     ensures { λ r. ⌜ r ≡ lineNumber k ⌝ }
 {

@@ -5,13 +5,10 @@ use mathlib.Core.Path.{_≡_, refl, sym, ap, subst, _∙_}
 use Prim.Native.Nat.{ℕ, _+_, _*_, _%_}
 use native.Mathlib.Nat.{zero-add}
 use lib.Dec.{eqb}
-use lib.ListN.{length}
 use borrow.Author.Tests.{eq-eqb, ne-eqb}
 use Rattle.reader.specs.declared.Parsed.{Parsed}
 use Rattle.unfolder.specs.declared.Unfolded.{Unfolded}
 use Rattle.rows.specs.declared.Rows.{Rows}
-use Rattle.edges.specs.declared.Counts.{Counts}
-use Rattle.edges.specs.Slots.{tableEdges, tableCounts}
 use Rattle.judging.specs.declared.Verdict.{Verdict}
 use Rattle.stages.specs.Stages.{refusalWord, lineSum, middleLine, readWord, placesTold, unfoldWord, rowsWord, verdictWord}
 use Rattle.stages.specs.Stages.{Unfolds, Fills, Judges, UnfoldStage, TableStage, VerdictStage}
@@ -55,10 +52,6 @@ module _ {r : ℕ} (v : Verdict) where
   unfolding verdictWord
   judged-robust taken robust e =
       e ∙ sym (zero-add (v .edges % 1048576)) ∙ ap (λ t. cond t 1073741824 0 + v .edges % 1048576) (sym robust) ∙ told-taken _ _ _ taken
-
-pub edges-counted : (table : List ℕ) {c : Counts} → c ≡ tableCounts table → c .edges ≡ length (tableEdges table)
-unfolding tableCounts
-edges-counted table e = ap (λ (x : Counts). x .edges) e
 
 -- ---- from a text on
 

@@ -7,8 +7,6 @@ use text::Workload;
 use unfolder::Unfolded;
 ghost use mathlib.Core.Path.{_≡_};
 ghost use Prim.Native.Nat.{_+_, _*_, _%_};
-ghost use lib.ListN.{length};
-ghost use Rattle.edges.specs.Slots.{tableEdges};
 ghost use Rattle.stages.specs.Stages.{given, refusalWord, lineSum, middleLine, readWord, placesTold, unfoldWord, rowsWord, verdictWord};
 ghost use Rattle.stages.specs.Stages.{Unfolds, Fills, Judges, UnfoldStage, TableStage, VerdictStage};
 
@@ -101,7 +99,7 @@ fn fill_value(w: Workload, table: &mut [u64]) -> u32
     rows_word(f)
 }
 
-// The table of places, from which `put_edges` of crate edges takes the edges.
+// The table of places, from which `put_edges` of crate putting takes the edges.
 #[no_mangle]
 pub extern "C" fn stage_table(text: &[u8], table: &mut [u64]) -> u32
     ensures { λ r. ⌜ TableStage (given (now (text .entry))) (now (table .entry)) r (now (table .exit)) ⌝ }
@@ -112,15 +110,6 @@ pub extern "C" fn stage_table(text: &[u8], table: &mut [u64]) -> u32
     }
     let w = p.work;
     fill_value(w, table)
-}
-
-// How many edges a table has.
-#[no_mangle]
-pub extern "C" fn stage_edge_count(table: &[u64]) -> u64
-    ensures { λ r. ⌜ r ≡ length (tableEdges (now (table .entry))) ⌝ }
-{
-    let c = edges::count_edges(table);
-    c.edges as u64
 }
 
 fn verdict_word(v: Verdict) -> u32

@@ -1,13 +1,12 @@
-// The tests of two rows of a table of places: which letters hold between them, and which edges stand.
+// The tests of two rows of a table of places: which letters hold between them, and which edges stand. A row's sets are taken as they stand;
+// in the rows that `rows::fill_rows` makes, a set that the kind lacks is 0.
 
 ghost use mathlib.Core.Path.{_≡_};
-ghost use mathlib.Core.Bool.{not, _&&_, _||_};
-ghost use Prim.Native.Nat.{_+_, _*_, _≤_, _<_, min, _/_};
-ghost use lib.ListN.{length, getD};
+ghost use mathlib.Core.Bool.{_||_};
 ghost use Rattle.base.specs.Basic.{meets};
 ghost use Rattle.graph.specs.Edge.{hasTests, inserts, deletes, selects};
 ghost use Rattle.graph.specs.Edge as E;
-ghost use Rattle.tables.specs.Table.{kindOf, rowAt, rowCount, rowHolds, rowForward, rowBack};
+ghost use Rattle.tables.specs.Table.{rowHolds, rowForward, rowBack};
 use tables::Row;
 use text::StatementKind;
 
@@ -74,98 +73,7 @@ fn is_select(k: StatementKind) -> bool
     }
 }
 
-// The kind that a word names.
-fn kind_of(x: u64) -> StatementKind
-    ensures { λ r. ⌜ r ≡ kindOf x ⌝ }
-{
-    if x == 0 {
-        return StatementKind::Is;
-    }
-    if x == 1 {
-        return StatementKind::Ks;
-    }
-    if x == 2 {
-        return StatementKind::Ps;
-    }
-    if x == 3 {
-        return StatementKind::Ku;
-    }
-    if x == 4 {
-        return StatementKind::Pu;
-    }
-    if x == 5 {
-        return StatementKind::Kd;
-    }
-    StatementKind::Pd
-}
-
-// How many rows a table has.
-pub fn row_count(table: &[u64]) -> usize
-    ensures { λ r. ⌜ r ≡ rowCount (now (table .entry)) ⌝ }
-{
-    let n = table.len() / 8;
-    if n < 512 {
-        return n;
-    }
-    512
-}
-
-// Row number i, where it is whole.
-fn whole_row(table: &[u64], i: usize) -> Row
-    requires { ⌜ i * 8 + 8 ≤ length (now table) ⌝ }
-    ensures { λ r. ⌜ r ≡ rowAt (now (table .entry)) i ⌝ }
-{
-    let b = i * 8;
-    let k = kind_of(table[b + 2]);
-    Row {
-        node: table[b],
-        place: table[b + 1],
-        kind: k,
-        relation: table[b + 3],
-        reads: table[b + 4],
-        writes: table[b + 5],
-        tests: table[b + 6],
-        keys: table[b + 7],
-    }
-}
-
-// Word k of row i; past the table's end, 0.
-fn word_at(table: &[u64], i: usize, k: usize) -> u64
-    requires { ⌜ k < 8 ⌝ }
-    ensures { λ r. ⌜ r ≡ getD (now (table .entry)) (i * 8 + k) 0 ⌝ }
-{
-    let n = table.len();
-    if n / 8 < i {
-        return 0;
-    }
-    let b = i * 8;
-    if k < n - b {
-        return table[b + k];
-    }
-    0
-}
-
-// Row number i; the words past the table's end are 0.
-pub fn row_at(table: &[u64], i: usize) -> Row
-    ensures { λ r. ⌜ r ≡ rowAt (now (table .entry)) i ⌝ }
-{
-    if i < table.len() / 8 {
-        return whole_row(table, i);
-    }
-    let k = kind_of(word_at(table, i, 2));
-    Row {
-        node: word_at(table, i, 0),
-        place: word_at(table, i, 1),
-        kind: k,
-        relation: word_at(table, i, 3),
-        reads: word_at(table, i, 4),
-        writes: word_at(table, i, 5),
-        tests: word_at(table, i, 6),
-        keys: word_at(table, i, 7),
-    }
-}
-
-// A: neither a delete first nor an insert second, and the writes meet.
+// A, over rows as `rows::fill_rows` makes them: neither a delete first nor an insert second, and the writes meet.
 pub fn holds_a(p: Row, q: Row) -> bool
     ensures { λ r. ⌜ r ≡ rowHolds E.Letter.A p q ⌝ }
 {
@@ -180,7 +88,7 @@ pub fn holds_a(p: Row, q: Row) -> bool
     meet(p.writes, q.writes)
 }
 
-// B: no delete first, and its writes meet the reads.
+// B, over rows as `rows::fill_rows` makes them: no delete first, and its writes meet the reads.
 pub fn holds_b(p: Row, q: Row) -> bool
     ensures { λ r. ⌜ r ≡ rowHolds E.Letter.B p q ⌝ }
 {
@@ -216,7 +124,7 @@ pub fn holds_c(p: Row, q: Row) -> bool
     false
 }
 
-// D: the reads meet the writes of a second that is no insert.
+// D, over rows as `rows::fill_rows` makes them: the reads meet the writes of a second that is no insert.
 pub fn holds_d(p: Row, q: Row) -> bool
     ensures { λ r. ⌜ r ≡ rowHolds E.Letter.D p q ⌝ }
 {
@@ -269,8 +177,9 @@ pub fn back_stands(p: Row, q: Row) -> bool
     }
     let free = !meet(p.keys, q.keys);
     let phantom = holds_e(p, q);
+    // E stands whatever the keys say.
     if phantom {
-        return true;
+        return phantom;
     }
     let k = p.kind;
     if is_select(k) {

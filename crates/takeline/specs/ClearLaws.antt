@@ -5,14 +5,14 @@ use mathlib.Core.List.{List, [], _∷_, _++_}
 use Prim.Native.Nat.{ℕ, _+_, _-_, _≤_, _<_}
 use native.Mathlib.Omega.{arith}
 use lib.Dec.{eqb, ltb}
-use lib.ListN.{length, getD, set, drop, replicate, length-set, length-take, length-drop, length-append, length-replicate, getD-replicate}
+use lib.ListN.{length, getD, set, drop, replicate, length-set, length-drop, length-append, length-replicate, getD-replicate}
 use lib.ListN.{List·getD-append}
 use lib.Seq.{getD-set-same, getD-set-other, ext-getD, getD-drop, getD-append-add}
 use borrow.Author.Tests.{eqb-true, eqb-false, ltb-true, ltb-false, le-leb, lt-leb}
 use Rattle.kept.specs.Records.{State}
 use Rattle.kept.specs.Kept.{takenProgram}
 use Rattle.kept.specs.Words.{arrayIn, stateIn, startedIn}
-use Rattle.kept.specs.WordsLaws.{cell-word}
+use Rattle.kept.specs.WordsLaws.{cell-word, array-length}
 use Rattle.takeline.specs.Stores.{Store, stepIn, storeIn, storesIn, stateBehind, arraysBehind, countsBehind, arrayBehind, countBehind}
 use Rattle.takeline.specs.Stores.{fits, Took, Cleared}
 use Rattle.takeline.specs.Stores.Store.{count, step}
@@ -50,10 +50,6 @@ pub cleared-end : {from i to : ℕ} {before after : List ℕ} → i ≤ to → t
 cleared-end {from} {i} {to} {before} {after} h k c =
     let e : i ≡ to = omega arith in
     subst (λ m. Cleared from m before after) e c
-
-array-length : (words : List ℕ) (from : ℕ) → from + 32 ≤ length words → length (arrayIn words from) ≡ 32
-unfolding arrayIn
-array-length words from h = omega (arith, length-take 32 (drop from words), length-drop from words)
 
 -- an array within the words set to 0
 array-cleared : {from to : ℕ} {before after : List ℕ} → Cleared from to before after → (o : ℕ) → from ≤ o → o + 32 ≤ to → to ≤ length before

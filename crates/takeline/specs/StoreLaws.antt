@@ -34,9 +34,9 @@ array-above words from p v h =
     ∙ ap (take 32) (drop-set-add from words (p - from) v)
     ∙ take-set-le 32 (drop from words) (p - from) v (omega arith)
 
-array-size : (words : List ℕ) (from : ℕ) → length (arrayIn words from) ≤ 32
+array-most : (words : List ℕ) (from : ℕ) → length (arrayIn words from) ≤ 32
 unfolding arrayIn
-array-size words from = omega (arith, length-take 32 (drop from words))
+array-most words from = omega (arith, length-take 32 (drop from words))
 
 -- a cell of array k set, seen from array j
 array-put : (words : List ℕ) (j k i v : ℕ) → arrayIn (putIn words (32 * k) i v) (32 * j) ≡ arrayBehind j (arrayIn words (32 * j)) (cell k i v)
@@ -59,7 +59,7 @@ array-put words j k i v = go (ltb i 32) refl (eqb k j) refl
         ≡ elim d [ true ↦ set (arrayIn words (32 * j)) i v | false ↦ arrayIn words (32 * j) ]
     go true e true f = apart (ltb-true i 32 e) (eqb-true k j f)
     go true e false f = other (ltb-true i 32 e) (sides (ltb k j) refl (eqb-false k j f))
-    go false e true f = sym (set-out (arrayIn words (32 * j)) i v (omega (arith, ltb-false i 32 e, array-size words (32 * j))))
+    go false e true f = sym (set-out (arrayIn words (32 * j)) i v (omega (arith, ltb-false i 32 e, array-most words (32 * j))))
     go false e false f = refl
 
 array-store : (words : List ℕ) (j : ℕ) → j < 13 → (x : Store) → arrayIn (storeIn words x) (32 * j) ≡ arrayBehind j (arrayIn words (32 * j)) x

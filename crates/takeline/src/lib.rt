@@ -2,6 +2,7 @@
 use text::Line;
 use text::LineKind;
 use text::StatementKind;
+use words::word_at;
 ghost use mathlib.Core.Path.{_≡_};
 ghost use mathlib.Core.Bool.{cond};
 ghost use Prim.Native.Nat.{_-_, _≤_, _<_};
@@ -114,7 +115,7 @@ fn take_relation(words: &mut [u64], reads: u64)
     requires { ⌜ 424 ≤ length (now words) ⌝ }
     ensures { λ _. ⌜ Took (now (words .entry)) (now (words .exit)) (takenRelation (stateIn (now (words .entry))) reads) ⌝ }
 {
-    let at = kept::word(words, kept::RELATIONS);
+    let at = word_at(words, kept::RELATIONS);
     put(words, kept::SETS, at, reads);
     advance(words, kept::RELATIONS);
     advance(words, kept::LINES);
@@ -124,7 +125,7 @@ fn take_key(words: &mut [u64], child: u8, parent: u8)
     requires { ⌜ 424 ≤ length (now words) ⌝ }
     ensures { λ _. ⌜ Took (now (words .entry)) (now (words .exit)) (takenKey (stateIn (now (words .entry))) child parent) ⌝ }
 {
-    let at = kept::word(words, kept::KEYS);
+    let at = word_at(words, kept::KEYS);
     put(words, kept::CHILDREN, at, child as u64);
     put(words, kept::PARENTS, at, parent as u64);
     advance(words, kept::KEYS);
@@ -150,8 +151,8 @@ fn take_statement(words: &mut [u64], rel: u8, fit: u64)
     requires { ⌜ 424 ≤ length (now words) ⌝ }
     ensures { λ _. ⌜ Took (now (words .entry)) (now (words .exit)) (takenStatement (stateIn (now (words .entry))) rel fit) ⌝ }
 {
-    let at = kept::word(words, kept::STATEMENTS);
-    let depth = kept::word(words, kept::DEPTH);
+    let at = word_at(words, kept::STATEMENTS);
+    let depth = word_at(words, kept::DEPTH);
     let loops = kept::cell(words, kept::OPEN_LOOPS, depth);
     let firsts = kept::cell(words, kept::OPEN_FIRSTS, depth);
     let seconds = kept::cell(words, kept::OPEN_SECONDS, depth);
@@ -199,8 +200,8 @@ fn take_opening(words: &mut [u64], part: u64)
         (takenFlow (stateIn (now (words .entry))) (pushedOf (stateIn (now (words .entry)) .stack) (stateIn (now (words .entry)) .body) part))
         ⌝ }
 {
-    let depth = kept::word(words, kept::DEPTH);
-    let body = kept::word(words, kept::BODY);
+    let depth = word_at(words, kept::DEPTH);
+    let body = word_at(words, kept::BODY);
     push(words, depth, body, part);
 }
 
@@ -211,7 +212,7 @@ fn take_second(words: &mut [u64])
         Took (now (words .entry)) (now (words .exit)) (takenFlow (stateIn (now (words .entry))) (secondOf (stateIn (now (words .entry)) .stack)))
         ⌝ }
 {
-    let depth = kept::word(words, kept::DEPTH);
+    let depth = word_at(words, kept::DEPTH);
     let place = kept::cell(words, kept::OPEN_PLACES, depth);
     push(words, previous(depth), place, 2);
 }
@@ -223,7 +224,7 @@ fn take_closing(words: &mut [u64])
         Took (now (words .entry)) (now (words .exit)) (takenFlow (stateIn (now (words .entry))) (poppedOf (stateIn (now (words .entry)) .stack)))
         ⌝ }
 {
-    let depth = kept::word(words, kept::DEPTH);
+    let depth = word_at(words, kept::DEPTH);
     set_word(words, kept::DEPTH, previous(depth));
     advance(words, kept::BODY);
     advance(words, kept::LINES);

@@ -319,8 +319,9 @@ unfolding faults relations programs statements
 statements-over = refl
 
 -- R9: in a program 64 statement and flow lines: the 65th is one too many, though it only closes a block
-flow-bound : faults (programs 0 1 ++ loops 31 ++ (flow Br ∷ [])) (flow El ∷ flow En ∷ []) ≡ none ∷ some 9 ∷ []
-unfolding faults programs loops flow
+flow-bound
+    : faults (relations 0 1 ++ programs 0 1 ++ statements 0 32 ++ loops 15 ++ (flow Br ∷ [])) (flow El ∷ flow En ∷ []) ≡ none ∷ some 9 ∷ []
+unfolding faults relations programs statements loops flow
 flow-bound = refl
 
 -- R9: a new program counts anew
@@ -329,6 +330,12 @@ counts-anew
     ≡ none ∷ none ∷ none ∷ none ∷ []
 unfolding faults relations programs statements loops
 counts-anew = refl
+
+links-anew
+    : faults (relations 0 1 ++ keys 0 1 ++ programs 0 1 ++ statements 0 1 ++ links 32) (programs 1 1 ++ statements 0 1 ++ links 1)
+    ≡ none ∷ none ∷ none ∷ []
+unfolding faults relations keys programs statements links
+links-anew = refl
 
 -- R9: in a program 32 links
 links-bound : faults (relations 0 1 ++ keys 0 1 ++ programs 0 1 ++ statements 0 1 ++ links 31) (links 2) ≡ none ∷ some 9 ∷ []
@@ -372,6 +379,10 @@ statement-after-li = refl
 flow-after-li : behind (is0 ∷ "li 1 0 0 - - -" ∷ lo ∷ []) ≡ refused 7 9
 unfolding behind
 flow-after-li = refl
+
+branch-after-li : behind (is0 ∷ "li 1 0 0 - - -" ∷ br ∷ []) ≡ refused 7 9
+unfolding behind
+branch-after-li = refl
 
 -- R7, T8: a run may be empty, blocks may stand in blocks
 empty-runs : taken (lo ∷ en ∷ br ∷ el ∷ en ∷ []) ≡ true

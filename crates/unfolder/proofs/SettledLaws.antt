@@ -28,7 +28,7 @@ use Rattle.choosing.specs.WritingLaws.{Tables}
 use Rattle.choosing.specs.Pieces.{Piece, flat, totalsBefore}
 use Rattle.choosing.specs.PiecesLaws.{PiecesFor, length-words, total-count, total-statements, all-pieces, over-alike, length-pieces, flat-length, piece-programs, piece-lengths}
 use Rattle.choosing.specs.PlacesLaws.{IdWord, noMark, id-tables, id-words, LineWord, place-tables, words-for}
-use Rattle.choosing.specs.Table.{starts, cells, table}
+use Rattle.choosing.specs.Table.{starts, table}
 use Rattle.unfolder.specs.declared.Unfolded.{Unfolded}
 use Rattle.unfolder.specs.Result.{refusedWith, idsIn, startsIn, nodesTold, tableTold, overMany, tooShort, piecesOver, Ready, Tabled}
 use Rattle.unfolder.specs.Settled.{Settled, PlacesStand, PlacesSettled}
@@ -143,8 +143,8 @@ module _ (Word : Statement → ℕ → Type 0) (mark : Statement → ℕ) (w : W
 -- a workload value that no text gives
 pub not-given-ids : (w : Workload) (before : List ℕ) (r : Unfolded) → (Given w → ⊥) → r ≡ refusedWith 21 → Settled w before r before
 not-given-ids w before r h e =
-    let s = settled-refused (λ area. area ≡ idsIn (nodesOf (linesOf w)) ++ drop (length (idsIn (nodesOf (linesOf w)))) before) w before r before 20 (not-given h) e refl in
-    record { refusal = s .refusal; refused = s .refused; unfolded = s .unfolded }
+    let s = settled-refused (λ area. ⊥) w before r before 20 (not-given h) e refl in
+    record { refusal = s .refusal; refused = s .refused; unfolded = λ p. absurd (s .unfolded p .1) }
 
 pub not-given-places : (w : Workload) (before : List ℕ) (r : Unfolded) → (Given w → ⊥) → r ≡ refusedWith 21 → PlacesSettled w before r before
 not-given-places w before r h e =

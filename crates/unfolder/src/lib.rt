@@ -56,7 +56,8 @@ fn write_rows(
     area: &mut [u64],
 ) -> UnfoldingTable
     requires { ⌜ Rows (tabulate (row program (now codes) (now words) (now marks) at left) k (n - k)) t (now area) ⌝ }
-    ensures { λ r. ⌜ Rowed (tabulate (row program (now (codes .entry)) (now (words .entry)) (now (marks .entry)) at left) k (n - k)) t (now (area .entry)) r (now (area .exit)) ⌝ }
+    ensures { λ r. ⌜ Rowed (tabulate (row program (now (codes .entry)) (now (words .entry)) (now (marks .entry)) at left) k (n - k)) t
+        (now (area .entry)) r (now (area .exit)) ⌝ }
 {
     if n <= k {
         return t;
@@ -89,7 +90,8 @@ fn write_line(
 ) -> UnfoldingTable
     requires { ⌜ i < length (now codes) ⌝ }
     requires { ⌜ LineFits (linePieces (now codes) (now words) (now marks) i program) t (now area) ⌝ }
-    ensures { λ r. ⌜ Lined (linePieces (now (codes .entry)) (now (words .entry)) (now (marks .entry)) i program) t (now (area .entry)) r (now (area .exit)) ⌝ }
+    ensures { λ r. ⌜ Lined (linePieces (now (codes .entry)) (now (words .entry)) (now (marks .entry)) i program) t
+        (now (area .entry)) r (now (area .exit)) ⌝ }
 {
     if codes[i] != 3 {
         return t;
@@ -116,10 +118,10 @@ fn next_program(codes: &[u8], i: usize, program: u8) -> u8
     requires { ⌜ (i < length (now codes)) × (program < 255) ⌝ }
     ensures { λ r. ⌜ r ≡ linePrograms (now (codes .entry)) i program ⌝ }
 {
-    if codes[i] != 3 {
-        return program;
+    if codes[i] == 3 {
+        return program + 1;
     }
-    program + 1
+    program
 }
 
 fn empty_table() -> UnfoldingTable
@@ -137,7 +139,8 @@ fn empty_table() -> UnfoldingTable
 // Writes the unfoldings of all programs one behind the other from the area's start.
 fn write_all(codes: &[u8], words: &[u16], marks: &[u32], area: &mut [u64]) -> UnfoldingTable
     requires { ⌜ AllFit (piecesBefore (now codes) (now words) (now marks) (length (now codes))) (now area) ⌝ }
-    ensures { λ r. ⌜ Rowed (piecesBefore (now (codes .entry)) (now (words .entry)) (now (marks .entry)) (length (now (codes .entry)))) (table []) (now (area .entry)) r (now (area .exit)) ⌝ }
+    ensures { λ r. ⌜ Rowed (piecesBefore (now (codes .entry)) (now (words .entry)) (now (marks .entry)) (length (now (codes .entry)))) (table [])
+        (now (area .entry)) r (now (area .exit)) ⌝ }
 {
     let mut t = empty_table();
     let mut program: u8 = 0;

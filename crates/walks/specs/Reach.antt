@@ -340,7 +340,7 @@ rounds-fewer zero h = h
 rounds-fewer (suc n) h = omega arith
 
 -- the flow that is back
-back-of : (flow : Flow) → isBack flow ≡ true → flow ≡ Flow.back
+pub back-of : (flow : Flow) → isBack flow ≡ true → flow ≡ Flow.back
 back-of Flow.forward h = absurd (false≢true h)
 back-of Flow.back h = refl
 

@@ -9,7 +9,7 @@ ghost use Prim.Native.Nat.{_+_, _*_, _<_};
 ghost use lib.ListN.{length, getD};
 ghost use Rattle.choosing.specs.Codes.{countAt};
 ghost use Rattle.choosing.specs.Writing.{writeBlock, writeAt};
-ghost use Rattle.wording.specs.Laid.{Laid};
+ghost use Rattle.wording.specs.Laid.{Laid, RunLaid};
 
 // A line's word with what is seen there.
 fn word_with(word: u16, seen: u32) -> u64
@@ -62,7 +62,8 @@ pub fn write_run(
     k: u64,
     out: &mut [u64],
 ) -> usize
-    ensures { λ r. ⌜ Laid (writeAt left (now (codes .entry)) (now (words .entry)) (now (marks .entry)) seen at k) (now (out .entry)) r (now (out .exit)) ⌝ }
+    ensures { λ r. ⌜ RunLaid left (now (codes .entry)) (now (words .entry)) (now (marks .entry)) seen at k
+        (now (out .entry)) r (now (out .exit)) ⌝ }
 {
     if left == 0 {
         return 0;
@@ -116,7 +117,8 @@ fn write_block(
     out: &mut [u64],
 ) -> usize
     requires { ⌜ at < length (now codes) ⌝ }
-    ensures { λ r. ⌜ Laid (writeBlock (writeAt left (now (codes .entry)) (now (words .entry)) (now (marks .entry)) seen) (countAt left (now (codes .entry))) (now (codes .entry)) at k) (now (out .entry)) r (now (out .exit)) ⌝ }
+    ensures { λ r. ⌜ Laid (writeBlock (writeAt left (now (codes .entry)) (now (words .entry)) (now (marks .entry)) seen)
+        (countAt left (now (codes .entry))) (now (codes .entry)) at k) (now (out .entry)) r (now (out .exit)) ⌝ }
 {
     let body = count_run(codes, at + 1, left);
     let n = body.count;

@@ -90,7 +90,8 @@ fn finish(shared: &Shared) {
     for (outcome, count) in outcomes.iter() {
         println!("{outcome:<12} {count:>9}");
     }
-    println!("{total} texts compared alike (seed {}): status, bytes, outcome, counts, lines, walks", shared.seed);
+    let compared = if shared.mode == "report" { "status, bytes, outcome, counts, lines, walks" } else { "status, the whole listing" };
+    println!("{total} texts compared alike (seed {}): {compared}", shared.seed);
     if let Some((number, difference)) = &*shared.difference.lock().unwrap() {
         let path = format!("found/{}-{number}.txt", shared.seed);
         let saved = std::fs::create_dir_all("found").and_then(|_| std::fs::write(&path, text_number(shared.seed, *number)));

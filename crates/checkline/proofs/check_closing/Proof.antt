@@ -8,13 +8,13 @@ use Rattle.checkline.proofs.check_closing.Lts as lts
 use Rattle.checkline.proofs.in_body.Reads as in-body-reads
 use Rattle.checkline.proofs.innermost.Reads as innermost-reads
 use Rattle.checkline.proofs.verdict.Reads as verdict-reads
-use Rattle.kept.proofs.word.Reads as word-reads
+use Rattle.words.proofs.word_at.Reads as word-at-reads
 
-word-requires : tie.Need-word-requires
-word-requires c κs = search needs
+word-at-requires : tie.Need-word-at-requires
+word-at-requires c κs = search needs
 
-word-requires-2 : tie.Need-word-requires-2
-word-requires-2 c κs = search needs
+word-at-requires-2 : tie.Need-word-at-requires-2
+word-at-requires-2 c κs = search needs
 
 in-body-requires : tie.Need-in-body-requires
 in-body-requires c κs = search needs
@@ -35,16 +35,16 @@ returns c = rw (
   c .before .innermost2 .ensures,
   c .before .before .innermost .ensures,
   c .before .before .before .in-body .ensures,
-  c .before .before .before .before .word2 .ensures,
-  c .before .before .before .before .before .word .ensures,
+  c .before .before .before .before .word-at2 .ensures,
+  c .before .before .before .before .before .word-at .ensures,
 )
 
 pub check-closing-spec : {M : Type 1} → statement M
 check-closing-spec =
     tie.close
     (tie.spec
-    word-requires
-    word-requires-2
+    word-at-requires
+    word-at-requires-2
     in-body-requires
     innermost-requires
     innermost-requires-2

@@ -7,16 +7,16 @@ use Rattle.checkline.proofs.check_key.Reads as reads
 use Rattle.checkline.proofs.check_key.Lts as lts
 use Rattle.checkline.proofs.is_sum.Reads as is-sum-reads
 use Rattle.checkline.proofs.verdict.Reads as verdict-reads
-use Rattle.kept.proofs.word.Reads as word-reads
+use Rattle.words.proofs.word_at.Reads as word-at-reads
 
-word-requires : tie.Need-word-requires
-word-requires c κs = search needs
+word-at-requires : tie.Need-word-at-requires
+word-at-requires c κs = search needs
 
-word-requires-2 : tie.Need-word-requires-2
-word-requires-2 c κs = search needs
+word-at-requires-2 : tie.Need-word-at-requires-2
+word-at-requires-2 c κs = search needs
 
-word-requires-3 : tie.Need-word-requires-3
-word-requires-3 c κs = search needs
+word-at-requires-3 : tie.Need-word-at-requires-3
+word-at-requires-3 c κs = search needs
 
 is-sum-requires : tie.Need-is-sum-requires
 is-sum-requires c κs = search needs
@@ -38,18 +38,18 @@ unfolding stateIn roomOf orderedOf namedAs setsFitAs isLinkOf
 returns c = rw (
   c .verdict .ensures,
   c .before .before .before .before .is-sum .ensures,
-  c .before .before .before .before .before .word3 .ensures,
-  c .before .before .before .before .before .before .word2 .ensures,
-  c .before .before .before .before .before .before .before .word .ensures,
+  c .before .before .before .before .before .word-at3 .ensures,
+  c .before .before .before .before .before .before .word-at2 .ensures,
+  c .before .before .before .before .before .before .before .word-at .ensures,
 )
 
 pub check-key-spec : {M : Type 1} → statement M
 check-key-spec =
     tie.close
     (tie.spec
-    word-requires
-    word-requires-2
-    word-requires-3
+    word-at-requires
+    word-at-requires-2
+    word-at-requires-3
     is-sum-requires
     cast-named
     cast-named-2

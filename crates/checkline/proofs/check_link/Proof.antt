@@ -7,22 +7,22 @@ use Rattle.checkline.proofs.check_link.Reads as reads
 use Rattle.checkline.proofs.check_link.Lts as lts
 use Rattle.checkline.proofs.link_fits.Reads as link-fits-reads
 use Rattle.checkline.proofs.verdict.Reads as verdict-reads
-use Rattle.kept.proofs.word.Reads as word-reads
+use Rattle.words.proofs.word_at.Reads as word-at-reads
 
-word-requires : tie.Need-word-requires
-word-requires c κs = search needs
+word-at-requires : tie.Need-word-at-requires
+word-at-requires c κs = search needs
 
-word-requires-2 : tie.Need-word-requires-2
-word-requires-2 c κs = search needs
+word-at-requires-2 : tie.Need-word-at-requires-2
+word-at-requires-2 c κs = search needs
 
-word-requires-3 : tie.Need-word-requires-3
-word-requires-3 c κs = search needs
+word-at-requires-3 : tie.Need-word-at-requires-3
+word-at-requires-3 c κs = search needs
 
-word-requires-4 : tie.Need-word-requires-4
-word-requires-4 c κs = search needs
+word-at-requires-4 : tie.Need-word-at-requires-4
+word-at-requires-4 c κs = search needs
 
-word-requires-5 : tie.Need-word-requires-5
-word-requires-5 c κs = search needs
+word-at-requires-5 : tie.Need-word-at-requires-5
+word-at-requires-5 c κs = search needs
 
 cast-named : tie.Need-cast-named
 cast-named c = search needs
@@ -44,22 +44,22 @@ unfolding stateIn roomOf orderedOf namedAs setsFitAs isLinkOf
 returns c = rw (
   c .verdict .ensures,
   c .before .link-fits .ensures,
-  c .before .before .before .before .before .word5 .ensures,
-  c .before .before .before .before .before .before .word4 .ensures,
-  c .before .before .before .before .before .before .before .word3 .ensures,
-  c .before .before .before .before .before .before .before .before .word2 .ensures,
-  c .before .before .before .before .before .before .before .before .before .word .ensures,
+  c .before .before .before .before .before .word-at5 .ensures,
+  c .before .before .before .before .before .before .word-at4 .ensures,
+  c .before .before .before .before .before .before .before .word-at3 .ensures,
+  c .before .before .before .before .before .before .before .before .word-at2 .ensures,
+  c .before .before .before .before .before .before .before .before .before .word-at .ensures,
 )
 
 pub check-link-spec : {M : Type 1} → statement M
 check-link-spec =
     tie.close
     (tie.spec
-    word-requires
-    word-requires-2
-    word-requires-3
-    word-requires-4
-    word-requires-5
+    word-at-requires
+    word-at-requires-2
+    word-at-requires-3
+    word-at-requires-4
+    word-at-requires-5
     cast-named
     cast-named-2
     cast-named-3

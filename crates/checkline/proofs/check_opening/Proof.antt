@@ -7,16 +7,16 @@ use Rattle.checkline.proofs.check_opening.Reads as reads
 use Rattle.checkline.proofs.check_opening.Lts as lts
 use Rattle.checkline.proofs.in_body.Reads as in-body-reads
 use Rattle.checkline.proofs.verdict.Reads as verdict-reads
-use Rattle.kept.proofs.word.Reads as word-reads
+use Rattle.words.proofs.word_at.Reads as word-at-reads
 
-word-requires : tie.Need-word-requires
-word-requires c κs = search needs
+word-at-requires : tie.Need-word-at-requires
+word-at-requires c κs = search needs
 
-word-requires-2 : tie.Need-word-requires-2
-word-requires-2 c κs = search needs
+word-at-requires-2 : tie.Need-word-at-requires-2
+word-at-requires-2 c κs = search needs
 
-word-requires-3 : tie.Need-word-requires-3
-word-requires-3 c κs = search needs
+word-at-requires-3 : tie.Need-word-at-requires-3
+word-at-requires-3 c κs = search needs
 
 in-body-requires : tie.Need-in-body-requires
 in-body-requires c κs = search needs
@@ -30,16 +30,16 @@ returns c = (
   rw (
     c .verdict .ensures,
     c .before .in-body .ensures,
-    c .before .before .word3 .ensures,
-    c .before .before .before .word2 .ensures,
-    c .before .before .before .before .word .ensures,
+    c .before .before .word-at3 .ensures,
+    c .before .before .before .word-at2 .ensures,
+    c .before .before .before .before .word-at .ensures,
   ),
   rw (
     c .verdict .ensures,
     c .before .in-body .ensures,
-    c .before .before .word3 .ensures,
-    c .before .before .before .word2 .ensures,
-    c .before .before .before .before .word .ensures,
+    c .before .before .word-at3 .ensures,
+    c .before .before .before .word-at2 .ensures,
+    c .before .before .before .before .word-at .ensures,
   ),
 )
 
@@ -47,9 +47,9 @@ pub check-opening-spec : {M : Type 1} → statement M
 check-opening-spec =
     tie.close
     (tie.spec
-    word-requires
-    word-requires-2
-    word-requires-3
+    word-at-requires
+    word-at-requires-2
+    word-at-requires-3
     in-body-requires
     verdict-requires
     returns)

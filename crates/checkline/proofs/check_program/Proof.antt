@@ -10,13 +10,13 @@ use Rattle.checkline.proofs.check_program.Tie as tie
 use Rattle.checkline.proofs.check_program.Reads as reads
 use Rattle.checkline.proofs.check_program.Lts as lts
 use Rattle.checkline.proofs.verdict.Reads as verdict-reads
-use Rattle.kept.proofs.word.Reads as word-reads
+use Rattle.words.proofs.word_at.Reads as word-at-reads
 
-word-requires : tie.Need-word-requires
-word-requires c κs = search needs
+word-at-requires : tie.Need-word-at-requires
+word-at-requires c κs = search needs
 
-word-requires-2 : tie.Need-word-requires-2
-word-requires-2 c κs = search needs
+word-at-requires-2 : tie.Need-word-at-requires-2
+word-at-requires-2 c κs = search needs
 
 cast-verdict : tie.Need-cast-verdict
 cast-verdict c = search needs
@@ -26,8 +26,8 @@ verdict-requires c κs = search needs
 
 returns : tie.Need-returns
 unfolding stateIn roomOf orderedOf namedAs setsFitAs isLinkOf
-returns c = rw (c .verdict .ensures, c .before .before .word2 .ensures, c .before .before .before .word .ensures)
+returns c = rw (c .verdict .ensures, c .before .before .word-at2 .ensures, c .before .before .before .word-at .ensures)
 
 pub check-program-spec : {M : Type 1} → statement M
 check-program-spec =
-    tie.close (tie.spec word-requires word-requires-2 cast-verdict verdict-requires returns)
+    tie.close (tie.spec word-at-requires word-at-requires-2 cast-verdict verdict-requires returns)

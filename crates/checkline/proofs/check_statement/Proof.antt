@@ -9,19 +9,19 @@ use Rattle.checkline.proofs.in_body.Reads as in-body-reads
 use Rattle.checkline.proofs.sets_fit.Reads as sets-fit-reads
 use Rattle.checkline.proofs.verdict.Reads as verdict-reads
 use Rattle.kept.proofs.cell.Reads as cell-reads
-use Rattle.kept.proofs.word.Reads as word-reads
+use Rattle.words.proofs.word_at.Reads as word-at-reads
 
-word-requires : tie.Need-word-requires
-word-requires c κs = search needs
+word-at-requires : tie.Need-word-at-requires
+word-at-requires c κs = search needs
 
-word-requires-2 : tie.Need-word-requires-2
-word-requires-2 c κs = search needs
+word-at-requires-2 : tie.Need-word-at-requires-2
+word-at-requires-2 c κs = search needs
 
-word-requires-3 : tie.Need-word-requires-3
-word-requires-3 c κs = search needs
+word-at-requires-3 : tie.Need-word-at-requires-3
+word-at-requires-3 c κs = search needs
 
-word-requires-4 : tie.Need-word-requires-4
-word-requires-4 c κs = search needs
+word-at-requires-4 : tie.Need-word-at-requires-4
+word-at-requires-4 c κs = search needs
 
 cast-cell : tie.Need-cast-cell
 cast-cell c = search needs
@@ -51,20 +51,20 @@ returns c = rw (
   c .before .sets-fit .ensures,
   c .before .before .in-body .ensures,
   c .before .before .before .before .before .cell .ensures,
-  c .before .before .before .before .before .before .before .word4 .ensures,
-  c .before .before .before .before .before .before .before .before .word3 .ensures,
-  c .before .before .before .before .before .before .before .before .before .word2 .ensures,
-  c .before .before .before .before .before .before .before .before .before .before .word .ensures,
+  c .before .before .before .before .before .before .before .word-at4 .ensures,
+  c .before .before .before .before .before .before .before .before .word-at3 .ensures,
+  c .before .before .before .before .before .before .before .before .before .word-at2 .ensures,
+  c .before .before .before .before .before .before .before .before .before .before .word-at .ensures,
 )
 
 pub check-statement-spec : {M : Type 1} → statement M
 check-statement-spec =
     tie.close
     (tie.spec
-    word-requires
-    word-requires-2
-    word-requires-3
-    word-requires-4
+    word-at-requires
+    word-at-requires-2
+    word-at-requires-3
+    word-at-requires-4
     cast-cell
     cell-requires
     cast-named

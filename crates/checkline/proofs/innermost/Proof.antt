@@ -5,17 +5,17 @@ use Rattle.checkline.proofs.innermost.Tie as tie
 use Rattle.checkline.proofs.innermost.Reads as reads
 use Rattle.checkline.proofs.innermost.Lts as lts
 use Rattle.kept.proofs.cell.Reads as cell-reads
-use Rattle.kept.proofs.word.Reads as word-reads
+use Rattle.words.proofs.word_at.Reads as word-at-reads
 
-word-requires : tie.Need-word-requires
-word-requires c κs = search needs
+word-at-requires : tie.Need-word-at-requires
+word-at-requires c κs = search needs
 
 cell-requires : tie.Need-cell-requires
 cell-requires c κs = search needs
 
 returns : tie.Need-returns
 unfolding stateIn
-returns c = rw (c .cell .ensures, c .before .word .ensures)
+returns c = rw (c .cell .ensures, c .before .word-at .ensures)
 
 pub innermost-spec : {M : Type 1} → statement M
-innermost-spec = tie.close (tie.spec word-requires cell-requires returns)
+innermost-spec = tie.close (tie.spec word-at-requires cell-requires returns)

@@ -42,7 +42,6 @@ abbrev count-run-below : ℕ → In 1 count-run-kinds.ps
 count-run-below t =
     and 1 count-run-kinds.ps (falls 1 count-run-kinds.ps _<_ μ-count-run t) count-run.Pre
 
--- src/lib.rt:113:8
 count-block-shared-slice-read-if1 : (t : ℕ) → count-block-lts.Need-shared-slice-read-if1 (
   count-run-below t,
   count-run.Post,
@@ -55,7 +54,6 @@ count-block-shared-slice-read-if1 : (t : ℕ) → count-block-lts.Need-shared-sl
 ) (count-block-at t) count-block.Post
 count-block-shared-slice-read-if1 t c = search needs
 
--- src/lib.rt:114:56
 count-block-add-t9 : (t : ℕ) → count-block-lts.Need-add-t9 (
   count-run-below t,
   count-run.Post,
@@ -68,7 +66,6 @@ count-block-add-t9 : (t : ℕ) → count-block-lts.Need-add-t9 (
 ) (count-block-at t) count-block.Post
 count-block-add-t9 t c = search needs
 
--- src/lib.rt:114:9
 count-block-returns : (t : ℕ) → count-block-lts.Need-returns (
   count-run-below t,
   count-run.Post,
@@ -82,7 +79,6 @@ count-block-returns : (t : ℕ) → count-block-lts.Need-returns (
 count-block-returns t c =
     block-statement (c .before .before .before .args .codes .now) (c .before .before .before .args .at) (c .before .before .before .args .left) (c .if1 .taken)
 
--- src/lib.rt:116:33
 count-block-add-count-run : (t : ℕ) → count-block-lts.Need-add-count-run (
   count-run-below t,
   count-run.Post,
@@ -95,7 +91,6 @@ count-block-add-count-run : (t : ℕ) → count-block-lts.Need-add-count-run (
 ) (count-block-at t) count-block.Post
 count-block-add-count-run t c = search needs
 
--- src/lib.rt:116:9
 count-block-count-run-requires : (t : ℕ) → count-block-lts.Need-count-run-requires (
   count-run-below t,
   count-run.Post,
@@ -108,7 +103,6 @@ count-block-count-run-requires : (t : ℕ) → count-block-lts.Need-count-run-re
 ) (count-block-at t) count-block.Post
 count-block-count-run-requires t c κs = search needs
 
--- src/lib.rt:117:8
 count-block-shared-slice-read-if2 : (t : ℕ) → count-block-lts.Need-shared-slice-read-if2 (
   count-run-below t,
   count-run.Post,
@@ -121,7 +115,6 @@ count-block-shared-slice-read-if2 : (t : ℕ) → count-block-lts.Need-shared-sl
 ) (count-block-at t) count-block.Post
 count-block-shared-slice-read-if2 t c = search needs
 
--- src/lib.rt:118:9
 count-block-count-loop-requires : (t : ℕ) → count-block-lts.Need-count-loop-requires (
   count-run-below t,
   count-run.Post,
@@ -134,7 +127,6 @@ count-block-count-loop-requires : (t : ℕ) → count-block-lts.Need-count-loop-
 ) (count-block-at t) count-block.Post
 count-block-count-loop-requires t c κs = search needs
 
--- src/lib.rt:118:9
 count-block-returns-2 : (t : ℕ) → count-block-lts.Need-returns-2 (
   count-run-below t,
   count-run.Post,
@@ -148,7 +140,6 @@ count-block-returns-2 : (t : ℕ) → count-block-lts.Need-returns-2 (
 count-block-returns-2 t c =
     block-loop (c .before .before .before .before .before .before .before .args .codes .now) (c .before .before .before .before .before .before .before .args .at) (c .before .before .before .before .before .before .before .args .left) (c .before .before .before .count-run .result) (c .count-loop .result) (c .before .if2 .taken) (c .before .before .before .count-run .ensures) (c .count-loop .ensures)
 
--- src/lib.rt:120:32
 count-block-behind-requires : (t : ℕ) → count-block-lts.Need-behind-requires (
   count-run-below t,
   count-run.Post,
@@ -161,7 +152,6 @@ count-block-behind-requires : (t : ℕ) → count-block-lts.Need-behind-requires
 ) (count-block-at t) count-block.Post
 count-block-behind-requires t c κs = search needs
 
--- src/lib.rt:120:9
 count-block-count-run-requires-2 : (t : ℕ) → count-block-lts.Need-count-run-requires-2 (
   count-run-below t,
   count-run.Post,
@@ -174,7 +164,6 @@ count-block-count-run-requires-2 : (t : ℕ) → count-block-lts.Need-count-run-
 ) (count-block-at t) count-block.Post
 count-block-count-run-requires-2 t c κs = search needs
 
--- src/lib.rt:121:5
 count-block-count-arms-requires : (t : ℕ) → count-block-lts.Need-count-arms-requires (
   count-run-below t,
   count-run.Post,
@@ -187,7 +176,6 @@ count-block-count-arms-requires : (t : ℕ) → count-block-lts.Need-count-arms-
 ) (count-block-at t) count-block.Post
 count-block-count-arms-requires t c κs = search needs
 
--- src/lib.rt:109:1
 count-block-returns-3 : (t : ℕ) → count-block-lts.Need-returns-3 (
   count-run-below t,
   count-run.Post,
@@ -201,7 +189,6 @@ count-block-returns-3 : (t : ℕ) → count-block-lts.Need-returns-3 (
 count-block-returns-3 t c =
     block-branch (c .before .before .before .before .before .before .before .before .before .args .codes .now) (c .before .before .before .before .before .before .before .before .before .args .at) (c .before .before .before .before .before .before .before .before .before .args .left) (c .before .before .behind .result) (c .before .before .before .before .before .count-run .result) (c .before .count-run2 .result) (c .count-arms .result) (c .before .before .behind .ensures) (c .before .before .before .before .before .before .if1 .left) (c .before .before .before .if2 .left) (c .before .before .before .before .before .count-run .ensures) (c .before .count-run2 .ensures) (c .count-arms .ensures)
 
--- src/lib.rt:95:9
 count-run-nothing-requires : (t : ℕ) → count-run-lts.Need-nothing-requires (
   nothing-reads.Asked,
   nothing-reads.Learnt,
@@ -214,7 +201,6 @@ count-run-nothing-requires : (t : ℕ) → count-run-lts.Need-nothing-requires (
 ) (count-run-at t) count-run.Post
 count-run-nothing-requires t c κs = search needs
 
--- src/lib.rt:95:9
 count-run-returns : (t : ℕ) → count-run-lts.Need-returns (
   nothing-reads.Asked,
   nothing-reads.Learnt,
@@ -228,7 +214,6 @@ count-run-returns : (t : ℕ) → count-run-lts.Need-returns (
 count-run-returns t c =
     run-none (c .before .before .before .args .codes .now) (c .before .before .before .args .at) (c .before .before .before .args .left) (c .nothing .result) (c .before .if1 .taken) (c .nothing .ensures)
 
--- src/lib.rt:98:9
 count-run-nothing-requires-2 : (t : ℕ) → count-run-lts.Need-nothing-requires-2 (
   nothing-reads.Asked,
   nothing-reads.Learnt,
@@ -241,7 +226,6 @@ count-run-nothing-requires-2 : (t : ℕ) → count-run-lts.Need-nothing-requires
 ) (count-run-at t) count-run.Post
 count-run-nothing-requires-2 t c κs = search needs
 
--- src/lib.rt:98:9
 count-run-returns-2 : (t : ℕ) → count-run-lts.Need-returns-2 (
   nothing-reads.Asked,
   nothing-reads.Learnt,
@@ -255,7 +239,6 @@ count-run-returns-2 : (t : ℕ) → count-run-lts.Need-returns-2 (
 count-run-returns-2 t c =
     run-past (c .before .before .before .before .args .codes .now) (c .before .before .before .before .args .at) (c .before .before .before .before .args .left) (c .nothing2 .result) (c .before .if2 .taken) (c .nothing2 .ensures)
 
--- src/lib.rt:100:8
 count-run-shared-slice-read-if3 : (t : ℕ) → count-run-lts.Need-shared-slice-read-if3 (
   nothing-reads.Asked,
   nothing-reads.Learnt,
@@ -268,7 +251,6 @@ count-run-shared-slice-read-if3 : (t : ℕ) → count-run-lts.Need-shared-slice-
 ) (count-run-at t) count-run.Post
 count-run-shared-slice-read-if3 t c = search needs
 
--- src/lib.rt:101:9
 count-run-nothing-requires-3 : (t : ℕ) → count-run-lts.Need-nothing-requires-3 (
   nothing-reads.Asked,
   nothing-reads.Learnt,
@@ -281,7 +263,6 @@ count-run-nothing-requires-3 : (t : ℕ) → count-run-lts.Need-nothing-requires
 ) (count-run-at t) count-run.Post
 count-run-nothing-requires-3 t c κs = search needs
 
--- src/lib.rt:101:9
 count-run-returns-3 : (t : ℕ) → count-run-lts.Need-returns-3 (
   nothing-reads.Asked,
   nothing-reads.Learnt,
@@ -295,7 +276,6 @@ count-run-returns-3 : (t : ℕ) → count-run-lts.Need-returns-3 (
 count-run-returns-3 t c =
     run-stop (c .before .before .before .before .before .before .args .codes .now) (c .before .before .before .before .before .before .args .at) (c .before .before .before .before .before .before .args .left) (c .nothing3 .result) (c .before .before .before .if2 .left) (c .before .if3 .taken) (c .nothing3 .ensures)
 
--- src/lib.rt:103:36
 count-run-sub-count-block : (t : ℕ) → count-run-lts.Need-sub-count-block (
   nothing-reads.Asked,
   nothing-reads.Learnt,
@@ -308,7 +288,6 @@ count-run-sub-count-block : (t : ℕ) → count-run-lts.Need-sub-count-block (
 ) (count-run-at t) count-run.Post
 count-run-sub-count-block t c = search needs
 
--- src/lib.rt:103:9
 count-run-count-block-requires : (t : ℕ) → count-run-lts.Need-count-block-requires (
   nothing-reads.Asked,
   nothing-reads.Learnt,
@@ -321,7 +300,6 @@ count-run-count-block-requires : (t : ℕ) → count-run-lts.Need-count-block-re
 ) (count-run-at t) count-run.Post
 count-run-count-block-requires t c κs = search needs
 
--- src/lib.rt:104:40
 count-run-sub-count-run : (t : ℕ) → count-run-lts.Need-sub-count-run (
   nothing-reads.Asked,
   nothing-reads.Learnt,
@@ -334,7 +312,6 @@ count-run-sub-count-run : (t : ℕ) → count-run-lts.Need-sub-count-run (
 ) (count-run-at t) count-run.Post
 count-run-sub-count-run t c = search needs
 
--- src/lib.rt:104:9
 count-run-count-run-requires : (t : ℕ) → count-run-lts.Need-count-run-requires (
   nothing-reads.Asked,
   nothing-reads.Learnt,
@@ -347,7 +324,6 @@ count-run-count-run-requires : (t : ℕ) → count-run-lts.Need-count-run-requir
 ) (count-run-at t) count-run.Post
 count-run-count-run-requires t c κs = search needs
 
--- src/lib.rt:105:5
 count-run-count-next-requires : (t : ℕ) → count-run-lts.Need-count-next-requires (
   nothing-reads.Asked,
   nothing-reads.Learnt,
@@ -360,7 +336,6 @@ count-run-count-next-requires : (t : ℕ) → count-run-lts.Need-count-next-requ
 ) (count-run-at t) count-run.Post
 count-run-count-next-requires t c κs = search needs
 
--- src/lib.rt:90:1
 count-run-returns-4 : (t : ℕ) → count-run-lts.Need-returns-4 (
   nothing-reads.Asked,
   nothing-reads.Learnt,

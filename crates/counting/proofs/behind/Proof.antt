@@ -9,15 +9,12 @@ use Rattle.counting.proofs.behind.Tie as tie
 use Rattle.counting.proofs.behind.Reads as reads
 use Rattle.counting.proofs.behind.Lts as lts
 
--- src/lib.rt:41:16
 add-result : tie.Need-add-result
 add-result c = search needs
 
--- src/lib.rt:41:9
 returns : tie.Need-returns
 returns c = after-inside _ _ (c .if1 .taken)
 
--- src/lib.rt:36:1
 returns-2 : tie.Need-returns-2
 returns-2 c = after-past _ _ (c .if1 .left)
 

@@ -18,28 +18,22 @@ Inv-loop codes t₀ i₀ t i = (i ≤ length codes) × Totalled (totalsBefore co
 abbrev μ-loop : tie.MeasureT-loop
 μ-loop codes t₀ i₀ t i = length codes - i
 
--- src/lib.rt:211:5
 loop-holds : tie.Need-loop-holds Inv-loop μ-loop
 loop-holds c = (search needs, lines-none _)
 
--- src/lib.rt:212:9
 count-line-requires : tie.Need-count-line-requires Inv-loop μ-loop
 count-line-requires c κs = search needs
 
--- src/lib.rt:213:9
 add-i : tie.Need-add-i Inv-loop μ-loop
 add-i c = search needs
 
--- src/lib.rt:211:5
 loop-less : tie.Need-loop-less Inv-loop μ-loop
 loop-less c = search needs
 
--- src/lib.rt:211:5
 loop-again : tie.Need-loop-again Inv-loop μ-loop
 loop-again c =
     (search needs, lines-next _ _ _ _ (c .before .before .loop .inv .1) (c .count-line .ensures))
 
--- src/lib.rt:206:1
 returns : tie.Need-returns Inv-loop μ-loop
 returns c =
     lines-all _ _ _ (c .before .loop .inv .0) (c .loop-test .left) (c .before .loop .inv .1)

@@ -11,19 +11,15 @@ use Rattle.counting.proofs.count_arms.Lts as lts
 use Rattle.counting.proofs.behind.Reads as behind-reads
 use Rattle.counting.proofs.sum.Reads as sum-reads
 
--- src/lib.rt:69:9
 sum-requires : tie.Need-sum-requires
 sum-requires c κs = search needs
 
--- src/lib.rt:70:9
 sum-requires-2 : tie.Need-sum-requires-2
 sum-requires-2 c κs = search needs
 
--- src/lib.rt:71:9
 behind-requires : tie.Need-behind-requires
 behind-requires c κs = search needs
 
--- src/lib.rt:65:1
 returns : tie.Need-returns
 returns c =
     branch-made _ _ _ _ _ _ (c .before .before .sum .ensures) (c .before .sum2 .ensures) (c .behind .ensures)

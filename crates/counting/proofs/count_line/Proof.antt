@@ -11,40 +11,31 @@ use Rattle.counting.proofs.count_line.Lts as lts
 use Rattle.counting.proofs.count_run.Reads as count-run-reads
 use Rattle.counting.proofs.sum.Reads as sum-reads
 
--- src/lib.rt:196:8
 shared-slice-read-if1 : tie.Need-shared-slice-read-if1
 shared-slice-read-if1 c = search needs
 
--- src/lib.rt:197:9
 returns : tie.Need-returns
 returns c =
     line-none _ _ _ (c .if1 .taken) (c .before .before .before .pre .1) (c .before .before .before .pre .2)
 
--- src/lib.rt:199:30
 add-count-run : tie.Need-add-count-run
 add-count-run c = search needs
 
--- src/lib.rt:199:52
 add-count-run-2 : tie.Need-add-count-run-2
 add-count-run-2 c = search needs
 
--- src/lib.rt:199:37
 sub-count-run : tie.Need-sub-count-run
 sub-count-run c = search needs
 
--- src/lib.rt:199:9
 count-run-requires : tie.Need-count-run-requires
 count-run-requires c κs = search needs
 
--- src/lib.rt:200:9
 sum-requires : tie.Need-sum-requires
 sum-requires c κs = search needs
 
--- src/lib.rt:201:9
 sum-requires-2 : tie.Need-sum-requires-2
 sum-requires-2 c κs = search needs
 
--- src/lib.rt:192:1
 returns-2 : tie.Need-returns-2
 returns-2 c =
     line-program _ _ _ (c .before .before .count-run .result) _ _ (c .before .before .before .if1 .left) (c .before .before .count-run .ensures) (c .before .sum .ensures) (c .sum2 .ensures)

@@ -12,39 +12,30 @@ use Rattle.counting.proofs.behind.Reads as behind-reads
 use Rattle.counting.proofs.product.Reads as product-reads
 use Rattle.counting.proofs.sum.Reads as sum-reads
 
--- src/lib.rt:59:31
 product-requires : tie.Need-product-requires
 product-requires c κs = search needs
 
--- src/lib.rt:59:24
 sum-requires : tie.Need-sum-requires
 sum-requires c κs = search needs
 
--- src/lib.rt:59:9
 sum-requires-2 : tie.Need-sum-requires-2
 sum-requires-2 c κs = search needs
 
--- src/lib.rt:60:33
 product-requires-2 : tie.Need-product-requires-2
 product-requires-2 c κs = search needs
 
--- src/lib.rt:60:48
 product-requires-3 : tie.Need-product-requires-3
 product-requires-3 c κs = search needs
 
--- src/lib.rt:60:29
 sum-requires-3 : tie.Need-sum-requires-3
 sum-requires-3 c κs = search needs
 
--- src/lib.rt:60:9
 sum-requires-4 : tie.Need-sum-requires-4
 sum-requires-4 c κs = search needs
 
--- src/lib.rt:61:9
 behind-requires : tie.Need-behind-requires
 behind-requires c κs = search needs
 
--- src/lib.rt:53:1
 returns : tie.Need-returns
 returns c =
     loop-made _ _ _ _ _ _ _ _ _ _ (c .before .before .before .before .before .before .before .product .ensures) (c .before .before .before .before .before .before .sum .ensures) (c .before .before .before .before .before .sum2 .ensures) (c .before .before .before .before .product2 .ensures) (c .before .before .before .product3 .ensures) (c .before .before .sum3 .ensures) (c .before .sum4 .ensures) (c .behind .ensures)

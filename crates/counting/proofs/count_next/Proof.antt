@@ -11,23 +11,18 @@ use Rattle.counting.proofs.count_next.Lts as lts
 use Rattle.counting.proofs.product.Reads as product-reads
 use Rattle.counting.proofs.sum.Reads as sum-reads
 
--- src/lib.rt:84:9
 product-requires : tie.Need-product-requires
 product-requires c κs = search needs
 
--- src/lib.rt:85:26
 product-requires-2 : tie.Need-product-requires-2
 product-requires-2 c κs = search needs
 
--- src/lib.rt:85:41
 product-requires-3 : tie.Need-product-requires-3
 product-requires-3 c κs = search needs
 
--- src/lib.rt:85:9
 sum-requires : tie.Need-sum-requires
 sum-requires c κs = search needs
 
--- src/lib.rt:76:1
 returns : tie.Need-returns
 returns c =
     next-made _ _ _ _ _ _ (c .before .before .before .product .ensures) (c .before .before .product2 .ensures) (c .before .product3 .ensures) (c .sum .ensures)

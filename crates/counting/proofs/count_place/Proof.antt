@@ -7,19 +7,15 @@ use Rattle.counting.proofs.count_place.Lts as lts
 use Rattle.counting.proofs.count_block.Reads as count-block-reads
 use Rattle.counting.proofs.nothing.Reads as nothing-reads
 
--- src/lib.rt:148:9
 nothing-requires : tie.Need-nothing-requires
 nothing-requires c κs = search needs
 
--- src/lib.rt:148:9
 returns : tie.Need-returns
 returns c = place-past _ _ _ _ (c .before .if1 .taken) (c .nothing .ensures)
 
--- src/lib.rt:150:5
 count-block-requires : tie.Need-count-block-requires
 count-block-requires c κs = search needs
 
--- src/lib.rt:144:1
 returns-2 : tie.Need-returns-2
 returns-2 c = place-inside _ _ _ _ (c .before .if1 .left) (c .count-block .ensures)
 

@@ -9,7 +9,6 @@ use Rattle.counting.proofs.nothing.Tie as tie
 use Rattle.counting.proofs.nothing.Reads as reads
 use Rattle.counting.proofs.nothing.Lts as lts
 
--- src/lib.rt:46:1
 returns : tie.Need-returns
 unfolding nothingAt
 returns c = cc

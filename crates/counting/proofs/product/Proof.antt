@@ -9,15 +9,12 @@ use Rattle.counting.proofs.product.Tie as tie
 use Rattle.counting.proofs.product.Reads as reads
 use Rattle.counting.proofs.product.Lts as lts
 
--- src/lib.rt:28:13
 mul-x : tie.Need-mul-x
 mul-x c = omega (arith, product-small (c .args .a) (c .args .b) (c .pre .0) (c .pre .1))
 
--- src/lib.rt:30:9
 returns : tie.Need-returns
 returns c = stops-large _ (search needs)
 
--- src/lib.rt:24:1
 returns-2 : tie.Need-returns-2
 returns-2 c = stops-small _ (search needs)
 

@@ -9,15 +9,12 @@ use Rattle.counting.proofs.sum.Tie as tie
 use Rattle.counting.proofs.sum.Reads as reads
 use Rattle.counting.proofs.sum.Lts as lts
 
--- src/lib.rt:17:13
 add-x : tie.Need-add-x
 add-x c = search needs
 
--- src/lib.rt:19:9
 returns : tie.Need-returns
 returns c = stops-large _ (search needs)
 
--- src/lib.rt:13:1
 returns-2 : tie.Need-returns-2
 returns-2 c = stops-small _ (search needs)
 

@@ -13,23 +13,18 @@ use Rattle.detector.proofs.dangerous.Reads as dangerous-reads
 use Rattle.detector.proofs.has_bit.Reads as has-bit-reads
 use Rattle.words.proofs.word_at.Reads as word-at-reads
 
--- src/lib.rt:130:28
 mul-word-at : tie.Need-mul-word-at
 mul-word-at c = search needs
 
--- src/lib.rt:130:28
 add-word-at : tie.Need-add-word-at
 add-word-at c = search needs
 
--- src/lib.rt:130:9
 word-at-requires : tie.Need-word-at-requires
 word-at-requires c κs = search needs
 
--- src/lib.rt:132:8
 dangerous-requires : tie.Need-dangerous-requires
 dangerous-requires c κs = search needs
 
--- src/lib.rt:133:9
 has-bit-requires : tie.Need-has-bit-requires
 has-bit-requires c κs = search needs
 

@@ -10,26 +10,21 @@ use Rattle.detector.proofs.dangerous.Tie as tie
 use Rattle.detector.proofs.dangerous.Reads as reads
 use Rattle.detector.proofs.dangerous.Lts as lts
 
--- src/lib.rt:114:9
 returns : tie.Need-returns
 unfolding aheadPick
 returns c = simp (eq-eqb _ _ (c .if1 .taken))
 
--- src/lib.rt:117:9
 returns-2 : tie.Need-returns-2
 unfolding aheadPick behindPick
 returns-2 c = simp (ne-eqb _ _ (c .before .if1 .left), eq-eqb _ _ (c .if2 .taken))
 
--- src/lib.rt:119:8
 sub-if3 : tie.Need-sub-if3
 sub-if3 c = search needs
 
--- src/lib.rt:120:9
 returns-3 : tie.Need-returns-3
 unfolding aheadPick behindPick
 returns-3 c = simp (ne-eqb _ _ (c .before .before .if1 .left), ne-eqb _ _ (c .before .if2 .left), lt-ltb _ _ (c .if3 .taken))
 
--- src/lib.rt:110:1
 returns-4 : tie.Need-returns-4
 unfolding aheadPick behindPick
 returns-4 c = simp (ne-eqb _ _ (c .before .before .if1 .left), ne-eqb _ _ (c .before .if2 .left), le-ltb _ _ (c .if3 .left))

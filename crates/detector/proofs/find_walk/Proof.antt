@@ -13,40 +13,29 @@ use Rattle.detector.proofs.node_in.Reads as node-in-reads
 use Rattle.detector.proofs.pair_for.Reads as pair-for-reads
 use Rattle.detector.proofs.put_walk.Reads as put-walk-reads
 
--- src/lib.rt:272:9
 returns : tie.Need-returns
 returns c = answer-short _ _ _ (c .if1 .taken)
 
--- src/lib.rt:274:9
 joined-rows-requires : tie.Need-joined-rows-requires
 joined-rows-requires c κs = search needs
 
--- src/lib.rt:283:8
--- src/lib.rt:275:9
 node-in-requires : tie.Need-node-in-requires
 node-in-requires c κs = search needs
 
--- src/lib.rt:277:9
 returns-2 : tie.Need-returns-2
 returns-2 c =
     answer-none _ _ _ (c .before .before .before .before .if1 .left) (c .before .before .before .joined-rows .ensures) (c .before .node-in .ensures) (c .if2 .taken)
 
--- src/lib.rt:283:8
--- src/lib.rt:279:9
 pair-for-requires : tie.Need-pair-for-requires
 pair-for-requires c κs = search needs
 
--- src/lib.rt:283:8
--- src/lib.rt:280:5
 put-walk-requires : tie.Need-put-walk-requires
 put-walk-requires c κs =
     (c .before .before .before .before .if2 .left, found-pair _ _ _ (c .before .before .before .before .before .node-in .ensures) (c .before .before .before .before .if2 .left) (c .before .before .pair-for .ensures), search needs)
 
--- src/lib.rt:268:1
 same-length : tie.Need-same-length
 same-length c = search needs
 
--- src/lib.rt:268:1
 returns-3 : tie.Need-returns-3
 returns-3 c =
     answer-found _ _ _ (c .before .before .before .before .before .before .before .before .before .before .before .if1 .left)

@@ -16,51 +16,39 @@ use Rattle.detector.proofs.lowest_in.Reads as lowest-in-reads
 use Rattle.detector.proofs.put_ahead.Reads as put-ahead-reads
 use Rattle.words.proofs.word_at.Reads as word-at-reads
 
--- src/lib.rt:222:8
 has-bit-requires : tie.Need-has-bit-requires
 has-bit-requires c κs = search needs
 
--- src/lib.rt:223:9
 returns : tie.Need-returns
 returns c = go-stays _ _ _ _ _ _ (c .before .has-bit .ensures) (c .if1 .taken)
 
--- src/lib.rt:225:23
 mul-lowest-in : tie.Need-mul-lowest-in
 mul-lowest-in c = search needs
 
--- src/lib.rt:225:23
 element-copy-out-lowest-in : tie.Need-element-copy-out-lowest-in
 element-copy-out-lowest-in c = search needs
 
--- src/lib.rt:225:9
 lowest-in-requires : tie.Need-lowest-in-requires
 lowest-in-requires c κs = search needs
 
--- src/lib.rt:226:28
 mul-word-at : tie.Need-mul-word-at
 mul-word-at c = search needs
 
--- src/lib.rt:226:28
 add-word-at : tie.Need-add-word-at
 add-word-at c = let h = lowest-below _ _ (c .lowest-in .ensures) in record { fits = omega arith }
 
--- src/lib.rt:226:9
 word-at-requires : tie.Need-word-at-requires
 word-at-requires c κs = search needs
 
--- src/lib.rt:227:5
 put-ahead-requires : tie.Need-put-ahead-requires
 put-ahead-requires c κs = search needs
 
--- src/lib.rt:230:16
 add-t10 : tie.Need-add-t10
 add-t10 c = search needs
 
--- src/lib.rt:218:1
 same-length : tie.Need-same-length
 same-length c = search needs
 
--- src/lib.rt:218:1
 returns-2 : tie.Need-returns-2
 returns-2 c = go-along _ _ _ _ _ _ (c .before .before .before .before .before .before .before .before .has-bit .ensures) (c .before .before .before .before .before .before .before .if1 .left) (c .before .before .before .before .before .lowest-in .ensures) (c .before .before .before .before .word-at .ensures) (c .before .before .put-ahead .ensures)
 

@@ -18,32 +18,25 @@ Inv-loop rows nodes word₀ k₀ word k = (k ≤ 64) × (word ≡ wordBelow (gro
 abbrev μ-loop : tie.MeasureT-loop
 μ-loop rows nodes word₀ k₀ word k = 64 - k
 
--- src/lib.rt:85:5
 loop-holds : tie.Need-loop-holds Inv-loop μ-loop
 unfolding wordBelow
 loop-holds c = (omega arith, refl)
 
--- src/lib.rt:86:13
 grows-to-requires : tie.Need-grows-to-requires Inv-loop μ-loop
 grows-to-requires c κs = search needs
 
--- src/lib.rt:87:9
 with-bit-requires : tie.Need-with-bit-requires Inv-loop μ-loop
 with-bit-requires c κs = search needs
 
--- src/lib.rt:88:9
 add-k : tie.Need-add-k Inv-loop μ-loop
 add-k c = search needs
 
--- src/lib.rt:85:5
 loop-less : tie.Need-loop-less Inv-loop μ-loop
 loop-less c = search needs
 
--- src/lib.rt:85:5
 loop-again : tie.Need-loop-again Inv-loop μ-loop
 loop-again c = (omega arith, word-turn _ _ (c .before .before .before .loop .inv .1) (c .before .grows-to .ensures) (c .with-bit .ensures))
 
--- src/lib.rt:80:1
 returns : tie.Need-returns Inv-loop μ-loop
 unfolding grown
 returns c = last-turn (wordBelow (growsTo _ _)) 64 _ (c .before .loop .inv .1) (c .before .loop .inv .0) (c .loop-test .left)

@@ -10,24 +10,19 @@ use Rattle.detector.proofs.grows_to.Reads as reads
 use Rattle.detector.proofs.grows_to.Lts as lts
 use Rattle.detector.proofs.has_bit.Reads as has-bit-reads
 
--- src/lib.rt:73:8
 has-bit-requires : tie.Need-has-bit-requires
 has-bit-requires c κs = search needs
 
--- src/lib.rt:74:9
 returns : tie.Need-returns
 unfolding growsTo
 returns c = simp (← c .before .has-bit .ensures, c .if1 .taken)
 
--- src/lib.rt:76:5
 mul-result : tie.Need-mul-result
 mul-result c = search needs
 
--- src/lib.rt:76:5
 element-copy-out-result : tie.Need-element-copy-out-result
 element-copy-out-result c = search needs
 
--- src/lib.rt:69:1
 returns-2 : tie.Need-returns-2
 unfolding growsTo
 returns-2 c = simp (← c .before .before .has-bit .ensures, c .before .if1 .left)

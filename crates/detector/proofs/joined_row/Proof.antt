@@ -20,41 +20,32 @@ Inv-loop ahead u word₀ v₀ word v = (v ≤ 64) × (word ≡ wordBelow (joined
 abbrev μ-loop : tie.MeasureT-loop
 μ-loop ahead u word₀ v₀ word v = 64 - v
 
--- src/lib.rt:47:5
 loop-holds : tie.Need-loop-holds Inv-loop μ-loop
 unfolding wordBelow
 loop-holds c = (omega arith, refl)
 
--- src/lib.rt:48:32
 mul-word-at : tie.Need-mul-word-at Inv-loop μ-loop
 mul-word-at c = search needs
 
--- src/lib.rt:48:32
 add-word-at : tie.Need-add-word-at Inv-loop μ-loop
 add-word-at c = search needs
 
--- src/lib.rt:48:13
 word-at-requires : tie.Need-word-at-requires Inv-loop μ-loop
 word-at-requires c κs = search needs
 
--- src/lib.rt:49:9
 with-bit-requires : tie.Need-with-bit-requires Inv-loop μ-loop
 with-bit-requires c κs = search needs
 
--- src/lib.rt:50:9
 add-v : tie.Need-add-v Inv-loop μ-loop
 add-v c = search needs
 
--- src/lib.rt:47:5
 loop-less : tie.Need-loop-less Inv-loop μ-loop
 loop-less c = search needs
 
--- src/lib.rt:47:5
 loop-again : tie.Need-loop-again Inv-loop μ-loop
 loop-again c =
     (omega arith, word-turn _ _ (c .before .before .before .loop .inv .1) (ap (λ (x : ℕ). not (eqb x 0)) (c .before .word-at .ensures)) (c .with-bit .ensures))
 
--- src/lib.rt:41:1
 returns : tie.Need-returns Inv-loop μ-loop
 returns c = row-end _ _ (c .before .loop .inv .1) (c .before .loop .inv .0) (c .loop-test .left)
 

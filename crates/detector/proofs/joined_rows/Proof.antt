@@ -17,36 +17,28 @@ Inv-loop ahead rows₀ u₀ rows u = (u ≤ 64) × (rows ≡ listBelow (joinedRo
 abbrev μ-loop : tie.MeasureT-loop
 μ-loop ahead rows₀ u₀ rows u = 64 - u
 
--- src/lib.rt:62:5
 loop-holds : tie.Need-loop-holds Inv-loop μ-loop
 unfolding listBelow
 loop-holds c = (omega arith, refl)
 
--- src/lib.rt:63:19
 joined-row-requires : tie.Need-joined-row-requires Inv-loop μ-loop
 joined-row-requires c κs = search needs
 
--- src/lib.rt:63:9
 mul-rows : tie.Need-mul-rows Inv-loop μ-loop
 mul-rows c = search needs
 
--- src/lib.rt:63:9
 array-write-rows : tie.Need-array-write-rows Inv-loop μ-loop
 array-write-rows c = search needs
 
--- src/lib.rt:64:9
 add-u : tie.Need-add-u Inv-loop μ-loop
 add-u c = search needs
 
--- src/lib.rt:62:5
 loop-less : tie.Need-loop-less Inv-loop μ-loop
 loop-less c = search needs
 
--- src/lib.rt:62:5
 loop-again : tie.Need-loop-again Inv-loop μ-loop
 loop-again c = (omega arith, list-turn _ _ (c .before .before .loop .inv .1) (c .joined-row .ensures) refl)
 
--- src/lib.rt:57:1
 returns : tie.Need-returns Inv-loop μ-loop
 unfolding joinedRows
 returns c = last-turn (listBelow (joinedRow _)) 64 _ (c .before .loop .inv .1) (c .before .loop .inv .0) (c .loop-test .left)

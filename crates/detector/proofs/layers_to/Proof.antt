@@ -19,36 +19,28 @@ Inv-loop rows u layers₀ before₀ nodes₀ d₀ layers before nodes d =
 abbrev μ-loop : tie.MeasureT-loop
 μ-loop rows u layers₀ before₀ nodes₀ d₀ layers before nodes d = 64 - d
 
--- src/lib.rt:100:26
 shl-nodes : tie.Need-shl-nodes Inv-loop μ-loop
 shl-nodes c = search needs
 
--- src/lib.rt:102:5
 loop-holds : tie.Need-loop-holds Inv-loop μ-loop
 unfolding listBelow layer
 loop-holds c = (omega arith, refl, bit-shifted _ (c .pre), layer-first _ _ (bit-shifted _ (c .pre)))
 
--- src/lib.rt:103:9
 mul-layers : tie.Need-mul-layers Inv-loop μ-loop
 mul-layers c = search needs
 
--- src/lib.rt:103:9
 array-write-layers : tie.Need-array-write-layers Inv-loop μ-loop
 array-write-layers c = search needs
 
--- src/lib.rt:104:9
 next-layer-requires : tie.Need-next-layer-requires Inv-loop μ-loop
 next-layer-requires c κs = c .before .loop .inv .3
 
--- src/lib.rt:105:9
 add-d : tie.Need-add-d Inv-loop μ-loop
 add-d c = search needs
 
--- src/lib.rt:102:5
 loop-less : tie.Need-loop-less Inv-loop μ-loop
 loop-less c = search needs
 
--- src/lib.rt:102:5
 loop-again : tie.Need-loop-again Inv-loop μ-loop
 loop-again c = (
   omega arith,
@@ -57,7 +49,6 @@ loop-again c = (
   layer-still _ (c .next-layer .ensures),
 )
 
--- src/lib.rt:95:1
 returns : tie.Need-returns Inv-loop μ-loop
 unfolding layersTo
 returns c = last-turn (listBelow (layer _ _)) 64 _ (c .before .loop .inv .1) (c .before .loop .inv .0) (c .loop-test .left)

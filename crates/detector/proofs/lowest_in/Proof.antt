@@ -9,11 +9,9 @@ use Rattle.detector.proofs.lowest_in.Tie as tie
 use Rattle.detector.proofs.lowest_in.Reads as reads
 use Rattle.detector.proofs.lowest_in.Lts as lts
 
--- src/lib.rt:180:5
 cast-result : tie.Need-cast-result
 cast-result c = search needs
 
--- src/lib.rt:177:1
 returns : tie.Need-returns
 unfolding lowest
 returns c = refl

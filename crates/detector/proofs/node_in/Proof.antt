@@ -18,32 +18,25 @@ Inv-loop ahead behind rows u₀ u = (u ≤ 64) × (firstFrom (hasPair ahead behi
 abbrev μ-loop : tie.MeasureT-loop
 μ-loop ahead behind rows u₀ u = 64 - u
 
--- src/lib.rt:168:5
 loop-holds : tie.Need-loop-holds Inv-loop μ-loop
 loop-holds c = (omega arith, refl)
 
--- src/lib.rt:169:12
 pair-for-requires : tie.Need-pair-for-requires Inv-loop μ-loop
 pair-for-requires c κs = (c .loop-test .taken, c .before .before .before .before .pre)
 
--- src/lib.rt:170:13
 returns : tie.Need-returns Inv-loop μ-loop
 unfolding nodeIn
 returns c = search-stop _ _ _ (c .before .before .before .loop .inv .1) (c .before .before .loop-test .taken) (pair-passes _ _ _ _ (c .before .pair-for .ensures) (c .if1 .taken))
 
--- src/lib.rt:172:9
 add-u : tie.Need-add-u Inv-loop μ-loop
 add-u c = search needs
 
--- src/lib.rt:168:5
 loop-less : tie.Need-loop-less Inv-loop μ-loop
 loop-less c = search needs
 
--- src/lib.rt:168:5
 loop-again : tie.Need-loop-again Inv-loop μ-loop
 loop-again c = (omega arith, search-turn _ _ _ (c .before .before .before .loop .inv .1) (c .before .before .loop-test .taken) (pair-fails _ _ _ _ (c .before .pair-for .ensures) (c .if1 .left)))
 
--- src/lib.rt:164:1
 returns-2 : tie.Need-returns-2 Inv-loop μ-loop
 unfolding nodeIn
 returns-2 c = search-end _ _ _ (c .before .loop .inv .1) (c .before .loop .inv .0) (c .loop-test .left)

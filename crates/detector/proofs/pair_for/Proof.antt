@@ -25,15 +25,12 @@ returns c = pair-none _ _ _ (c .before .before .before .before .pre .0) (c .befo
 layers-to-requires : tie.Need-layers-to-requires
 layers-to-requires c κs = search needs
 
--- src/lib.rt:160:31
 array-read-pair-in : tie.Need-array-read-pair-in
 array-read-pair-in c = search needs
 
--- src/lib.rt:160:5
 pair-in-requires : tie.Need-pair-in-requires
 pair-in-requires c κs = search needs
 
--- src/lib.rt:155:1
 returns-2 : tie.Need-returns-2
 returns-2 c = pair-layers _ _ _ _ (c .before .layers-to .ensures) (c .pair-in .ensures)
 

@@ -10,15 +10,12 @@ use Rattle.detector.proofs.put_ahead.Reads as reads
 use Rattle.detector.proofs.put_ahead.Lts as lts
 use Rattle.detector.proofs.put_words.Reads as put-words-reads
 
--- src/lib.rt:200:5
 put-words-requires : tie.Need-put-words-requires
 put-words-requires c κs = search needs
 
--- src/lib.rt:196:1
 same-length : tie.Need-same-length
 same-length c = search needs
 
--- src/lib.rt:196:1
 returns : tie.Need-returns
 unfolding putStep
 returns c = c .before .before .put-words .ensures

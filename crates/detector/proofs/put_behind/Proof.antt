@@ -10,19 +10,15 @@ use Rattle.detector.proofs.put_behind.Reads as reads
 use Rattle.detector.proofs.put_behind.Lts as lts
 use Rattle.detector.proofs.put_words.Reads as put-words-reads
 
--- src/lib.rt:208:36
 sub-put-words : tie.Need-sub-put-words
 sub-put-words c = search needs
 
--- src/lib.rt:208:5
 put-words-requires : tie.Need-put-words-requires
 put-words-requires c κs = search needs
 
--- src/lib.rt:204:1
 same-length : tie.Need-same-length
 same-length c = search needs
 
--- src/lib.rt:204:1
 returns : tie.Need-returns
 unfolding putStep
 returns c = c .before .before .put-words .ensures

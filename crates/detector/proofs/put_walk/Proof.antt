@@ -14,52 +14,39 @@ use Rattle.detector.proofs.put_behind.Reads as put-behind-reads
 use Rattle.detector.proofs.put_way.Reads as put-way-reads
 use Rattle.words.proofs.word_at.Reads as word-at-reads
 
--- src/lib.rt:258:28
 mul-word-at : tie.Need-mul-word-at
 mul-word-at c = search needs
 
--- src/lib.rt:258:28
 add-word-at : tie.Need-add-word-at
 add-word-at c = search needs
 
--- src/lib.rt:258:9
 word-at-requires : tie.Need-word-at-requires
 word-at-requires c κs = search needs
 
--- src/lib.rt:259:5
 put-ahead-requires : tie.Need-put-ahead-requires
 put-ahead-requires c κs = search needs
 
--- src/lib.rt:260:29
 mul-word-at-2 : tie.Need-mul-word-at-2
 mul-word-at-2 c = search needs
 
--- src/lib.rt:260:29
 add-word-at-2 : tie.Need-add-word-at-2
 add-word-at-2 c = search needs
 
--- src/lib.rt:260:9
 word-at-requires-2 : tie.Need-word-at-requires-2
 word-at-requires-2 c κs = search needs
 
--- src/lib.rt:261:5
 put-behind-requires : tie.Need-put-behind-requires
 put-behind-requires c κs = search needs
 
--- src/lib.rt:262:9
 layers-to-requires : tie.Need-layers-to-requires
 layers-to-requires c κs = search needs
 
--- src/lib.rt:265:5
--- src/lib.rt:263:5
 put-way-requires : tie.Need-put-way-requires
 put-way-requires c κs = search needs
 
--- src/lib.rt:252:1
 same-length : tie.Need-same-length
 same-length c = search needs
 
--- src/lib.rt:252:1
 returns : tie.Need-returns
 returns c =
     walk-written _ _ _ _ _ (c .before .before .before .before .before .before .before .before .before .before .before .before .before .before .before .word-at .ensures)

@@ -17,39 +17,30 @@ Inv-loop ahead rows layers w out₀ node₀ steps₀ d₀ out node steps d = Way
 abbrev μ-loop : tie.MeasureT-loop
 μ-loop ahead rows layers w out₀ node₀ steps₀ d₀ out node steps d = d
 
--- src/lib.rt:242:5
 loop-holds : tie.Need-loop-holds Inv-loop μ-loop
 loop-holds c = way-first (c .before .before .pre .0)
 
--- src/lib.rt:243:9
 sub-d : tie.Need-sub-d Inv-loop μ-loop
 sub-d c = search needs
 
--- src/lib.rt:244:36
 mul-go-on : tie.Need-mul-go-on Inv-loop μ-loop
 mul-go-on c = search needs
 
--- src/lib.rt:244:36
 element-copy-out-go-on : tie.Need-element-copy-out-go-on Inv-loop μ-loop
 element-copy-out-go-on c = search needs
 
--- src/lib.rt:244:13
 go-on-requires : tie.Need-go-on-requires Inv-loop μ-loop
 go-on-requires c κs = search needs
 
--- src/lib.rt:242:5
 loop-less : tie.Need-loop-less Inv-loop μ-loop
 loop-less c = search needs
 
--- src/lib.rt:242:5
 loop-again : tie.Need-loop-again Inv-loop μ-loop
 loop-again c = way-turn _ _ _ _ (c .before .before .before .before .before .loop-test .taken) (c .before .before .before .before .before .before .loop .inv) (c .before .before .go-on .ensures)
 
--- src/lib.rt:235:1
 same-length : tie.Need-same-length Inv-loop μ-loop
 same-length c = c .before .loop .inv .long
 
--- src/lib.rt:235:1
 returns : tie.Need-returns Inv-loop μ-loop
 returns c = way-end _ _ _ _ (c .loop-test .left) (c .before .loop .inv)
 

@@ -9,71 +9,54 @@ use Rattle.detector.proofs.put_words.Tie as tie
 use Rattle.detector.proofs.put_words.Reads as reads
 use Rattle.detector.proofs.put_words.Lts as lts
 
--- src/lib.rt:189:9
 mul-out : tie.Need-mul-out
 mul-out c = search needs
 
--- src/lib.rt:189:5
 mul-out-2 : tie.Need-mul-out-2
 mul-out-2 c = search needs
 
--- src/lib.rt:189:5
 slice-write-out : tie.Need-slice-write-out
 slice-write-out c = search needs
 
--- src/lib.rt:190:9
 mul-out-3 : tie.Need-mul-out-3
 mul-out-3 c = search needs
 
--- src/lib.rt:190:9
 add-out : tie.Need-add-out
 add-out c = search needs
 
--- src/lib.rt:190:5
 mul-out-4 : tie.Need-mul-out-4
 mul-out-4 c = search needs
 
--- src/lib.rt:190:5
 slice-write-out-2 : tie.Need-slice-write-out-2
 slice-write-out-2 c = simp length-set (omega arith)
 
--- src/lib.rt:191:9
 mul-out-5 : tie.Need-mul-out-5
 mul-out-5 c = search needs
 
--- src/lib.rt:191:9
 add-out-2 : tie.Need-add-out-2
 add-out-2 c = search needs
 
--- src/lib.rt:191:5
 mul-out-6 : tie.Need-mul-out-6
 mul-out-6 c = search needs
 
--- src/lib.rt:191:5
 slice-write-out-3 : tie.Need-slice-write-out-3
 slice-write-out-3 c = simp length-set (omega arith)
 
--- src/lib.rt:192:9
 mul-out-7 : tie.Need-mul-out-7
 mul-out-7 c = search needs
 
--- src/lib.rt:192:9
 add-out-3 : tie.Need-add-out-3
 add-out-3 c = search needs
 
--- src/lib.rt:192:5
 mul-out-8 : tie.Need-mul-out-8
 mul-out-8 c = search needs
 
--- src/lib.rt:192:5
 slice-write-out-4 : tie.Need-slice-write-out-4
 slice-write-out-4 c = simp length-set (omega arith)
 
--- src/lib.rt:185:1
 same-length : tie.Need-same-length
 same-length c = simp length-set
 
--- src/lib.rt:185:1
 returns : tie.Need-returns
 unfolding putWords
 returns c = refl

@@ -11,16 +11,13 @@ use Rattle.detector.proofs.with_bit.Tie as tie
 use Rattle.detector.proofs.with_bit.Reads as reads
 use Rattle.detector.proofs.with_bit.Lts as lts
 
--- src/lib.rt:35:24
 shl-result : tie.Need-shl-result
 shl-result c = search needs
 
--- src/lib.rt:35:9
 returns : tie.Need-returns
 unfolding withBit
 returns c = simp (c .if1 .taken, bit-shifted _ (c .before .pre))
 
--- src/lib.rt:30:1
 returns-2 : tie.Need-returns-2
 unfolding withBit
 returns-2 c = simp (c .if1 .left)

@@ -14,35 +14,28 @@ Inv-loop table n counts₀ i₀ counts i = (i ≤ n) × (counts ≡ countsBelow 
 abbrev μ-loop : tie.MeasureT-loop
 μ-loop table n counts₀ i₀ counts i = n - i
 
--- src/lib.rt:245:9
 row-count-requires : tie.Need-row-count-requires Inv-loop μ-loop
 row-count-requires c κs = search needs
 
--- src/lib.rt:248:5
 loop-holds : tie.Need-loop-holds Inv-loop μ-loop
 loop-holds c = (omega arith, counts-none _)
 
--- src/lib.rt:249:9
 count-row-requires : tie.Need-count-row-requires Inv-loop μ-loop
 count-row-requires c κs =
     record { rows = c .before .before .row-count .ensures; inside = c .loop-test .taken; counts = c .before .loop .inv .1 }
 
--- src/lib.rt:250:9
 add-i : tie.Need-add-i Inv-loop μ-loop
 add-i c =
     let few = rows-few _ _ (c .before .before .before .row-count .ensures) in
     let l = c .before .loop-test .taken in
     record { fits = omega arith }
 
--- src/lib.rt:248:5
 loop-less : tie.Need-loop-less Inv-loop μ-loop
 loop-less c = search needs
 
--- src/lib.rt:248:5
 loop-again : tie.Need-loop-again Inv-loop μ-loop
 loop-again c = (omega arith, counts-turn _ _ _ (c .count-row .ensures))
 
--- src/lib.rt:241:1
 returns : tie.Need-returns Inv-loop μ-loop
 returns c = counts-all _ _ _ _ (c .before .before .row-count .ensures) (c .before .loop .inv .0) (c .loop-test .left) (c .before .loop .inv .1)
 

@@ -20,35 +20,27 @@ Inv-loop table n i p edges₀ back₀ j₀ edges back j = (j ≤ n) × (edges �
 abbrev μ-loop : tie.MeasureT-loop
 μ-loop table n i p edges₀ back₀ j₀ edges back j = n - j
 
--- src/lib.rt:226:9
 row-at-requires : tie.Need-row-at-requires Inv-loop μ-loop
 row-at-requires c κs = search needs
 
--- src/lib.rt:230:5
 loop-holds : tie.Need-loop-holds Inv-loop μ-loop
 loop-holds c = (omega arith, edges-start _ _ _ (c .before .before .pre .counts), back-start _ _ _ (c .before .before .pre .counts))
 
--- src/lib.rt:231:13
 row-at-requires-2 : tie.Need-row-at-requires-2 Inv-loop μ-loop
 row-at-requires-2 c κs = search needs
 
--- src/lib.rt:232:26
 forward-stands-requires : tie.Need-forward-stands-requires Inv-loop μ-loop
 forward-stands-requires c κs = search needs
 
--- src/lib.rt:232:13
 one-edge-requires : tie.Need-one-edge-requires Inv-loop μ-loop
 one-edge-requires c κs = search needs
 
--- src/lib.rt:233:26
 back-stands-requires : tie.Need-back-stands-requires Inv-loop μ-loop
 back-stands-requires c κs = search needs
 
--- src/lib.rt:233:13
 one-edge-requires-2 : tie.Need-one-edge-requires-2 Inv-loop μ-loop
 one-edge-requires-2 c κs = search needs
 
--- src/lib.rt:234:17
 add-edges : tie.Need-add-edges Inv-loop μ-loop
 add-edges c =
     let few = rows-few _ _ (c .before .before .before .before .before .before .before .before .before .pre .rows) in
@@ -62,7 +54,6 @@ add-edges c =
     let s = c .one-edge2 .ensures in
     record { fits = omega arith }
 
--- src/lib.rt:234:17
 add-edges-2 : tie.Need-add-edges-2 Inv-loop μ-loop
 add-edges-2 c =
     let few = rows-few _ _ (c .before .before .before .before .before .before .before .before .before .pre .rows) in
@@ -76,7 +67,6 @@ add-edges-2 c =
     let s = c .one-edge2 .ensures in
     record { fits = omega arith }
 
--- src/lib.rt:235:9
 add-back : tie.Need-add-back Inv-loop μ-loop
 add-back c =
     let few = rows-few _ _ (c .before .before .before .before .before .before .before .before .before .pre .rows) in
@@ -90,7 +80,6 @@ add-back c =
     let s = c .one-edge2 .ensures in
     record { fits = omega arith }
 
--- src/lib.rt:236:9
 add-j : tie.Need-add-j Inv-loop μ-loop
 add-j c =
     let few = rows-few _ _ (c .before .before .before .before .before .before .before .before .before .pre .rows) in
@@ -104,11 +93,9 @@ add-j c =
     let s = c .one-edge2 .ensures in
     record { fits = omega arith }
 
--- src/lib.rt:230:5
 loop-less : tie.Need-loop-less Inv-loop μ-loop
 loop-less c = search needs
 
--- src/lib.rt:230:5
 loop-again : tie.Need-loop-again Inv-loop μ-loop
 loop-again c = (
   omega arith,
@@ -127,7 +114,6 @@ loop-again c = (
       (c .before .before .before .before .row-at2 .ensures))),
 )
 
--- src/lib.rt:222:1
 returns : tie.Need-returns Inv-loop μ-loop
 returns c =
     row-counted _ _ _ _ _ (le-antisymm (c .before .loop .inv .0) (c .loop-test .left) ∙ c .before .before .before .before .pre .rows)

@@ -4,25 +4,20 @@ use borrow.Author.Needs.{needs}
 use Rattle.finding.proofs.back_letter.Statement.{statement}
 use Rattle.finding.proofs.back_letter.Tie as tie
 
--- src/lib.rt:92:8
 back-stands-requires : tie.Need-back-stands-requires
 back-stands-requires c κs = search needs
 
--- src/lib.rt:93:12
 holds-e-requires : tie.Need-holds-e-requires
 holds-e-requires c κs = search needs
 
--- src/lib.rt:94:13
 returns : tie.Need-returns
 unfolding letterIn rowLetter
 returns c = simp (← c .before .before .before .back-stands .ensures, c .before .before .if1 .taken, ← c .before .holds-e .ensures, c .if2 .taken)
 
--- src/lib.rt:96:9
 returns-2 : tie.Need-returns-2
 unfolding letterIn rowLetter
 returns-2 c = simp (← c .before .before .before .back-stands .ensures, c .before .before .if1 .taken, ← c .before .holds-e .ensures, c .if2 .left)
 
--- src/lib.rt:89:1
 returns-3 : tie.Need-returns-3
 unfolding letterIn
 returns-3 c = simp (← c .before .back-stands .ensures, c .if1 .left)

@@ -14,39 +14,30 @@ Inv-loop table from x₀ x = edgeFrom table x ≡ edgeFrom table from
 abbrev μ-loop : tie.MeasureT-loop
 μ-loop table from x₀ x = 524288 - x
 
--- src/lib.rt:239:5
 loop-holds : tie.Need-loop-holds Inv-loop μ-loop
 loop-holds c = refl
 
--- src/lib.rt:240:13
 look-at-requires : tie.Need-look-at-requires Inv-loop μ-loop
 look-at-requires c κs = search needs
 
--- src/lib.rt:242:13
 returns : tie.Need-returns Inv-loop μ-loop
 returns c = c .before .look-at .ensures .here (c .if1 .taken) ∙ c .before .before .before .loop .inv
 
--- src/lib.rt:239:5
 loop-less : tie.Need-loop-less Inv-loop μ-loop
 loop-less c = let h = c .before .look-at .ensures .later (c .if1 .left) .0 in let l = c .before .before .loop-test .taken in omega arith
 
--- src/lib.rt:239:5
 loop-again : tie.Need-loop-again Inv-loop μ-loop
 loop-again c = c .before .look-at .ensures .later (c .if1 .left) .1 ∙ c .before .before .before .loop .inv
 
--- src/lib.rt:246:9
 row-count-requires : tie.Need-row-count-requires Inv-loop μ-loop
 row-count-requires c κs = search needs
 
--- src/lib.rt:247:16
 mul-nothing-to : tie.Need-mul-nothing-to Inv-loop μ-loop
 mul-nothing-to c = let h = rows-few _ _ (c .row-count .ensures) in record { fits = omega arith }
 
--- src/lib.rt:247:5
 nothing-to-requires : tie.Need-nothing-to-requires Inv-loop μ-loop
 nothing-to-requires c κs = search needs
 
--- src/lib.rt:235:1
 returns-2 : tie.Need-returns-2 Inv-loop μ-loop
 returns-2 c =
     edge-none _ _ _ _ (c .before .row-count .ensures) (c .before .before .loop-test .left) (c .nothing-to .ensures) ∙ c .before .before

@@ -5,20 +5,16 @@ use borrow.Author.Needs.{needs}
 use Rattle.finding.proofs.forward_letter.Statement.{statement}
 use Rattle.finding.proofs.forward_letter.Tie as tie
 
--- src/lib.rt:50:8
 apart-requires : tie.Need-apart-requires
 apart-requires c κs = search needs
 
--- src/lib.rt:51:9
 returns : tie.Need-returns
 unfolding letterIn rowForward
 returns c = simp (relations-two (c .before .before .args .p) (c .before .before .args .q) _ (c .before .apart .ensures) (c .if1 .taken))
 
--- src/lib.rt:53:8
 holds-a-requires : tie.Need-holds-a-requires
 holds-a-requires c κs = search needs
 
--- src/lib.rt:54:9
 returns-2 : tie.Need-returns-2
 unfolding letterIn rowForward rowLetter
 returns-2 c =
@@ -32,11 +28,9 @@ returns-2 c =
           (c .before .before .if1 .left),
     )
 
--- src/lib.rt:56:8
 holds-b-requires : tie.Need-holds-b-requires
 holds-b-requires c κs = search needs
 
--- src/lib.rt:57:9
 returns-3 : tie.Need-returns-3
 unfolding letterIn rowForward rowLetter
 returns-3 c =
@@ -52,11 +46,9 @@ returns-3 c =
           (c .before .before .before .before .if1 .left),
     )
 
--- src/lib.rt:59:8
 holds-c-requires : tie.Need-holds-c-requires
 holds-c-requires c κs = search needs
 
--- src/lib.rt:60:9
 returns-4 : tie.Need-returns-4
 unfolding letterIn rowForward rowLetter
 returns-4 c =
@@ -74,11 +66,9 @@ returns-4 c =
           (c .before .before .before .before .before .before .if1 .left),
     )
 
--- src/lib.rt:62:8
 holds-d-requires : tie.Need-holds-d-requires
 holds-d-requires c κs = search needs
 
--- src/lib.rt:63:9
 returns-5 : tie.Need-returns-5
 unfolding letterIn rowForward rowLetter
 returns-5 c =
@@ -98,11 +88,9 @@ returns-5 c =
           (c .before .before .before .before .before .before .before .before .if1 .left),
     )
 
--- src/lib.rt:65:8
 holds-e-requires : tie.Need-holds-e-requires
 holds-e-requires c κs = search needs
 
--- src/lib.rt:66:9
 returns-6 : tie.Need-returns-6
 unfolding letterIn rowForward rowLetter
 returns-6 c =
@@ -124,7 +112,6 @@ returns-6 c =
           (c .before .before .before .before .before .before .before .before .before .before .if1 .left),
     )
 
--- src/lib.rt:47:1
 returns-7 : tie.Need-returns-7
 unfolding letterIn rowForward rowLetter
 returns-7 c =

@@ -5,11 +5,9 @@ use borrow.Author.Needs.{needs}
 use Rattle.finding.proofs.nothing_to.Statement.{statement}
 use Rattle.finding.proofs.nothing_to.Tie as tie
 
--- src/lib.rt:163:9
 no-edge-requires : tie.Need-no-edge-requires
 no-edge-requires c κs = search needs
 
--- src/lib.rt:160:1
 returns : tie.Need-returns
 returns c = ap (λ (e : Edge). record { found = false; slot = c .before .args .slot; edge = e }) (c .no-edge .ensures)
 

@@ -4,56 +4,44 @@ use borrow.Author.Needs.{needs}
 use Rattle.finding.proofs.shared_by.Statement.{statement}
 use Rattle.finding.proofs.shared_by.Tie as tie
 
--- src/lib.rt:120:22
 enum-told : tie.Need-enum-told
 enum-told c = search needs
 
--- src/lib.rt:121:22
 enum-told-2 : tie.Need-enum-told-2
 enum-told-2 c = search needs
 
--- src/lib.rt:122:22
 enum-told-3 : tie.Need-enum-told-3
 enum-told-3 c = search needs
 
--- src/lib.rt:123:22
 enum-told-4 : tie.Need-enum-told-4
 enum-told-4 c = search needs
 
--- src/lib.rt:124:22
 enum-told-5 : tie.Need-enum-told-5
 enum-told-5 c = search needs
 
--- src/lib.rt:125:27
 enum-told-6 : tie.Need-enum-told-6
 enum-told-6 c = search needs
 
--- src/lib.rt:116:1
 returns : tie.Need-returns
 unfolding sharedIn rowShared
 returns c = simp (c .before .before .enum-told .given .1)
 
--- src/lib.rt:116:1
 returns-2 : tie.Need-returns-2
 unfolding sharedIn rowShared
 returns-2 c = simp (c .before .before .enum-told2 .given .1)
 
--- src/lib.rt:116:1
 returns-3 : tie.Need-returns-3
 unfolding sharedIn rowShared
 returns-3 c = simp (c .before .before .enum-told3 .given .1)
 
--- src/lib.rt:116:1
 returns-4 : tie.Need-returns-4
 unfolding sharedIn rowShared
 returns-4 c = simp (c .before .before .enum-told4 .given .1)
 
--- src/lib.rt:116:1
 returns-5 : tie.Need-returns-5
 unfolding sharedIn rowShared
 returns-5 c = simp (c .before .before .enum-told5 .given .1)
 
--- src/lib.rt:116:1
 returns-6 : tie.Need-returns-6
 unfolding sharedIn rowShared
 returns-6 c = simp (c .enum-told6 .given .1)

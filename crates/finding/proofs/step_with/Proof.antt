@@ -4,33 +4,26 @@ use borrow.Author.Needs.{needs}
 use Rattle.finding.proofs.step_with.Statement.{statement}
 use Rattle.finding.proofs.step_with.Tie as tie
 
--- src/lib.rt:176:8
 is-letter-requires : tie.Need-is-letter-requires
 is-letter-requires c κs = search needs
 
--- src/lib.rt:177:13
 shared-by-requires : tie.Need-shared-by-requires
 shared-by-requires c κs = search needs
 
--- src/lib.rt:178:13
 letter-byte-requires : tie.Need-letter-byte-requires
 letter-byte-requires c κs = search needs
 
--- src/lib.rt:189:9
 returns : tie.Need-returns
 returns c =
     step-made _ _ _ _ _ _ _ (sym (c .before .before .before .is-letter .ensures) ∙ c .before .before .if1 .taken)
     (c .before .shared-by .ensures) (c .letter-byte .ensures) (c .before .shared-by .ok)
 
--- src/lib.rt:195:16
 add-nothing-to : tie.Need-add-nothing-to
 add-nothing-to c = search needs
 
--- src/lib.rt:195:5
 nothing-to-requires : tie.Need-nothing-to-requires
 nothing-to-requires c κs = search needs
 
--- src/lib.rt:172:1
 returns-2 : tie.Need-returns-2
 returns-2 c = c .nothing-to .ensures ∙ step-none _ _ _ _ _ (sym (c .before .before .is-letter .ensures) ∙ c .before .if1 .left)
 

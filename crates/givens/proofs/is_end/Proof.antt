@@ -3,83 +3,65 @@ use borrow.Author.Needs.{needs}
 use Rattle.givens.proofs.is_end.Statement.{statement}
 use Rattle.givens.proofs.is_end.Tie as tie
 
--- src/lib.rt:61:25
 enum-told : tie.Need-enum-told
 enum-told c = search needs
 
--- src/lib.rt:62:25
 enum-told-2 : tie.Need-enum-told-2
 enum-told-2 c = search needs
 
--- src/lib.rt:63:25
 enum-told-3 : tie.Need-enum-told-3
 enum-told-3 c = search needs
 
--- src/lib.rt:64:28
 enum-told-4 : tie.Need-enum-told-4
 enum-told-4 c = search needs
 
--- src/lib.rt:65:25
 enum-told-5 : tie.Need-enum-told-5
 enum-told-5 c = search needs
 
--- src/lib.rt:66:25
 enum-told-6 : tie.Need-enum-told-6
 enum-told-6 c = search needs
 
--- src/lib.rt:67:25
 enum-told-7 : tie.Need-enum-told-7
 enum-told-7 c = search needs
 
--- src/lib.rt:68:25
 enum-told-8 : tie.Need-enum-told-8
 enum-told-8 c = search needs
 
--- src/lib.rt:69:25
 enum-told-9 : tie.Need-enum-told-9
 enum-told-9 c = search needs
 
--- src/lib.rt:57:1
 returns : tie.Need-returns
 unfolding isEnd
 returns c = rw (c .enum-told .given .1)
 
--- src/lib.rt:57:1
 returns-2 : tie.Need-returns-2
 unfolding isEnd
 returns-2 c = rw (c .enum-told2 .given .1)
 
--- src/lib.rt:57:1
 returns-3 : tie.Need-returns-3
 unfolding isEnd
 returns-3 c = rw (c .enum-told3 .given .1)
 
--- src/lib.rt:57:1
 returns-4 : tie.Need-returns-4
 unfolding isEnd
 returns-4 c = rw (c .enum-told4 .given .1)
 
--- src/lib.rt:57:1
 returns-5 : tie.Need-returns-5
 unfolding isEnd
 returns-5 c = rw (c .enum-told5 .given .1)
 
--- src/lib.rt:57:1
 returns-6 : tie.Need-returns-6
 unfolding isEnd
 returns-6 c = rw (c .enum-told6 .given .1)
 
--- src/lib.rt:57:1
 returns-7 : tie.Need-returns-7
 unfolding isEnd
 returns-7 c = rw (c .enum-told7 .given .1)
 
--- src/lib.rt:57:1
 returns-8 : tie.Need-returns-8
 unfolding isEnd
 returns-8 c = rw (c .enum-told8 .given .1)
 
--- src/lib.rt:57:1
 returns-9 : tie.Need-returns-9
 unfolding isEnd
 returns-9 c = rw (c .enum-told9 .given .1)

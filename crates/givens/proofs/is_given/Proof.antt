@@ -16,29 +16,23 @@ use Rattle.givens.proofs.is_given.Tie as tie
 cells-told : (w : Workload) → length (map (the-field .into) (w .lines)) ≡ 1616 → length (w .lines) ≡ 1616
 cells-told w told = sym (length-map (w .lines) (the-field .into)) ∙ told
 
--- src/lib.rt:146:9
 returns : tie.Need-returns
 returns c = refused (c .before .args .w) (λ s. let few = s .fits in omega arith)
 
--- src/lib.rt:148:9
 rest-empty-requires : tie.Need-rest-empty-requires
 rest-empty-requires c κs = cells-told (c .before .args .w) (c .before .good .0 .1 .1 .1 .0 .1 .0 .1)
 
--- src/lib.rt:149:9
 returns-2 : tie.Need-returns-2
 returns-2 c = rest-refused (c .before .before .before .args .w) (sym (c .before .rest-empty .ensures) ∙ not-true _ (c .if2 .taken))
 
--- src/lib.rt:151:9
 text-size-requires : tie.Need-text-size-requires
 text-size-requires c κs =
     let start = c .before .before .before in
     (cells-told (start .args .w) (start .good .0 .1 .1 .1 .0 .1 .0 .1), c .before .before .if1 .left)
 
--- src/lib.rt:153:9
 returns-3 : tie.Need-returns-3
 returns-3 c = lines-refused (c .before .before .before .before .before .args .w) (subst (Measured _) (c .if3 .taken) (c .before .text-size .ensures))
 
--- src/lib.rt:141:1
 returns-4 : tie.Need-returns-4
 returns-4 c =
     let start = c .before .before .before .before .before in

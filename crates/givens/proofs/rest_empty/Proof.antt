@@ -16,23 +16,18 @@ Inv-loop w i₀ i = (w .count ≤ i) × (all isEmpty (drop i (w .lines)) ≡ all
 abbrev μ-loop : tie.MeasureT-loop
 μ-loop w i₀ i = 1616 - i
 
--- src/lib.rt:89:5
 loop-holds : tie.Need-loop-holds Inv-loop μ-loop
 loop-holds c = (omega arith, refl)
 
--- src/lib.rt:90:17
 mul-l : tie.Need-mul-l Inv-loop μ-loop
 mul-l c = search needs
 
--- src/lib.rt:90:17
 element-copy-out-l : tie.Need-element-copy-out-l Inv-loop μ-loop
 element-copy-out-l c = search needs
 
--- src/lib.rt:91:13
 is-empty-requires : tie.Need-is-empty-requires Inv-loop μ-loop
 is-empty-requires c κs = search needs
 
--- src/lib.rt:92:13
 returns : tie.Need-returns Inv-loop μ-loop
 returns c =
     let start = c .before .before .before .before .before in
@@ -40,15 +35,12 @@ returns c =
     let other = sym (c .before .is-empty .ensures) ∙ not-true _ (c .if1 .taken) in
     sym (cells-other (start .args .t1 .lines) (turn .loop .i) _ (omega arith) other) ∙ turn .loop .inv .1
 
--- src/lib.rt:94:9
 add-i : tie.Need-add-i Inv-loop μ-loop
 add-i c = search needs
 
--- src/lib.rt:89:5
 loop-less : tie.Need-loop-less Inv-loop μ-loop
 loop-less c = search needs
 
--- src/lib.rt:89:5
 loop-again : tie.Need-loop-again Inv-loop μ-loop
 loop-again c =
     let start = c .before .before .before .before .before in
@@ -56,7 +48,6 @@ loop-again c =
     let empty = sym (c .before .is-empty .ensures) ∙ not-false _ (c .if1 .left) in
     (omega arith, sym (cells-next (start .args .t1 .lines) (turn .loop .i) _ (omega arith) empty) ∙ turn .loop .inv .1)
 
--- src/lib.rt:85:1
 returns-2 : tie.Need-returns-2 Inv-loop μ-loop
 returns-2 c =
     sym (cells-past (c .before .before .args .t1 .lines) (c .before .loop .i) (omega arith)) ∙ c .before .loop .inv .1

@@ -5,35 +5,27 @@ use borrow.Author.Needs.{needs}
 use Rattle.givens.proofs.step.Statement.{statement}
 use Rattle.givens.proofs.step.Tie as tie
 
--- src/lib.rt:103:9
 line-size-requires : tie.Need-line-size-requires
 line-size-requires c κs = search needs
 
--- src/lib.rt:105:9
 returns : tie.Need-returns
 returns c = step-unfit _ _ (sym (c .before .line-size .ensures) ∙ c .if1 .taken)
 
--- src/lib.rt:107:9
 check-requires : tie.Need-check-requires
 check-requires c κs = search needs
 
--- src/lib.rt:109:9
 same-length : tie.Need-same-length
 same-length c = search needs
 
--- src/lib.rt:109:9
 returns-2 : tie.Need-returns-2
 returns-2 c = step-fault _ _ _ (c .if2 .taken) (c .before .check .ensures .1)
 
--- src/lib.rt:111:5
 take-requires : tie.Need-take-requires
 take-requires c κs = search needs
 
--- src/lib.rt:100:1
 same-length-2 : tie.Need-same-length-2
 same-length-2 c = search needs
 
--- src/lib.rt:100:1
 returns-3 : tie.Need-returns-3
 returns-3 c =
     let sized = c .before .before .before .before .before .before .before .before in

@@ -12,35 +12,27 @@ Inv-loop w count words₀ size₀ i₀ words size i = Going (w .lines) (w .count
 abbrev μ-loop : tie.MeasureT-loop
 μ-loop w count words₀ size₀ i₀ words size i = count - i
 
--- src/lib.rt:122:11
 slice-aggregate-start : tie.Need-slice-aggregate-start Inv-loop μ-loop
 slice-aggregate-start c = search needs
 
--- src/lib.rt:122:5
 start-requires : tie.Need-start-requires Inv-loop μ-loop
 start-requires c κs = search needs
 
--- src/lib.rt:125:5
 loop-holds : tie.Need-loop-holds Inv-loop μ-loop
 loop-holds c = going-start _ _ _ (c .before .start .kept .0) (c .before .start .ensures .1 (omega arith))
 
--- src/lib.rt:126:17
 mul-l : tie.Need-mul-l Inv-loop μ-loop
 mul-l c = search needs
 
--- src/lib.rt:126:17
 element-copy-out-l : tie.Need-element-copy-out-l Inv-loop μ-loop
 element-copy-out-l c = search needs
 
--- src/lib.rt:127:25
 slice-aggregate-step : tie.Need-slice-aggregate-step Inv-loop μ-loop
 slice-aggregate-step c = search needs
 
--- src/lib.rt:127:13
 step-requires : tie.Need-step-requires Inv-loop μ-loop
 step-requires c κs = search needs
 
--- src/lib.rt:129:13
 returns : tie.Need-returns Inv-loop μ-loop
 unfolding linesOf
 returns c =
@@ -49,19 +41,15 @@ returns c =
     going-wrong (w .lines) (w .count) _ _ (turn .loop .i) _ _ _ (turn .loop .inv)
     (c .before .before .before .before .before .loop-test .taken) (omega arith) (c .before .before .step .ensures) (c .if1 .taken)
 
--- src/lib.rt:131:9
 add-size : tie.Need-add-size Inv-loop μ-loop
 add-size c = search needs
 
--- src/lib.rt:132:9
 add-i : tie.Need-add-i Inv-loop μ-loop
 add-i c = search needs
 
--- src/lib.rt:125:5
 loop-less : tie.Need-loop-less Inv-loop μ-loop
 loop-less c = search needs
 
--- src/lib.rt:125:5
 loop-again : tie.Need-loop-again Inv-loop μ-loop
 loop-again c =
     let w = c .before .before .before .before .before .before .before .before .before .before .args .t1 in
@@ -69,15 +57,12 @@ loop-again c =
     going-next (w .lines) (w .count) _ _ (turn .loop .i) _ _ _ (turn .loop .inv)
     (c .before .before .before .before .before .loop-test .taken) (omega arith) (c .before .before .step .ensures) (c .if1 .left)
 
--- src/lib.rt:134:14
 slice-aggregate-depth : tie.Need-slice-aggregate-depth Inv-loop μ-loop
 slice-aggregate-depth c = search needs
 
--- src/lib.rt:134:8
 depth-requires : tie.Need-depth-requires Inv-loop μ-loop
 depth-requires c κs = search needs
 
--- src/lib.rt:135:9
 returns-2 : tie.Need-returns-2 Inv-loop μ-loop
 unfolding linesOf
 returns-2 c =
@@ -86,7 +71,6 @@ returns-2 c =
     going-open (w .lines) (w .count) _ _ (turn .loop .i) _ (turn .loop .inv)
     (c .before .before .before .loop-test .left) (c .before .depth .ensures .1) (c .if2 .taken)
 
--- src/lib.rt:116:1
 returns-3 : tie.Need-returns-3 Inv-loop μ-loop
 unfolding linesOf
 returns-3 c =

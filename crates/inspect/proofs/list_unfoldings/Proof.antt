@@ -9,79 +9,60 @@ Inv-loop statements number programs starts lengths n i₀ i = i ≤ 64
 abbrev μ-loop : tie.MeasureT-loop
 μ-loop statements number programs starts lengths n i₀ i = 64 - i
 
--- src/main.rt:161:36
 slice-aggregate-unfold : tie.Need-slice-aggregate-unfold Inv-loop μ-loop
 slice-aggregate-unfold c = search needs
 
--- src/main.rt:161:9
 unfold-requires : tie.Need-unfold-requires Inv-loop μ-loop
 unfold-requires c κs = search needs
 
--- src/main.rt:164:9
 print-refused-requires : tie.Need-print-refused-requires Inv-loop μ-loop
 print-refused-requires c κs = search needs
 
--- src/main.rt:165:9
 returns : tie.Need-returns Inv-loop μ-loop
 returns c = search needs
 
--- src/main.rt:167:11
 slice-aggregate-print : tie.Need-slice-aggregate-print Inv-loop μ-loop
 slice-aggregate-print c = search needs
 
--- src/main.rt:167:5
 print-requires : tie.Need-print-requires Inv-loop μ-loop
 print-requires c κs = search needs
 
--- src/main.rt:173:5
 loop-holds : tie.Need-loop-holds Inv-loop μ-loop
 loop-holds c = search needs
 
--- src/main.rt:175:13
 returns-2 : tie.Need-returns-2 Inv-loop μ-loop
 returns-2 c = search needs
 
--- src/main.rt:177:35
 array-read-print-unfolding : tie.Need-array-read-print-unfolding Inv-loop μ-loop
 array-read-print-unfolding c = search needs
 
--- src/main.rt:177:48
 mul-print-unfolding : tie.Need-mul-print-unfolding Inv-loop μ-loop
 mul-print-unfolding c = search needs
 
--- src/main.rt:177:48
 array-read-print-unfolding-2 : tie.Need-array-read-print-unfolding-2 Inv-loop μ-loop
 array-read-print-unfolding-2 c = search needs
 
--- src/main.rt:177:59
 mul-print-unfolding-2 : tie.Need-mul-print-unfolding-2 Inv-loop μ-loop
 mul-print-unfolding-2 c = search needs
 
--- src/main.rt:177:59
 array-read-print-unfolding-3 : tie.Need-array-read-print-unfolding-3 Inv-loop μ-loop
 array-read-print-unfolding-3 c = search needs
 
--- src/main.rt:177:71
 slice-aggregate-print-unfolding : tie.Need-slice-aggregate-print-unfolding Inv-loop μ-loop
 slice-aggregate-print-unfolding c = search needs
 
--- src/main.rt:177:9
 print-unfolding-requires : tie.Need-print-unfolding-requires Inv-loop μ-loop
 print-unfolding-requires c κs = search needs
 
--- src/main.rt:178:9
 add-i : tie.Need-add-i Inv-loop μ-loop
 add-i c = search needs
 
--- src/main.rt:173:5
 loop-less : tie.Need-loop-less Inv-loop μ-loop
 loop-less c = search needs
 
--- src/main.rt:173:5
 loop-again : tie.Need-loop-again Inv-loop μ-loop
 loop-again c = search needs
 
--- src/main.rt:159:1
 returns-3 : tie.Need-returns-3 Inv-loop μ-loop
 returns-3 c = search needs
 

@@ -9,47 +9,36 @@ Inv-loop table n from₀ k₀ from k = k ≤ n
 abbrev μ-loop : tie.MeasureT-loop
 μ-loop table n from₀ k₀ from k = n - k
 
--- src/main.rt:203:11
 slice-aggregate-print : tie.Need-slice-aggregate-print Inv-loop μ-loop
 slice-aggregate-print c = search needs
 
--- src/main.rt:203:5
 print-requires : tie.Need-print-requires Inv-loop μ-loop
 print-requires c κs = search needs
 
--- src/main.rt:204:9
 count-edges-requires : tie.Need-count-edges-requires Inv-loop μ-loop
 count-edges-requires c κs = search needs
 
--- src/main.rt:208:5
 loop-holds : tie.Need-loop-holds Inv-loop μ-loop
 loop-holds c = search needs
 
--- src/main.rt:209:13
 edge-from-requires : tie.Need-edge-from-requires Inv-loop μ-loop
 edge-from-requires c κs = search needs
 
--- src/main.rt:211:9
 print-edge-requires : tie.Need-print-edge-requires Inv-loop μ-loop
 print-edge-requires c κs = search needs
 
--- src/main.rt:212:9
 behind-requires : tie.Need-behind-requires Inv-loop μ-loop
 behind-requires c κs = search needs
 
--- src/main.rt:213:9
 add-k : tie.Need-add-k Inv-loop μ-loop
 add-k c = search needs
 
--- src/main.rt:208:5
 loop-less : tie.Need-loop-less Inv-loop μ-loop
 loop-less c = search needs
 
--- src/main.rt:208:5
 loop-again : tie.Need-loop-again Inv-loop μ-loop
 loop-again c = search needs
 
--- src/main.rt:202:1
 returns : tie.Need-returns Inv-loop μ-loop
 returns c = search needs
 

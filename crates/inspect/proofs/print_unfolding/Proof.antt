@@ -10,59 +10,45 @@ Inv-loop node program start length statements at₀ left₀ t8 at left = left �
 abbrev μ-loop : tie.MeasureT-loop
 μ-loop node program start length statements at₀ left₀ t8 at left = left
 
--- src/main.rt:145:5
 print-number-requires : tie.Need-print-number-requires Inv-loop μ-loop
 print-number-requires c κs = search needs
 
--- src/main.rt:146:5
 print-next-requires : tie.Need-print-next-requires Inv-loop μ-loop
 print-next-requires c κs = search needs
 
--- src/main.rt:147:5
 print-next-requires-2 : tie.Need-print-next-requires-2 Inv-loop μ-loop
 print-next-requires-2 c κs = search needs
 
--- src/main.rt:148:5
 print-next-requires-3 : tie.Need-print-next-requires-3 Inv-loop μ-loop
 print-next-requires-3 c κs = search needs
 
--- src/main.rt:151:5
 loop-holds : tie.Need-loop-holds Inv-loop μ-loop
 loop-holds c = search needs
 
--- src/main.rt:152:20
 word-at-requires : tie.Need-word-at-requires Inv-loop μ-loop
 word-at-requires c κs = search needs
 
--- src/main.rt:152:9
 print-next-requires-4 : tie.Need-print-next-requires-4 Inv-loop μ-loop
 print-next-requires-4 c κs = search needs
 
--- src/main.rt:153:9
 more-requires : tie.Need-more-requires Inv-loop μ-loop
 more-requires c κs = search needs
 
--- src/main.rt:154:9
 sub-left : tie.Need-sub-left Inv-loop μ-loop
 sub-left c = search needs
 
--- src/main.rt:151:5
 loop-less : tie.Need-loop-less Inv-loop μ-loop
 loop-less c = search needs
 
--- src/main.rt:151:5
 loop-again : tie.Need-loop-again Inv-loop μ-loop
 loop-again c = search needs
 
--- src/main.rt:156:11
 slice-aggregate-print : tie.Need-slice-aggregate-print Inv-loop μ-loop
 slice-aggregate-print c = search needs
 
--- src/main.rt:156:5
 print-requires : tie.Need-print-requires Inv-loop μ-loop
 print-requires c κs = search needs
 
--- src/main.rt:144:1
 returns : tie.Need-returns Inv-loop μ-loop
 returns c = search needs
 

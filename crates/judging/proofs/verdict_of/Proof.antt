@@ -16,67 +16,51 @@ use Rattle.judging.proofs.refused.Reads as refused-reads
 use Rattle.picking.proofs.pick_edges.Reads as pick-edges-reads
 use Rattle.rows.proofs.fill_rows.Reads as fill-rows-reads
 
--- src/lib.rt:56:32
 slice-aggregate-fill-rows : tie.Need-slice-aggregate-fill-rows
 slice-aggregate-fill-rows c = search needs
 
--- src/lib.rt:56:9
 fill-rows-requires : tie.Need-fill-rows-requires
 fill-rows-requires c κs = search needs
 
--- src/lib.rt:59:9
 refused-requires : tie.Need-refused-requires
 refused-requires c κs = search needs
 
--- src/lib.rt:59:9
 returns : tie.Need-returns
 returns c = judged-rows _ _ _ _ _ _ (c .before .before .before .fill-rows .ensures) (length-replicate {A = ℕ} 4096 0) (c .before .if1 .taken) (c .refused .ensures)
 
--- src/lib.rt:62:9
 refused-requires-2 : tie.Need-refused-requires-2
 refused-requires-2 c κs = search needs
 
--- src/lib.rt:62:9
 returns-2 : tie.Need-returns-2
 returns-2 c = judged-short _ _ _ _ _ _ (c .before .before .before .before .fill-rows .ensures) (length-replicate {A = ℕ} 4096 0) (c .before .before .if1 .left) (c .before .if2 .taken) (c .refused2 .ensures)
 
--- src/lib.rt:64:14
 mul-n : tie.Need-mul-n
 mul-n c = let whole = whole-filled _ _ _ _ (c .before .before .before .before .fill-rows .ensures) (length-replicate {A = ℕ} 4096 0) (c .before .before .if1 .left) in let h = whole .short in record { fits = omega arith }
 
--- src/lib.rt:65:33
 array-share-prefix-table : tie.Need-array-share-prefix-table
 array-share-prefix-table c = let whole = whole-filled _ _ _ _ (c .before .before .before .before .fill-rows .ensures) (length-replicate {A = ℕ} 4096 0) (c .before .before .if1 .left) in let h = whole .short in omega arith
 
--- src/lib.rt:65:33
 slice-aggregate-pick-edges : tie.Need-slice-aggregate-pick-edges
 slice-aggregate-pick-edges c = let whole = whole-filled _ _ _ _ (c .before .before .before .before .before .fill-rows .ensures) (length-replicate {A = ℕ} 4096 0) (c .before .before .before .if1 .left) in let h = whole .short in let l = whole .long in sym (length-take-le _ _ (omega arith))
 
--- src/lib.rt:65:9
 pick-edges-requires : tie.Need-pick-edges-requires
 pick-edges-requires c κs = search needs
 
--- src/lib.rt:68:36
 slice-aggregate-find-walk : tie.Need-slice-aggregate-find-walk
 slice-aggregate-find-walk c = search needs
 
--- src/lib.rt:68:44
 slice-aggregate-find-walk-2 : tie.Need-slice-aggregate-find-walk-2
 slice-aggregate-find-walk-2 c = search needs
 
--- src/lib.rt:68:9
 find-walk-requires : tie.Need-find-walk-requires
 find-walk-requires c κs = search needs
 
--- src/lib.rt:69:5
 judged-requires : tie.Need-judged-requires
 judged-requires c κs = search needs
 
--- src/lib.rt:52:1
 same-length : tie.Need-same-length
 same-length c = search needs
 
--- src/lib.rt:52:1
 returns-3 : tie.Need-returns-3
 returns-3 c = judged-picked _ _ _ _ _ _ _ _ _ (c .before .before .before .before .before .before .before .before .before .before .before .before .before .before .before .fill-rows .ensures) (length-replicate {A = ℕ} 4096 0) (c .before .before .before .before .before .before .before .before .before .before .before .before .before .if1 .left) (c .before .before .before .before .before .before .before .before .before .before .before .before .if2 .left) (c .before .before .before .before .before .before .before .before .before .pick-edges .ensures) (c .before .before .before .find-walk .ensures) (c .judged .ensures)
 

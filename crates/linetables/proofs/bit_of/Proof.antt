@@ -12,26 +12,21 @@ use Rattle.linetables.proofs.bit_of.Reads as reads
 use Rattle.linetables.proofs.bit_of.Lts as lts
 use Rattle.linetables.proofs.shielding.Reads as shielding-reads
 
--- src/lib.rt:125:9
 shielding-requires : tie.Need-shielding-requires
 shielding-requires c κs = search needs
 
--- src/lib.rt:126:9
 returns : tie.Need-returns
 returns c = bit-unshielding _ _ (sym (c .before .shielding .ensures) ∙ not-true _ (c .if1 .taken))
 
--- src/lib.rt:129:16
 shl-result : tie.Need-shl-result
 shl-result c = search needs
 
--- src/lib.rt:129:9
 returns-2 : tie.Need-returns-2
 returns-2 c =
-    bit-small _ _ _ (sym (c .before .before .shielding .ensures) ∙ not-false _ (c .before .if1 .left)) (c .if2 .taken) (bit-shifted _ (c .if2 .taken))
+    bit-small _ _ _ (sym (c .before .before .shielding .ensures) ∙ not-false _ (c .before .if1 .left)) (omega (arith, c .if2 .taken)) (bit-shifted _ (omega (arith, c .if2 .taken)))
 
--- src/lib.rt:122:1
 returns-3 : tie.Need-returns-3
-returns-3 c = bit-large _ _ (c .if2 .left)
+returns-3 c = bit-large _ _ (omega (arith, c .if2 .left))
 
 pub bit-of-spec : {M : Type 1} → statement M
 bit-of-spec = tie.close (tie.spec shielding-requires returns shl-result returns-2 returns-3)

@@ -9,83 +9,65 @@ use Rattle.linetables.proofs.code_of.Tie as tie
 use Rattle.linetables.proofs.code_of.Reads as reads
 use Rattle.linetables.proofs.code_of.Lts as lts
 
--- src/lib.rt:222:27
 enum-told : tie.Need-enum-told
 enum-told c = search needs
 
--- src/lib.rt:222:27
 returns : tie.Need-returns
 unfolding codeOf
 returns c = cc
 
--- src/lib.rt:223:27
 enum-told-2 : tie.Need-enum-told-2
 enum-told-2 c = search needs
 
--- src/lib.rt:223:27
 returns-2 : tie.Need-returns-2
 unfolding codeOf
 returns-2 c = cc
 
--- src/lib.rt:224:27
 enum-told-3 : tie.Need-enum-told-3
 enum-told-3 c = search needs
 
--- src/lib.rt:224:27
 returns-3 : tie.Need-returns-3
 unfolding codeOf
 returns-3 c = cc
 
--- src/lib.rt:225:22
 enum-known-k : tie.Need-enum-known-k
 enum-known-k c = search needs
 
--- src/lib.rt:225:30
 returns-4 : tie.Need-returns-4
 unfolding codeOf
 returns-4 c = cc
 
--- src/lib.rt:226:27
 enum-told-4 : tie.Need-enum-told-4
 enum-told-4 c = search needs
 
--- src/lib.rt:226:27
 returns-5 : tie.Need-returns-5
 unfolding codeOf
 returns-5 c = cc
 
--- src/lib.rt:227:27
 enum-told-5 : tie.Need-enum-told-5
 enum-told-5 c = search needs
 
--- src/lib.rt:227:27
 returns-6 : tie.Need-returns-6
 unfolding codeOf
 returns-6 c = cc
 
--- src/lib.rt:228:27
 enum-told-6 : tie.Need-enum-told-6
 enum-told-6 c = search needs
 
--- src/lib.rt:228:27
 returns-7 : tie.Need-returns-7
 unfolding codeOf
 returns-7 c = cc
 
--- src/lib.rt:229:27
 enum-told-7 : tie.Need-enum-told-7
 enum-told-7 c = search needs
 
--- src/lib.rt:229:27
 returns-8 : tie.Need-returns-8
 unfolding codeOf
 returns-8 c = cc
 
--- src/lib.rt:230:27
 enum-told-8 : tie.Need-enum-told-8
 enum-told-8 c = search needs
 
--- src/lib.rt:230:27
 returns-9 : tie.Need-returns-9
 unfolding codeOf
 returns-9 c = cc

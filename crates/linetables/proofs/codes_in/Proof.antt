@@ -17,40 +17,31 @@ Inv-loop w codes₀ i₀ codes i = (i ≤ 1616) × (length codes ≡ 1616) × (t
 abbrev μ-loop : tie.MeasureT-loop
 μ-loop w codes₀ i₀ codes i = 1616 - i
 
--- src/lib.rt:240:5
 loop-holds : tie.Need-loop-holds Inv-loop μ-loop
 loop-holds c = search needs
 
--- src/lib.rt:241:17
 mul-l : tie.Need-mul-l Inv-loop μ-loop
 mul-l c = search needs
 
--- src/lib.rt:241:17
 element-copy-out-l : tie.Need-element-copy-out-l Inv-loop μ-loop
 element-copy-out-l c = search needs
 
--- src/lib.rt:243:20
 code-of-requires : tie.Need-code-of-requires Inv-loop μ-loop
 code-of-requires c κs = search needs
 
--- src/lib.rt:243:9
 array-write-codes : tie.Need-array-write-codes Inv-loop μ-loop
 array-write-codes c = search needs
 
--- src/lib.rt:244:9
 add-i : tie.Need-add-i Inv-loop μ-loop
 add-i c = search needs
 
--- src/lib.rt:240:5
 loop-less : tie.Need-loop-less Inv-loop μ-loop
 loop-less c = search needs
 
--- src/lib.rt:240:5
 loop-again : tie.Need-loop-again Inv-loop μ-loop
 loop-again c =
     (search needs, search needs, cell-next (c .before .before .before .loop .codes) (codesOf (c .before .before .before .before .args .t1 .lines)) (c .before .before .before .loop .i) _ (c .before .before .before .loop .inv .1) (many-codes (c .before .before .before .before .args .t1 .lines) (cells-known (c .before .before .before .before .args .t1) (c .before .before .before .before .good .0 .1 .1 .1 .0 .1 .0 .1))) (search needs) (c .before .before .before .loop .inv .2) (c .code-of .ensures ∙ code-at (c .before .before .before .before .args .t1 .lines) (c .before .before .before .loop .i) _ (omega (arith, cells-known (c .before .before .before .before .args .t1) (c .before .before .before .before .good .0 .1 .1 .1 .0 .1 .0 .1)))))
 
--- src/lib.rt:235:1
 returns : tie.Need-returns Inv-loop μ-loop
 returns c =
     cells-all (c .before .loop .codes) (codesOf (c .before .before .args .t1 .lines)) (c .before .loop .i) (c .before .loop .inv .1) (many-codes (c .before .before .args .t1 .lines) (cells-known (c .before .before .args .t1) (c .before .before .good .0 .1 .1 .1 .0 .1 .0 .1))) (search needs) (c .before .loop .inv .2)

@@ -11,15 +11,12 @@ use Rattle.linetables.proofs.id_tables.Lts as lts
 use Rattle.linetables.proofs.codes_in.Reads as codes-in-reads
 use Rattle.linetables.proofs.ids_in.Reads as ids-in-reads
 
--- src/lib.rt:200:9
 codes-in-requires : tie.Need-codes-in-requires
 codes-in-requires c κs = search needs
 
--- src/lib.rt:201:9
 ids-in-requires : tie.Need-ids-in-requires
 ids-in-requires c κs = search needs
 
--- src/lib.rt:197:1
 returns : tie.Need-returns
 returns c = ids-made _ _ _ (c .before .codes-in .ensures) (c .ids-in .ensures)
 

@@ -17,44 +17,34 @@ Inv-loop w ids₀ i₀ ids i = (i ≤ 1616) × (length ids ≡ 1616) × (take i 
 abbrev μ-loop : tie.MeasureT-loop
 μ-loop w ids₀ i₀ ids i = 1616 - i
 
--- src/lib.rt:240:5
 loop-holds : tie.Need-loop-holds Inv-loop μ-loop
 loop-holds c = search needs
 
--- src/lib.rt:241:17
 mul-l : tie.Need-mul-l Inv-loop μ-loop
 mul-l c = search needs
 
--- src/lib.rt:241:17
 element-copy-out-l : tie.Need-element-copy-out-l Inv-loop μ-loop
 element-copy-out-l c = search needs
 
--- src/lib.rt:243:20
 wide-requires : tie.Need-wide-requires Inv-loop μ-loop
 wide-requires c κs = search needs
 
--- src/lib.rt:243:9
 mul-ids : tie.Need-mul-ids Inv-loop μ-loop
 mul-ids c = search needs
 
--- src/lib.rt:243:9
 array-write-ids : tie.Need-array-write-ids Inv-loop μ-loop
 array-write-ids c = search needs
 
--- src/lib.rt:244:9
 add-i : tie.Need-add-i Inv-loop μ-loop
 add-i c = search needs
 
--- src/lib.rt:240:5
 loop-less : tie.Need-loop-less Inv-loop μ-loop
 loop-less c = search needs
 
--- src/lib.rt:240:5
 loop-again : tie.Need-loop-again Inv-loop μ-loop
 loop-again c =
     (search needs, search needs, cell-next (c .before .before .before .loop .ids) (idsOf (c .before .before .before .before .args .t1 .lines)) (c .before .before .before .loop .i) _ (c .before .before .before .loop .inv .1) (many-ids (c .before .before .before .before .args .t1 .lines) (cells-known (c .before .before .before .before .args .t1) (c .before .before .before .before .good .0 .1 .1 .1 .0 .1 .0 .1))) (search needs) (c .before .before .before .loop .inv .2) (c .wide .ensures ∙ id-at (c .before .before .before .before .args .t1 .lines) (c .before .before .before .loop .i) _ (omega (arith, cells-known (c .before .before .before .before .args .t1) (c .before .before .before .before .good .0 .1 .1 .1 .0 .1 .0 .1)))))
 
--- src/lib.rt:235:1
 returns : tie.Need-returns Inv-loop μ-loop
 returns c =
     cells-all (c .before .loop .ids) (idsOf (c .before .before .args .t1 .lines)) (c .before .loop .i) (c .before .loop .inv .1) (many-ids (c .before .before .args .t1 .lines) (cells-known (c .before .before .args .t1) (c .before .before .good .0 .1 .1 .1 .0 .1 .0 .1))) (search needs) (c .before .loop .inv .2)

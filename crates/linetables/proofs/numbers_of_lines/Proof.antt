@@ -16,36 +16,28 @@ Inv-loop words₀ i₀ words i = (i ≤ 1616) × (length words ≡ 1616) × (tak
 abbrev μ-loop : tie.MeasureT-loop
 μ-loop words₀ i₀ words i = 1616 - i
 
--- src/lib.rt:86:5
 loop-holds : tie.Need-loop-holds Inv-loop μ-loop
 loop-holds c = search needs
 
--- src/lib.rt:87:20
 cast-words : tie.Need-cast-words Inv-loop μ-loop
 cast-words c = search needs
 
--- src/lib.rt:87:9
 mul-words : tie.Need-mul-words Inv-loop μ-loop
 mul-words c = search needs
 
--- src/lib.rt:87:9
 array-write-words : tie.Need-array-write-words Inv-loop μ-loop
 array-write-words c = search needs
 
--- src/lib.rt:88:9
 add-i : tie.Need-add-i Inv-loop μ-loop
 add-i c = search needs
 
--- src/lib.rt:86:5
 loop-less : tie.Need-loop-less Inv-loop μ-loop
 loop-less c = search needs
 
--- src/lib.rt:86:5
 loop-again : tie.Need-loop-again Inv-loop μ-loop
 loop-again c =
     (search needs, search needs, cell-next (c .before .loop .words) (numbers 1616) (c .before .loop .i) _ (c .before .loop .inv .1) many-numbers (search needs) (c .before .loop .inv .2) (number-at 1616 (c .before .loop .i) (search needs)))
 
--- src/lib.rt:81:1
 returns : tie.Need-returns Inv-loop μ-loop
 returns c =
     cells-all (c .before .loop .words) (numbers 1616) (c .before .loop .i) (c .before .loop .inv .1) many-numbers (search needs) (c .before .loop .inv .2)

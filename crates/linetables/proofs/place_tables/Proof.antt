@@ -12,19 +12,15 @@ use Rattle.linetables.proofs.codes_in.Reads as codes-in-reads
 use Rattle.linetables.proofs.marks_in.Reads as marks-in-reads
 use Rattle.linetables.proofs.numbers_of_lines.Reads as numbers-of-lines-reads
 
--- src/lib.rt:211:9
 codes-in-requires : tie.Need-codes-in-requires
 codes-in-requires c κs = search needs
 
--- src/lib.rt:212:9
 numbers-of-lines-requires : tie.Need-numbers-of-lines-requires
 numbers-of-lines-requires c κs = search needs
 
--- src/lib.rt:213:9
 marks-in-requires : tie.Need-marks-in-requires
 marks-in-requires c κs = search needs
 
--- src/lib.rt:208:1
 returns : tie.Need-returns
 returns c = places-made _ _ _ _ (c .before .before .codes-in .ensures) (c .before .numbers-of-lines .ensures) (c .marks-in .ensures)
 

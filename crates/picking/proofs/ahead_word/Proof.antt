@@ -3,41 +3,32 @@ use borrow.Author.Needs.{needs}
 use Rattle.picking.proofs.ahead_word.Statement.{statement}
 use Rattle.picking.proofs.ahead_word.Tie as tie
 
--- src/lib.rt:64:30
 mul-result : tie.Need-mul-result
 mul-result c = search needs
 
--- src/lib.rt:64:20
 add-result : tie.Need-add-result
 add-result c = search needs
 
--- src/lib.rt:64:20
 add-result-2 : tie.Need-add-result-2
 add-result-2 c = search needs
 
--- src/lib.rt:64:13
 returns : tie.Need-returns
 unfolding aheadWord
 returns c = simp (c .before .if1 .taken, c .if2 .taken)
 
--- src/lib.rt:66:26
 mul-result-2 : tie.Need-mul-result-2
 mul-result-2 c = search needs
 
--- src/lib.rt:66:16
 add-result-3 : tie.Need-add-result-3
 add-result-3 c = search needs
 
--- src/lib.rt:66:16
 add-result-4 : tie.Need-add-result-4
 add-result-4 c = search needs
 
--- src/lib.rt:66:9
 returns-2 : tie.Need-returns-2
 unfolding aheadWord
 returns-2 c = simp (c .before .if1 .taken, c .if2 .left)
 
--- src/lib.rt:58:1
 returns-3 : tie.Need-returns-3
 returns-3 c = search needs
 

@@ -3,28 +3,22 @@ use borrow.Author.Needs.{needs}
 use Rattle.picking.proofs.behind_word.Statement.{statement}
 use Rattle.picking.proofs.behind_word.Tie as tie
 
--- src/lib.rt:77:27
 sub-result : tie.Need-sub-result
 sub-result c = search needs
 
--- src/lib.rt:77:26
 mul-result : tie.Need-mul-result
 mul-result c = search needs
 
--- src/lib.rt:77:16
 add-result : tie.Need-add-result
 add-result c = search needs
 
--- src/lib.rt:77:16
 add-result-2 : tie.Need-add-result-2
 add-result-2 c = search needs
 
--- src/lib.rt:77:9
 returns : tie.Need-returns
 unfolding behindWord
 returns c = simp (c .if1 .taken)
 
--- src/lib.rt:72:1
 returns-2 : tie.Need-returns-2
 returns-2 c = search needs
 

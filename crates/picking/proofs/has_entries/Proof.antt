@@ -3,12 +3,10 @@ use Rattle.picking.specs.Kept.{hasEntries}
 use Rattle.picking.proofs.has_entries.Statement.{statement}
 use Rattle.picking.proofs.has_entries.Tie as tie
 
--- src/lib.rt:52:9
 returns : tie.Need-returns
 unfolding hasEntries
 returns c = simp (lt-ltb _ _ (c .before .if1 .taken))
 
--- src/lib.rt:48:1
 returns-2 : tie.Need-returns-2
 unfolding hasEntries
 returns-2 c = simp (le-ltb _ _ (c .if1 .left))

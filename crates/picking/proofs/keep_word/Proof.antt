@@ -4,28 +4,22 @@ use borrow.Author.Needs.{needs}
 use Rattle.picking.proofs.keep_word.Statement.{statement}
 use Rattle.picking.proofs.keep_word.Tie as tie
 
--- src/lib.rt:87:8
 mul-if1 : tie.Need-mul-if1
 mul-if1 c = search needs
 
--- src/lib.rt:87:8
 element-copy-out-if1 : tie.Need-element-copy-out-if1
 element-copy-out-if1 c = search needs
 
--- src/lib.rt:88:9
 mul-words : tie.Need-mul-words
 mul-words c = search needs
 
--- src/lib.rt:88:9
 element-write-words : tie.Need-element-write-words
 element-write-words c = search needs
 
--- src/lib.rt:83:1
 returns : tie.Need-returns
 unfolding keptAt
 returns c = simp (lt-ltb _ _ (c .if1 .taken))
 
--- src/lib.rt:83:1
 returns-2 : tie.Need-returns-2
 unfolding keptAt
 returns-2 c = simp (le-ltb _ _ (c .if1 .left))

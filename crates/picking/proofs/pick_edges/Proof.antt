@@ -1,5 +1,6 @@
+use Rattle.edges.specs.SlotLaws.{rows-few}
 use Rattle.picking.specs.Kept.{RowsKept}
-use Rattle.picking.specs.PairLaws.{rows-first, rows-turn, rows-most, row-most, few-rows}
+use Rattle.picking.specs.PairLaws.{rows-first, rows-turn, rows-most, row-most}
 use Rattle.picking.specs.KeptLaws.{all-picked}
 use borrow.Author.Needs.{needs}
 use native.Mathlib.Omega.{arith}
@@ -13,50 +14,41 @@ Inv-loop table n ahead₀ behind₀ edges₀ back₀ i₀ ahead behind edges bac
 abbrev μ-loop : tie.MeasureT-loop
 μ-loop table n ahead₀ behind₀ edges₀ back₀ i₀ ahead behind edges back i = n - i
 
--- src/lib.rt:153:9
 row-count-requires : tie.Need-row-count-requires Inv-loop μ-loop
 row-count-requires c κs = search needs
 
--- src/lib.rt:159:5
 loop-holds : tie.Need-loop-holds Inv-loop μ-loop
 loop-holds c = (omega arith, rows-first _ _)
 
--- src/lib.rt:160:13
 pick-row-requires : tie.Need-pick-row-requires Inv-loop μ-loop
-pick-row-requires c κs = few-rows _ (c .before .before .before .before .row-count .ensures)
+pick-row-requires c κs = rows-few _ _ (c .before .before .before .before .row-count .ensures)
 
--- src/lib.rt:161:9
 add-edges : tie.Need-add-edges Inv-loop μ-loop
 add-edges c =
-    let few = few-rows _ (c .before .before .before .before .before .before .row-count .ensures) in
+    let few = rows-few _ _ (c .before .before .before .before .before .before .row-count .ensures) in
     let h = rows-most few (c .before .before .before .before .before .loop .inv .1) in
     let l = c .before .before .before .before .loop-test .taken in
     let m = row-most (c .before .pick-row .ensures) in
     record { fits = omega (arith, h .0, m .0) }
 
--- src/lib.rt:162:9
 add-back : tie.Need-add-back Inv-loop μ-loop
 add-back c =
-    let few = few-rows _ (c .before .before .before .before .before .before .before .row-count .ensures) in
+    let few = rows-few _ _ (c .before .before .before .before .before .before .before .row-count .ensures) in
     let h = rows-most few (c .before .before .before .before .before .before .loop .inv .1) in
     let l = c .before .before .before .before .before .loop-test .taken in
     let m = row-most (c .before .before .pick-row .ensures) in
     record { fits = omega (arith, h .1, m .1) }
 
--- src/lib.rt:163:9
 add-i : tie.Need-add-i Inv-loop μ-loop
 add-i c = search needs
 
--- src/lib.rt:159:5
 loop-less : tie.Need-loop-less Inv-loop μ-loop
 loop-less c = search needs
 
--- src/lib.rt:159:5
 loop-again : tie.Need-loop-again Inv-loop μ-loop
 loop-again c =
     (omega arith, rows-turn _ _ _ (c .before .before .before .before .before .before .loop .inv .1) (c .before .before .pick-row .ensures))
 
--- src/lib.rt:150:1
 returns : tie.Need-returns Inv-loop μ-loop
 returns c =
     all-picked _ _ _ (c .before .before .row-count .ensures) (c .before .loop .inv .0) (c .loop-test .left) (c .before .loop .inv .1)

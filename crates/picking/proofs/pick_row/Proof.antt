@@ -12,23 +12,18 @@ Inv-loop table n i ahead₀ behind₀ p edges₀ back₀ j₀ ahead behind edges
 abbrev μ-loop : tie.MeasureT-loop
 μ-loop table n i ahead₀ behind₀ p edges₀ back₀ j₀ ahead behind edges back j = n - j
 
--- src/lib.rt:136:9
 row-at-requires : tie.Need-row-at-requires Inv-loop μ-loop
 row-at-requires c κs = search needs
 
--- src/lib.rt:140:5
 loop-holds : tie.Need-loop-holds Inv-loop μ-loop
 loop-holds c = (omega arith, row-first _ _)
 
--- src/lib.rt:141:13
 row-at-requires-2 : tie.Need-row-at-requires-2 Inv-loop μ-loop
 row-at-requires-2 c κs = search needs
 
--- src/lib.rt:142:13
 pick-pair-requires : tie.Need-pick-pair-requires Inv-loop μ-loop
 pick-pair-requires c κs = search needs
 
--- src/lib.rt:143:9
 add-edges : tie.Need-add-edges Inv-loop μ-loop
 add-edges c =
     let few = c .before .before .before .before .before .before .before .before .before .pre in
@@ -37,7 +32,6 @@ add-edges c =
     let m = pair-most (c .before .pick-pair .ensures) in
     record { fits = omega (arith, h .0, m .0) }
 
--- src/lib.rt:144:9
 add-back : tie.Need-add-back Inv-loop μ-loop
 add-back c =
     let few = c .before .before .before .before .before .before .before .before .before .before .pre in
@@ -46,15 +40,12 @@ add-back c =
     let m = pair-most (c .before .before .pick-pair .ensures) in
     record { fits = omega (arith, h .1, m .1) }
 
--- src/lib.rt:145:9
 add-j : tie.Need-add-j Inv-loop μ-loop
 add-j c = search needs
 
--- src/lib.rt:140:5
 loop-less : tie.Need-loop-less Inv-loop μ-loop
 loop-less c = search needs
 
--- src/lib.rt:140:5
 loop-again : tie.Need-loop-again Inv-loop μ-loop
 loop-again c = (
   omega arith,
@@ -62,7 +53,6 @@ loop-again c = (
       (c .before .before .before .before .before .before .before .loop .inv .1) (c .before .before .pick-pair .ensures),
 )
 
--- src/lib.rt:132:1
 returns : tie.Need-returns Inv-loop μ-loop
 returns c =
     row-read (c .before .before .row-at .ensures)

@@ -2,22 +2,18 @@ use Rattle.picking.specs.Kept.{tallyOf}
 use Rattle.picking.proofs.tally_of.Statement.{statement}
 use Rattle.picking.proofs.tally_of.Tie as tie
 
--- src/lib.rt:98:13
 returns : tie.Need-returns
 unfolding tallyOf
 returns c = simp (c .before .if1 .taken, c .if2 .taken)
 
--- src/lib.rt:100:9
 returns-2 : tie.Need-returns-2
 unfolding tallyOf
 returns-2 c = simp (c .before .if1 .taken, c .if2 .left)
 
--- src/lib.rt:103:9
 returns-3 : tie.Need-returns-3
 unfolding tallyOf
 returns-3 c = simp (c .before .if1 .left, c .if3 .taken)
 
--- src/lib.rt:93:1
 returns-4 : tie.Need-returns-4
 unfolding tallyOf
 returns-4 c = simp (c .before .if1 .left, c .if3 .left)

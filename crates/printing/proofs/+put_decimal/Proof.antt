@@ -25,7 +25,6 @@ abbrev put-decimal-below : ℕ → In 1 put-decimal-kinds.ps
 put-decimal-below t =
     and 1 put-decimal-kinds.ps (falls 1 put-decimal-kinds.ps _<_ μ-put-decimal t) put-decimal.Pre
 
--- src/lib.rt:53:34
 put-decimal-digit-byte-requires : (t : ℕ) → put-decimal-lts.Need-digit-byte-requires (
   digit-byte-reads.Asked,
   digit-byte-reads.Learnt,
@@ -36,7 +35,6 @@ put-decimal-digit-byte-requires : (t : ℕ) → put-decimal-lts.Need-digit-byte-
 ) (put-decimal-at t) put-decimal.Post
 put-decimal-digit-byte-requires t c κs = search needs
 
--- src/lib.rt:53:9
 put-decimal-put-byte-requires : (t : ℕ) → put-decimal-lts.Need-put-byte-requires (
   digit-byte-reads.Asked,
   digit-byte-reads.Learnt,
@@ -47,7 +45,6 @@ put-decimal-put-byte-requires : (t : ℕ) → put-decimal-lts.Need-put-byte-requ
 ) (put-decimal-at t) put-decimal.Post
 put-decimal-put-byte-requires t c κs = search needs
 
--- src/lib.rt:53:9
 put-decimal-returns : (t : ℕ) → put-decimal-lts.Need-returns (
   digit-byte-reads.Asked,
   digit-byte-reads.Learnt,
@@ -58,7 +55,6 @@ put-decimal-returns : (t : ℕ) → put-decimal-lts.Need-returns (
 ) (put-decimal-at t) put-decimal.Post
 put-decimal-returns t c = put-digit _ (c .before .before .before .if1 .taken) (c .before .digit-byte .ensures) (c .put-byte .ensures)
 
--- src/lib.rt:55:9
 put-decimal-put-decimal-requires : (t : ℕ) → put-decimal-lts.Need-put-decimal-requires (
   digit-byte-reads.Asked,
   digit-byte-reads.Learnt,
@@ -69,7 +65,6 @@ put-decimal-put-decimal-requires : (t : ℕ) → put-decimal-lts.Need-put-decima
 ) (put-decimal-at t) put-decimal.Post
 put-decimal-put-decimal-requires t c κs = (omega arith, search needs)
 
--- src/lib.rt:56:22
 put-decimal-digit-byte-requires-2 : (t : ℕ) → put-decimal-lts.Need-digit-byte-requires-2 (
   digit-byte-reads.Asked,
   digit-byte-reads.Learnt,
@@ -80,7 +75,6 @@ put-decimal-digit-byte-requires-2 : (t : ℕ) → put-decimal-lts.Need-digit-byt
 ) (put-decimal-at t) put-decimal.Post
 put-decimal-digit-byte-requires-2 t c κs = search needs
 
--- src/lib.rt:56:5
 put-decimal-put-byte-requires-2 : (t : ℕ) → put-decimal-lts.Need-put-byte-requires-2 (
   digit-byte-reads.Asked,
   digit-byte-reads.Learnt,
@@ -91,7 +85,6 @@ put-decimal-put-byte-requires-2 : (t : ℕ) → put-decimal-lts.Need-put-byte-re
 ) (put-decimal-at t) put-decimal.Post
 put-decimal-put-byte-requires-2 t c κs = let last = last-room (c .before .before .before .before .before .args .n) (omega arith) (omega arith) in omega (arith, last, c .before .before .put-decimal .ensures .place)
 
--- src/lib.rt:48:1
 put-decimal-returns-2 : (t : ℕ) → put-decimal-lts.Need-returns-2 (
   digit-byte-reads.Asked,
   digit-byte-reads.Learnt,

@@ -11,15 +11,12 @@ use Rattle.printing.proofs.danger_printed.Lts as lts
 use Rattle.printing.proofs.at_most_65.Reads as at-most-65-reads
 use Rattle.printing.proofs.put_danger.Reads as put-danger-reads
 
--- src/lib.rt:223:9
 at-most-65-requires : tie.Need-at-most-65-requires
 at-most-65-requires c κs = search needs
 
--- src/lib.rt:224:9
 put-danger-requires : tie.Need-put-danger-requires
 put-danger-requires c κs = search needs
 
--- src/lib.rt:212:1
 returns : tie.Need-returns
 returns c = danger-printed _ _ _ (c .before .before .at-most-65 .ensures) (c .put-danger .ensures)
 

@@ -9,15 +9,12 @@ use Rattle.printing.proofs.digit_byte.Tie as tie
 use Rattle.printing.proofs.digit_byte.Reads as reads
 use Rattle.printing.proofs.digit_byte.Lts as lts
 
--- src/lib.rt:44:6
 add-result : tie.Need-add-result
 add-result c = search needs
 
--- src/lib.rt:44:5
 cast-result : tie.Need-cast-result
 cast-result c = search needs
 
--- src/lib.rt:40:1
 returns : tie.Need-returns
 returns c = sym (digit-of _ (c .pre))
 

@@ -9,11 +9,9 @@ use Rattle.printing.proofs.flow_letter.Tie as tie
 use Rattle.printing.proofs.flow_letter.Reads as reads
 use Rattle.printing.proofs.flow_letter.Lts as lts
 
--- src/lib.rt:103:9
 returns : tie.Need-returns
 returns c = letter-forward _ (c .if1 .taken)
 
--- src/lib.rt:99:1
 returns-2 : tie.Need-returns-2
 returns-2 c = letter-back _ (c .if1 .left)
 

@@ -13,27 +13,21 @@ use Rattle.printing.proofs.put.Reads as put-reads
 use Rattle.printing.proofs.put_steps.Reads as put-steps-reads
 use Rattle.printing.proofs.put_verdict.Reads as put-verdict-reads
 
--- src/lib.rt:179:33
 slice-aggregate-put-verdict : tie.Need-slice-aggregate-put-verdict
 slice-aggregate-put-verdict c = search needs
 
--- src/lib.rt:179:9
 put-verdict-requires : tie.Need-put-verdict-requires
 put-verdict-requires c κs = search needs
 
--- src/lib.rt:180:25
 slice-aggregate-put : tie.Need-slice-aggregate-put
 slice-aggregate-put c = search needs
 
--- src/lib.rt:180:9
 put-requires : tie.Need-put-requires
 put-requires c κs = search needs
 
--- src/lib.rt:181:5
 put-steps-requires : tie.Need-put-steps-requires
 put-steps-requires c κs = search needs
 
--- src/lib.rt:166:1
 returns : tie.Need-returns
 unfolding dangerWord stepNames
 returns c = danger-put _ _ _ (c .before .before .before .before .before .before .before .before .before .pre) (c .before .before .before .before .before .put-verdict .ensures) (c .before .before .put .ensures) (c .put-steps .ensures)

@@ -11,23 +11,18 @@ use Rattle.printing.proofs.put_flow.Lts as lts
 use Rattle.printing.proofs.flow_letter.Reads as flow-letter-reads
 use Rattle.printing.proofs.put_byte.Reads as put-byte-reads
 
--- src/lib.rt:113:9
 put-byte-requires : tie.Need-put-byte-requires
 put-byte-requires c κs = search needs
 
--- src/lib.rt:114:30
 flow-letter-requires : tie.Need-flow-letter-requires
 flow-letter-requires c κs = search needs
 
--- src/lib.rt:114:9
 put-byte-requires-2 : tie.Need-put-byte-requires-2
 put-byte-requires-2 c κs = search needs
 
--- src/lib.rt:115:5
 put-byte-requires-3 : tie.Need-put-byte-requires-3
 put-byte-requires-3 c κs = search needs
 
--- src/lib.rt:109:1
 returns : tie.Need-returns
 returns c = flow-put _ (c .before .before .before .flow-letter .ensures) (c .before .before .before .before .before .put-byte .ensures) (c .before .before .put-byte2 .ensures) (c .put-byte3 .ensures)
 

@@ -11,15 +11,12 @@ use Rattle.printing.proofs.put_number.Lts as lts
 use Rattle.printing.proofs.put_byte.Reads as put-byte-reads
 use Rattle.printing.proofs.put_decimal.Reads as put-decimal-reads
 
--- src/lib.rt:64:9
 put-byte-requires : tie.Need-put-byte-requires
 put-byte-requires c κs = search needs
 
--- src/lib.rt:65:5
 put-decimal-requires : tie.Need-put-decimal-requires
 put-decimal-requires c κs = search needs
 
--- src/lib.rt:60:1
 returns : tie.Need-returns
 returns c = number-put _ (c .before .before .put-byte .ensures) (c .put-decimal .ensures)
 

@@ -14,27 +14,21 @@ use Rattle.printing.proofs.put_byte.Reads as put-byte-reads
 use Rattle.printing.proofs.put_decimal.Reads as put-decimal-reads
 use Rattle.printing.proofs.put_number.Reads as put-number-reads
 
--- src/lib.rt:152:25
 slice-aggregate-put : tie.Need-slice-aggregate-put
 slice-aggregate-put c = search needs
 
--- src/lib.rt:152:9
 put-requires : tie.Need-put-requires
 put-requires c κs = search needs
 
--- src/lib.rt:153:9
 put-decimal-requires : tie.Need-put-decimal-requires
 put-decimal-requires c κs = search needs
 
--- src/lib.rt:154:9
 put-number-requires : tie.Need-put-number-requires
 put-number-requires c κs = search needs
 
--- src/lib.rt:155:5
 put-byte-requires : tie.Need-put-byte-requires
 put-byte-requires c κs = search needs
 
--- src/lib.rt:148:1
 returns : tie.Need-returns
 unfolding refusedNames
 returns c = refusal-put _ _ (c .before .before .before .before .before .before .put .ensures) (c .before .before .before .before .put-decimal .ensures) (c .before .before .put-number .ensures) (c .put-byte .ensures)

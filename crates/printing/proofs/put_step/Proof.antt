@@ -13,71 +13,54 @@ use Rattle.printing.proofs.put_flow.Reads as put-flow-reads
 use Rattle.printing.proofs.put_number.Reads as put-number-reads
 use Rattle.words.proofs.word_at.Reads as word-at-reads
 
--- src/lib.rt:123:30
 mul-word-at : tie.Need-mul-word-at
 mul-word-at c = search needs
 
--- src/lib.rt:123:9
 word-at-requires : tie.Need-word-at-requires
 word-at-requires c κs = search needs
 
--- src/lib.rt:124:32
 mul-word-at-2 : tie.Need-mul-word-at-2
 mul-word-at-2 c = search needs
 
--- src/lib.rt:124:32
 add-word-at : tie.Need-add-word-at
 add-word-at c = search needs
 
--- src/lib.rt:124:9
 word-at-requires-2 : tie.Need-word-at-requires-2
 word-at-requires-2 c κs = search needs
 
--- src/lib.rt:125:32
 mul-word-at-3 : tie.Need-mul-word-at-3
 mul-word-at-3 c = search needs
 
--- src/lib.rt:125:32
 add-word-at-2 : tie.Need-add-word-at-2
 add-word-at-2 c = search needs
 
--- src/lib.rt:125:9
 word-at-requires-3 : tie.Need-word-at-requires-3
 word-at-requires-3 c κs = search needs
 
--- src/lib.rt:126:30
 mul-word-at-4 : tie.Need-mul-word-at-4
 mul-word-at-4 c = search needs
 
--- src/lib.rt:126:30
 add-word-at-3 : tie.Need-add-word-at-3
 add-word-at-3 c = search needs
 
--- src/lib.rt:126:9
 word-at-requires-4 : tie.Need-word-at-requires-4
 word-at-requires-4 c κs = search needs
 
--- src/lib.rt:127:9
 put-decimal-requires : tie.Need-put-decimal-requires
 put-decimal-requires c κs = search needs
 
--- src/lib.rt:128:9
 put-number-requires : tie.Need-put-number-requires
 put-number-requires c κs = search needs
 
--- src/lib.rt:129:9
 put-number-requires-2 : tie.Need-put-number-requires-2
 put-number-requires-2 c κs = search needs
 
--- src/lib.rt:130:9
 put-number-requires-3 : tie.Need-put-number-requires-3
 put-number-requires-3 c κs = search needs
 
--- src/lib.rt:131:5
 put-flow-requires : tie.Need-put-flow-requires
 put-flow-requires c κs = search needs
 
--- src/lib.rt:119:1
 returns : tie.Need-returns
 returns c = step-put _ _ (c .before .before .before .before .before .before .before .before .before .before .before .before .before .word-at .ensures) (c .before .before .before .before .before .before .before .before .before .before .before .before .word-at2 .ensures) (c .before .before .before .before .before .before .before .before .before .before .before .word-at3 .ensures) (c .before .before .before .before .before .before .before .before .before .before .word-at4 .ensures) (c .before .before .before .before .before .before .before .before .put-decimal .ensures) (c .before .before .before .before .before .before .put-number .ensures) (c .before .before .before .before .put-number2 .ensures) (c .before .before .put-number3 .ensures) (c .put-flow .ensures)
 

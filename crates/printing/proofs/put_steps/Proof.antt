@@ -17,27 +17,21 @@ Inv-loop out₀ at walk steps place₀ k₀ out place k = Stepping walk at out�
 abbrev μ-loop : tie.MeasureT-loop
 μ-loop out₀ at walk steps place₀ k₀ out place k = steps - k
 
--- src/lib.rt:141:5
 loop-holds : tie.Need-loop-holds Inv-loop μ-loop
 loop-holds c = steps-first _ _ _ _
 
--- src/lib.rt:142:9
 put-step-requires : tie.Need-put-step-requires Inv-loop μ-loop
 put-step-requires c κs = search needs
 
--- src/lib.rt:143:9
 add-k : tie.Need-add-k Inv-loop μ-loop
 add-k c = search needs
 
--- src/lib.rt:141:5
 loop-less : tie.Need-loop-less Inv-loop μ-loop
 loop-less c = search needs
 
--- src/lib.rt:141:5
 loop-again : tie.Need-loop-again Inv-loop μ-loop
 loop-again c = steps-turn (c .before .before .loop-test .taken) (c .before .before .before .loop .inv) (c .put-step .ensures)
 
--- src/lib.rt:135:1
 returns : tie.Need-returns Inv-loop μ-loop
 returns c = steps-end (c .loop-test .left) (c .before .loop .inv)
 

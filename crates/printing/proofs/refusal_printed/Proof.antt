@@ -10,11 +10,9 @@ use Rattle.printing.proofs.refusal_printed.Reads as reads
 use Rattle.printing.proofs.refusal_printed.Lts as lts
 use Rattle.printing.proofs.put_refusal.Reads as put-refusal-reads
 
--- src/lib.rt:198:9
 put-refusal-requires : tie.Need-put-refusal-requires
 put-refusal-requires c κs = search needs
 
--- src/lib.rt:194:1
 returns : tie.Need-returns
 returns c = printed-is (omega arith) (c .put-refusal .ensures)
 

@@ -3,11 +3,9 @@ use borrow.Author.Needs.{needs}
 use Rattle.putting.proofs.edge_count.Statement.{statement}
 use Rattle.putting.proofs.edge_count.Tie as tie
 
--- src/lib.rt:18:9
 count-edges-requires : tie.Need-count-edges-requires
 count-edges-requires c κs = search needs
 
--- src/lib.rt:15:1
 returns : tie.Need-returns
 returns c = count-is _ _ (c .count-edges .ensures)
 

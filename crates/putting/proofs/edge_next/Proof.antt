@@ -3,11 +3,9 @@ use borrow.Author.Needs.{needs}
 use Rattle.putting.proofs.edge_next.Statement.{statement}
 use Rattle.putting.proofs.edge_next.Tie as tie
 
--- src/lib.rt:27:5
 edge-from-requires : tie.Need-edge-from-requires
 edge-from-requires c κs = search needs
 
--- src/lib.rt:23:1
 returns : tie.Need-returns
 returns c = next-numbered _ _ _ _ (c .before .before .pre) (c .edge-from .ensures)
 

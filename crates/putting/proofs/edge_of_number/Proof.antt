@@ -14,55 +14,44 @@ Inv-loop table k n from₀ i₀ from i = (i ≤ k) × (edgesBelow table from ≡
 abbrev μ-loop : tie.MeasureT-loop
 μ-loop table k n from₀ i₀ from i = k - i
 
--- src/lib.rt:34:9
 edge-count-requires : tie.Need-edge-count-requires Inv-loop μ-loop
 edge-count-requires c κs = search needs
 
--- src/lib.rt:36:13
 no-edge-requires : tie.Need-no-edge-requires Inv-loop μ-loop
 no-edge-requires c κs = search needs
 
--- src/lib.rt:37:9
 returns : tie.Need-returns Inv-loop μ-loop
 returns c =
     let past = c .before .if1 .taken in
     found-none _ _ _ _ (c .no-edge .ensures) (c .before .before .edge-count .ensures) (omega arith)
 
--- src/lib.rt:44:5
 loop-holds : tie.Need-loop-holds Inv-loop μ-loop
 loop-holds c = (omega arith, ahead-first _)
 
--- src/lib.rt:45:13
 edge-next-requires : tie.Need-edge-next-requires Inv-loop μ-loop
 edge-next-requires c κs = record {
   below = c .before .loop .inv .1;
   there = let e = c .before .before .before .edge-count .ensures in let l = c .before .before .if1 .left in let m = c .loop-test .taken in omega arith;
 }
 
--- src/lib.rt:46:16
 add-from : tie.Need-add-from Inv-loop μ-loop
 add-from c = let h = c .before .edge-next .ensures .few in record { fits = omega arith }
 
--- src/lib.rt:47:9
 add-i : tie.Need-add-i Inv-loop μ-loop
 add-i c = search needs
 
--- src/lib.rt:44:5
 loop-less : tie.Need-loop-less Inv-loop μ-loop
 loop-less c = search needs
 
--- src/lib.rt:44:5
 loop-again : tie.Need-loop-again Inv-loop μ-loop
 loop-again c = (omega arith, c .before .edge-next .ensures .behind)
 
--- src/lib.rt:49:9
 edge-next-requires-2 : tie.Need-edge-next-requires-2 Inv-loop μ-loop
 edge-next-requires-2 c κs = record {
   below = c .before .loop .inv .1 ∙ le-antisymm (c .before .loop .inv .0) (c .loop-test .left);
   there = let e = c .before .before .before .edge-count .ensures in let l = c .before .before .if1 .left in omega arith;
 }
 
--- src/lib.rt:31:1
 returns-2 : tie.Need-returns-2 Inv-loop μ-loop
 returns-2 c = found-at _ _ _ (c .before .edge-next2 .ensures)
 

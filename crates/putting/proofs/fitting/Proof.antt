@@ -3,11 +3,9 @@ use Rattle.putting.specs.PutLaws.{fitting-all, fitting-none}
 use Rattle.putting.proofs.fitting.Statement.{statement}
 use Rattle.putting.proofs.fitting.Tie as tie
 
--- src/lib.rt:62:9
 returns : tie.Need-returns
 returns c = let fits = c .if1 .taken in fitting-all _ _ (omega arith)
 
--- src/lib.rt:58:1
 returns-2 : tie.Need-returns-2
 returns-2 c = let over = c .if1 .left in fitting-none _ _ (omega arith)
 

@@ -6,12 +6,12 @@ use Rattle.readstate.proofs.depth.Tie as tie
 use Rattle.readstate.proofs.depth.Reads as reads
 use Rattle.readstate.proofs.depth.Lts as lts
 
-word-requires : tie.Need-word-requires
-word-requires c κs = search needs
+word-at-requires : tie.Need-word-at-requires
+word-at-requires c κs = search needs
 
 returns : tie.Need-returns
 unfolding stateIn
-returns c = (c .word .ensures, words-depth (c .word .ensures))
+returns c = (c .word-at .ensures, words-depth (c .word-at .ensures))
 
 pub depth-spec : {M : Type 1} → statement M
-depth-spec = tie.close (tie.spec word-requires returns)
+depth-spec = tie.close (tie.spec word-at-requires returns)

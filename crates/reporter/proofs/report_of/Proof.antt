@@ -12,27 +12,21 @@ use Rattle.printing.proofs.refusal_printed.Reads as refusal-printed-reads
 use Rattle.reader.proofs.read_text.Reads as read-text-reads
 use Rattle.reporter.proofs.value_report.Reads as value-report-reads
 
--- src/lib.rt:29:9
 read-text-requires : tie.Need-read-text-requires
 read-text-requires c κs = search needs
 
--- src/lib.rt:32:42
 cast-refusal-printed : tie.Need-cast-refusal-printed
 cast-refusal-printed c = search needs
 
--- src/lib.rt:32:9
 refusal-printed-requires : tie.Need-refusal-printed-requires
 refusal-printed-requires c κs = search needs
 
--- src/lib.rt:32:9
 returns : tie.Need-returns
 returns c = reported-refusal _ (c .before .before .read-text .ensures) (c .before .if1 .taken) (c .refusal-printed .ensures)
 
--- src/lib.rt:35:5
 value-report-requires : tie.Need-value-report-requires
 value-report-requires c κs = search needs
 
--- src/lib.rt:25:1
 returns-2 : tie.Need-returns-2
 returns-2 c = reported-value _ (c .before .before .before .read-text .ensures) (c .before .before .if1 .left) (c .value-report .ensures)
 

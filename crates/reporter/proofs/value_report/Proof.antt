@@ -14,43 +14,33 @@ use Rattle.printing.proofs.danger_printed.Reads as danger-printed-reads
 use Rattle.printing.proofs.refusal_printed.Reads as refusal-printed-reads
 use Rattle.printing.proofs.robust_printed.Reads as robust-printed-reads
 
--- src/lib.rt:14:36
 slice-aggregate-verdict-of : tie.Need-slice-aggregate-verdict-of
 slice-aggregate-verdict-of c = search needs
 
--- src/lib.rt:14:9
 verdict-of-requires : tie.Need-verdict-of-requires
 verdict-of-requires c κs = search needs
 
--- src/lib.rt:16:42
 cast-refusal-printed : tie.Need-cast-refusal-printed
 cast-refusal-printed c = search needs
 
--- src/lib.rt:16:9
 refusal-printed-requires : tie.Need-refusal-printed-requires
 refusal-printed-requires c κs = search needs
 
--- src/lib.rt:16:9
 returns : tie.Need-returns
 returns c = value-refused (length-replicate {A = ℕ} 260 0) (c .before .before .before .before .before .verdict-of .ensures) (c .before .before .if1 .taken) (c .refusal-printed .ensures)
 
--- src/lib.rt:19:79
 slice-aggregate-danger-printed : tie.Need-slice-aggregate-danger-printed
 slice-aggregate-danger-printed c = search needs
 
--- src/lib.rt:19:9
 danger-printed-requires : tie.Need-danger-printed-requires
 danger-printed-requires c κs = search needs
 
--- src/lib.rt:19:9
 returns-2 : tie.Need-returns-2
 returns-2 c = value-danger (length-replicate {A = ℕ} 260 0) (c .before .before .before .before .before .before .verdict-of .ensures) (c .before .before .before .if1 .left) (c .before .before .if2 .taken) (c .danger-printed .ensures)
 
--- src/lib.rt:21:5
 robust-printed-requires : tie.Need-robust-printed-requires
 robust-printed-requires c κs = search needs
 
--- src/lib.rt:9:1
 returns-3 : tie.Need-returns-3
 returns-3 c = value-robust (length-replicate {A = ℕ} 260 0) (c .before .before .before .before .before .verdict-of .ensures) (c .before .before .if1 .left) (c .before .if2 .left) (c .robust-printed .ensures)
 

@@ -10,23 +10,18 @@ use Rattle.rows.proofs.begin.Tie as tie
 use Rattle.rows.proofs.begin.Reads as reads
 use Rattle.rows.proofs.begin.Lts as lts
 
--- src/lib.rt:223:18
 add-r : tie.Need-add-r
 add-r c = search needs
 
--- src/lib.rt:225:9
 returns : tie.Need-returns
 returns c = begun-past _ _ (c .before .pre .1) (c .if1 .taken)
 
--- src/lib.rt:227:5
 mul-r : tie.Need-mul-r
 mul-r c = search needs
 
--- src/lib.rt:227:5
 element-write-r : tie.Need-element-write-r
 element-write-r c = search needs
 
--- src/lib.rt:217:1
 returns-2 : tie.Need-returns-2
 unfolding begunWith
 returns-2 c = cc

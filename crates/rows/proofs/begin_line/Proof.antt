@@ -9,29 +9,23 @@ use Rattle.rows.proofs.begin_line.Tie as tie
 use Rattle.rows.proofs.begin_line.Reads as reads
 use Rattle.rows.proofs.begin_line.Lts as lts
 use Rattle.rows.proofs.begin.Reads as begin-reads
-use Rattle.rows.proofs.word_at.Reads as word-at-reads
+use Rattle.words.proofs.word_at.Reads as word-at-reads
 
--- src/lib.rt:236:23
 mul-word-at : tie.Need-mul-word-at
 mul-word-at c = search needs
 
--- src/lib.rt:236:8
 word-at-requires : tie.Need-word-at-requires
 word-at-requires c κs = search needs
 
--- src/lib.rt:237:9
 returns : tie.Need-returns
 returns c = begun-none _ _ _ _ (c .before .word-at .ensures) (c .if1 .taken)
 
--- src/lib.rt:239:14
 add-begin : tie.Need-add-begin
 add-begin c = search needs
 
--- src/lib.rt:239:5
 begin-requires : tie.Need-begin-requires
 begin-requires c κs = search needs
 
--- src/lib.rt:232:1
 returns-2 : tie.Need-returns-2
 returns-2 c = begun-one _ _ _ _ (c .before .before .word-at .ensures) (c .before .if1 .left) _ (c .begin .ensures)
 

@@ -9,15 +9,12 @@ use Rattle.rows.proofs.byte_at.Tie as tie
 use Rattle.rows.proofs.byte_at.Reads as reads
 use Rattle.rows.proofs.byte_at.Lts as lts
 
--- src/lib.rt:48:16
 shared-slice-read-result : tie.Need-shared-slice-read-result
 shared-slice-read-result c = search needs
 
--- src/lib.rt:48:9
 returns : tie.Need-returns
 returns c = search needs
 
--- src/lib.rt:44:1
 returns-2 : tie.Need-returns-2
 returns-2 c = past-end (c .before .args .bytes .now) (c .before .args .i) (c .if1 .left)
 

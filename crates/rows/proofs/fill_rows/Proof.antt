@@ -13,63 +13,48 @@ use Rattle.rows.proofs.fill_table.Reads as fill-table-reads
 use Rattle.rows.proofs.rows_refused.Reads as rows-refused-reads
 use Rattle.rows.proofs.total.Reads as total-reads
 
--- src/lib.rt:430:33
 slice-aggregate-unfold-places : tie.Need-slice-aggregate-unfold-places
 slice-aggregate-unfold-places c = search needs
 
--- src/lib.rt:430:9
 unfold-places-requires : tie.Need-unfold-places-requires
 unfold-places-requires c κs = search needs
 
--- src/lib.rt:433:9
 rows-refused-requires : tie.Need-rows-refused-requires
 rows-refused-requires c κs = search needs
 
--- src/lib.rt:433:9
 returns : tie.Need-returns
 returns c = refused-number (c .before .before .before .before .before .before .args .w) _ refl (c .before .before .before .unfold-places .result) _ (c .before .before .before .unfold-places .ensures) _ (c .before .if1 .taken) _ (c .rows-refused .ensures)
 
--- src/lib.rt:437:24
 slice-aggregate-total : tie.Need-slice-aggregate-total
 slice-aggregate-total c = search needs
 
--- src/lib.rt:437:9
 total-requires : tie.Need-total-requires
 total-requires c κs = total-few (c .before .before .before .before .before .before .before .args .w) _ refl (c .before .before .before .before .unfold-places .result) _ (c .before .before .before .before .unfold-places .ensures) [] (c .before .before .if1 .left)
 
--- src/lib.rt:438:22
 mul-if2 : tie.Need-mul-if2
 mul-if2 c = omega (arith, total-few (c .before .before .before .before .before .before .before .before .args .w) _ refl (c .before .before .before .before .before .unfold-places .result) _ (c .before .before .before .before .before .unfold-places .ensures) [] (c .before .before .before .if1 .left), c .total .ensures)
 
--- src/lib.rt:439:9
 rows-refused-requires-2 : tie.Need-rows-refused-requires-2
 rows-refused-requires-2 c κs = search needs
 
--- src/lib.rt:439:9
 returns-2 : tie.Need-returns-2
 returns-2 c = refused-short (c .before .before .before .before .before .before .before .before .before .before .args .w) _ refl (c .before .before .before .before .before .before .before .unfold-places .result) _ (c .before .before .before .before .before .before .before .unfold-places .ensures) _ (c .before .before .before .before .before .if1 .left) _ (c .before .before .total .ensures) (c .before .if2 .taken) _ (c .rows-refused2 .ensures)
 
--- src/lib.rt:442:26
 slice-aggregate-fill-table : tie.Need-slice-aggregate-fill-table
 slice-aggregate-fill-table c = search needs
 
--- src/lib.rt:442:37
 slice-aggregate-fill-table-2 : tie.Need-slice-aggregate-fill-table-2
 slice-aggregate-fill-table-2 c = search needs
 
--- src/lib.rt:442:47
 slice-aggregate-fill-table-3 : tie.Need-slice-aggregate-fill-table-3
 slice-aggregate-fill-table-3 c = search needs
 
--- src/lib.rt:442:5
 fill-table-requires : tie.Need-fill-table-requires
 fill-table-requires c κs = (workload-cells (c .before .before .before .before .before .before .before .before .before .before .before .before .before .before .args .w) _ refl (c .before .before .before .before .before .before .before .before .before .before .before .unfold-places .result) _ (c .before .before .before .before .before .before .before .before .before .before .before .unfold-places .ensures) [] (c .before .before .before .before .before .before .before .before .before .if1 .left), workload-count (c .before .before .before .before .before .before .before .before .before .before .before .before .before .before .args .w) _ refl (c .before .before .before .before .before .before .before .before .before .before .before .unfold-places .result) _ (c .before .before .before .before .before .before .before .before .before .before .before .unfold-places .ensures) [] (c .before .before .before .before .before .before .before .before .before .if1 .left), omega (arith, c .before .before .before .before .before .if2 .left, c .before .before .before .before .before .before .total .ensures))
 
--- src/lib.rt:426:1
 same-length : tie.Need-same-length
 same-length c = search needs
 
--- src/lib.rt:426:1
 returns-3 : tie.Need-returns-3
 returns-3 c = filled-table (c .before .before .before .before .before .before .before .before .before .before .before .before .before .before .before .before .before .args .w) _ refl (c .before .before .before .before .before .before .before .before .before .before .before .before .before .before .unfold-places .result) _ (c .before .before .before .before .before .before .before .before .before .before .before .before .before .before .unfold-places .ensures) _ (c .before .before .before .before .before .before .before .before .before .before .before .before .if1 .left) _ (c .before .before .before .before .before .before .before .before .before .total .ensures) (c .before .before .before .before .before .before .before .before .if2 .left) _ _ (c .before .before .fill-table .ensures)
 

@@ -12,47 +12,36 @@ use Rattle.rows.proofs.lines_in.Reads as lines-in-reads
 use Rattle.rows.proofs.programs_in.Reads as programs-in-reads
 use Rattle.rows.proofs.put_nodes.Reads as put-nodes-reads
 
--- src/lib.rt:386:13
 mul-n : tie.Need-mul-n
 mul-n c = search needs
 
--- src/lib.rt:387:17
 lines-in-requires : tie.Need-lines-in-requires
 lines-in-requires c κs = search needs
 
--- src/lib.rt:388:25
 array-share-prefix-lines : tie.Need-array-share-prefix-lines
 array-share-prefix-lines c = search needs
 
--- src/lib.rt:388:25
 slice-aggregate-programs-in : tie.Need-slice-aggregate-programs-in
 slice-aggregate-programs-in c = lines-part (c .before .before .before .before .before .before .before .args .w) _ (c .before .lines-in .ensures .1) (c .before .before .before .before .before .before .before .pre .1)
 
--- src/lib.rt:388:9
 programs-in-requires : tie.Need-programs-in-requires
 programs-in-requires c κs = search needs
 
--- src/lib.rt:390:28
 array-share-prefix-lines-2 : tie.Need-array-share-prefix-lines-2
 array-share-prefix-lines-2 c = search needs
 
--- src/lib.rt:390:28
 slice-aggregate-put-nodes : tie.Need-slice-aggregate-put-nodes
 slice-aggregate-put-nodes c = lines-part (c .before .before .before .before .before .before .before .before .before .before .args .w) _ (c .before .before .before .before .lines-in .ensures .1) (c .before .before .before .before .before .before .before .before .before .before .pre .1)
 
--- src/lib.rt:390:41
 slice-aggregate-put-nodes-2 : tie.Need-slice-aggregate-put-nodes-2
 slice-aggregate-put-nodes-2 c = search needs
 
--- src/lib.rt:390:9
 put-nodes-requires : tie.Need-put-nodes-requires
 put-nodes-requires c κs = search needs
 
--- src/lib.rt:382:1
 same-length : tie.Need-same-length
 same-length c = search needs
 
--- src/lib.rt:382:1
 returns : tie.Need-returns
 returns c = filled-by (c .before .before .before .before .before .before .before .before .before .before .before .before .before .before .before .args .w) _ (c .before .before .before .before .before .before .before .before .before .lines-in .ensures .0) _ _ _ _ _ _ (c .before .before .before .before .before .before .before .programs-in .ensures) _ (c .before .before .put-nodes .ensures .1) _ (c .before .before .put-nodes .ensures .0)
 

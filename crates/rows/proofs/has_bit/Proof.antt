@@ -9,15 +9,12 @@ use Rattle.rows.proofs.has_bit.Tie as tie
 use Rattle.rows.proofs.has_bit.Reads as reads
 use Rattle.rows.proofs.has_bit.Lts as lts
 
--- src/lib.rt:57:9
 returns : tie.Need-returns
 returns c = sym (has-past 64 (c .before .args .set) (c .before .args .k) (search needs) (c .if1 .taken))
 
--- src/lib.rt:59:6
 shr-result : tie.Need-shr-result
 shr-result c = search needs
 
--- src/lib.rt:53:1
 returns-2 : tie.Need-returns-2
 returns-2 c = search needs
 

@@ -9,49 +9,38 @@ use Rattle.rows.proofs.key_at.Tie as tie
 use Rattle.rows.proofs.key_at.Reads as reads
 use Rattle.rows.proofs.key_at.Lts as lts
 use Rattle.rows.proofs.link_key.Reads as link-key-reads
-use Rattle.rows.proofs.word_at.Reads as word-at-reads
+use Rattle.words.proofs.word_at.Reads as word-at-reads
 
--- src/lib.rt:280:14
 mul-at : tie.Need-mul-at
 mul-at c = search needs
 
--- src/lib.rt:281:8
 word-at-requires : tie.Need-word-at-requires
 word-at-requires c κs = search needs
 
--- src/lib.rt:282:9
 returns : tie.Need-returns
 returns c = no-link _ _ _ _ _ _ (c .before .word-at .ensures) (c .if1 .taken)
 
--- src/lib.rt:284:30
 add-word-at : tie.Need-add-word-at
 add-word-at c = search needs
 
--- src/lib.rt:284:9
 word-at-requires-2 : tie.Need-word-at-requires-2
 word-at-requires-2 c κs = search needs
 
--- src/lib.rt:285:29
 add-word-at-2 : tie.Need-add-word-at-2
 add-word-at-2 c = search needs
 
--- src/lib.rt:285:9
 word-at-requires-3 : tie.Need-word-at-requires-3
 word-at-requires-3 c κs = search needs
 
--- src/lib.rt:286:33
 add-word-at-3 : tie.Need-add-word-at-3
 add-word-at-3 c = search needs
 
--- src/lib.rt:286:9
 word-at-requires-4 : tie.Need-word-at-requires-4
 word-at-requires-4 c κs = search needs
 
--- src/lib.rt:287:5
 link-key-requires : tie.Need-link-key-requires
 link-key-requires c κs = search needs
 
--- src/lib.rt:276:1
 returns-2 : tie.Need-returns-2
 returns-2 c = one-link _ _ _ _ _ _ (c .before .before .before .before .before .word-at .ensures) (c .before .before .before .before .if1 .left) _ _ _ (c .before .before .before .word-at2 .ensures) (c .before .before .word-at3 .ensures) (c .before .word-at4 .ensures) _ (c .link-key .ensures)
 

@@ -11,7 +11,7 @@ use Rattle.rows.proofs.keys_from.Tie as tie
 use Rattle.rows.proofs.keys_from.Reads as reads
 use Rattle.rows.proofs.keys_from.Lts as lts
 use Rattle.rows.proofs.key_at.Reads as key-at-reads
-use Rattle.rows.proofs.word_at.Reads as word-at-reads
+use Rattle.words.proofs.word_at.Reads as word-at-reads
 
 abbrev Inv-loop : tie.InvT-loop
 Inv-loop lines first child seen n word₀ i₀ word i = keysFrom (length lines / 8 - i) lines i child seen word ≡ keysFrom (length lines / 8 - first) lines first child seen 0
@@ -19,39 +19,30 @@ Inv-loop lines first child seen n word₀ i₀ word i = keysFrom (length lines /
 abbrev μ-loop : tie.MeasureT-loop
 μ-loop lines first child seen n word₀ i₀ word i = length lines / 8 - i
 
--- src/lib.rt:297:5
 loop-holds : tie.Need-loop-holds Inv-loop μ-loop
 loop-holds c = refl
 
--- src/lib.rt:298:27
 mul-word-at : tie.Need-mul-word-at Inv-loop μ-loop
 mul-word-at c = search needs
 
--- src/lib.rt:298:12
 word-at-requires : tie.Need-word-at-requires Inv-loop μ-loop
 word-at-requires c κs = search needs
 
--- src/lib.rt:299:13
 returns : tie.Need-returns Inv-loop μ-loop
 returns c = keys-stop _ _ _ _ _ _ (c .before .before .loop-test .taken) _ (c .before .word-at .ensures) (c .if1 .taken) ∙ c .before .before .before .loop .inv
 
--- src/lib.rt:301:9
 key-at-requires : tie.Need-key-at-requires Inv-loop μ-loop
 key-at-requires c κs = search needs
 
--- src/lib.rt:302:9
 add-i : tie.Need-add-i Inv-loop μ-loop
 add-i c = search needs
 
--- src/lib.rt:297:5
 loop-less : tie.Need-loop-less Inv-loop μ-loop
 loop-less c = search needs
 
--- src/lib.rt:297:5
 loop-again : tie.Need-loop-again Inv-loop μ-loop
 loop-again c = keys-next _ _ _ _ _ _ (c .before .before .before .loop-test .taken) _ (c .before .before .word-at .ensures) (c .before .if1 .left) _ (c .key-at .ensures) ∙ c .before .before .before .before .loop .inv
 
--- src/lib.rt:291:1
 returns-2 : tie.Need-returns-2 Inv-loop μ-loop
 returns-2 c = keys-end _ _ _ _ _ _ (c .loop-test .left) ∙ c .before .loop .inv
 

@@ -10,87 +10,68 @@ use Rattle.rows.proofs.line_number.Reads as reads
 use Rattle.rows.proofs.line_number.Lts as lts
 use Rattle.rows.proofs.kind_number.Reads as kind-number-reads
 
--- src/lib.rt:102:13
 enum-told : tie.Need-enum-told
 enum-told c = search needs
 
--- src/lib.rt:102:13
 returns : tie.Need-returns
 unfolding lineNumber
 returns c = cc
 
--- src/lib.rt:105:13
 enum-told-2 : tie.Need-enum-told-2
 enum-told-2 c = search needs
 
--- src/lib.rt:105:13
 returns-2 : tie.Need-returns-2
 unfolding lineNumber
 returns-2 c = cc
 
--- src/lib.rt:108:13
 enum-told-3 : tie.Need-enum-told-3
 enum-told-3 c = search needs
 
--- src/lib.rt:108:13
 returns-3 : tie.Need-returns-3
 unfolding lineNumber
 returns-3 c = cc
 
--- src/lib.rt:110:22
 enum-known-k : tie.Need-enum-known-k
 enum-known-k c = search needs
 
--- src/lib.rt:111:13
 kind-number-requires : tie.Need-kind-number-requires
 kind-number-requires c κs = search needs
 
--- src/lib.rt:111:13
 returns-4 : tie.Need-returns-4
 unfolding lineNumber
 returns-4 c = cc
 
--- src/lib.rt:114:13
 enum-told-4 : tie.Need-enum-told-4
 enum-told-4 c = search needs
 
--- src/lib.rt:114:13
 returns-5 : tie.Need-returns-5
 unfolding lineNumber
 returns-5 c = cc
 
--- src/lib.rt:117:13
 enum-told-5 : tie.Need-enum-told-5
 enum-told-5 c = search needs
 
--- src/lib.rt:117:13
 returns-6 : tie.Need-returns-6
 unfolding lineNumber
 returns-6 c = cc
 
--- src/lib.rt:120:13
 enum-told-6 : tie.Need-enum-told-6
 enum-told-6 c = search needs
 
--- src/lib.rt:120:13
 returns-7 : tie.Need-returns-7
 unfolding lineNumber
 returns-7 c = cc
 
--- src/lib.rt:123:13
 enum-told-7 : tie.Need-enum-told-7
 enum-told-7 c = search needs
 
--- src/lib.rt:123:13
 returns-8 : tie.Need-returns-8
 unfolding lineNumber
 returns-8 c = cc
 
--- src/lib.rt:126:13
 enum-told-8 : tie.Need-enum-told-8
 enum-told-8 c = search needs
 
--- src/lib.rt:126:13
 returns-9 : tie.Need-returns-9
 unfolding lineNumber
 returns-9 c = cc

@@ -23,72 +23,55 @@ Inv-loop w words₀ n i₀ words i = (i ≤ w .count) × (length words ≡ 12928
 abbrev μ-loop : tie.MeasureT-loop
 μ-loop w words₀ n i₀ words i = w .count - i
 
--- src/lib.rt:201:5
 loop-holds : tie.Need-loop-holds Inv-loop μ-loop
 unfolding lineTable flatMap
 loop-holds c = (search needs, search needs, refl)
 
--- src/lib.rt:202:17
 mul-l : tie.Need-mul-l Inv-loop μ-loop
 mul-l c = search needs
 
--- src/lib.rt:202:17
 element-copy-out-l : tie.Need-element-copy-out-l Inv-loop μ-loop
 element-copy-out-l c = search needs
 
--- src/lib.rt:204:13
 line-number-requires : tie.Need-line-number-requires Inv-loop μ-loop
 line-number-requires c κs = search needs
 
--- src/lib.rt:206:13
 slice-aggregate-put : tie.Need-slice-aggregate-put Inv-loop μ-loop
 slice-aggregate-put c = search needs
 
--- src/lib.rt:207:13
 mul-put : tie.Need-mul-put Inv-loop μ-loop
 mul-put c = search needs
 
--- src/lib.rt:209:13
 wide-requires : tie.Need-wide-requires Inv-loop μ-loop
 wide-requires c κs = search needs
 
--- src/lib.rt:210:13
 wide-requires-2 : tie.Need-wide-requires-2 Inv-loop μ-loop
 wide-requires-2 c κs = search needs
 
--- src/lib.rt:211:13
 wide-requires-3 : tie.Need-wide-requires-3 Inv-loop μ-loop
 wide-requires-3 c κs = search needs
 
--- src/lib.rt:212:13
 reads-of-requires : tie.Need-reads-of-requires Inv-loop μ-loop
 reads-of-requires c κs = search needs
 
--- src/lib.rt:213:13
 writes-of-requires : tie.Need-writes-of-requires Inv-loop μ-loop
 writes-of-requires c κs = search needs
 
--- src/lib.rt:214:13
 tests-of-requires : tie.Need-tests-of-requires Inv-loop μ-loop
 tests-of-requires c κs = search needs
 
--- src/lib.rt:205:9
 put-requires : tie.Need-put-requires Inv-loop μ-loop
 put-requires c κs = search needs
 
--- src/lib.rt:217:9
 add-i : tie.Need-add-i Inv-loop μ-loop
 add-i c = search needs
 
--- src/lib.rt:201:5
 loop-less : tie.Need-loop-less Inv-loop μ-loop
 loop-less c = search needs
 
--- src/lib.rt:201:5
 loop-again : tie.Need-loop-again Inv-loop μ-loop
 loop-again c = let next = line-next (c .before .before .before .before .before .before .before .before .before .before .before .before .before .args .t1 .lines) (c .before .before .before .before .before .before .before .before .before .before .before .before .loop .words) (c .before .before .before .before .before .before .before .before .before .before .before .before .loop .i) _ (omega arith) (c .before .before .before .before .before .before .before .before .before .before .before .before .loop .inv .1) (c .before .before .before .before .before .before .before .before .before .before .before .before .before .pre .0) _ _ _ _ (c .before .before .before .before .before .before .before .before .before .line-number .ensures) (c .before .before .before .before .before .before .before .wide .ensures) (c .before .before .before .before .before .before .wide2 .ensures) (c .before .before .before .before .before .wide3 .ensures) _ _ _ (c .before .before .before .before .reads-of .ensures) (c .before .before .before .writes-of .ensures) (c .before .before .tests-of .ensures) _ (c .before .put .ensures .0) (c .before .before .before .before .before .before .before .before .before .before .before .before .loop .inv .2) in (search needs, next .0, next .1)
 
--- src/lib.rt:194:1
 returns : tie.Need-returns Inv-loop μ-loop
 returns c = (lines-stored _ _ _ (c .before .loop .inv .0) (c .loop-test .left) (c .before .loop .inv .2), c .before .loop .inv .1)
 

@@ -11,27 +11,21 @@ use Rattle.rows.proofs.link_key.Lts as lts
 use Rattle.rows.proofs.has_bit.Reads as has-bit-reads
 use Rattle.rows.proofs.with_bit.Reads as with-bit-reads
 
--- src/lib.rt:264:9
 returns : tie.Need-returns
 returns c = no-child _ _ _ _ _ _ (c .if1 .taken)
 
--- src/lib.rt:266:9
 has-bit-requires : tie.Need-has-bit-requires
 has-bit-requires c κs = search needs
 
--- src/lib.rt:267:9
 returns-2 : tie.Need-returns-2
 returns-2 c = not-seen _ _ _ _ _ _ (c .before .before .if1 .left) _ (c .before .has-bit .ensures) (c .if2 .taken)
 
--- src/lib.rt:270:9
 returns-3 : tie.Need-returns-3
 returns-3 c = no-key _ _ _ _ _ _ (c .before .before .before .if1 .left) _ (c .before .before .has-bit .ensures) (c .before .if2 .left) (c .if3 .taken)
 
--- src/lib.rt:272:5
 with-bit-requires : tie.Need-with-bit-requires
 with-bit-requires c κs = search needs
 
--- src/lib.rt:260:1
 returns-4 : tie.Need-returns-4
 returns-4 c = one-key _ _ _ _ _ _ (c .before .before .before .before .if1 .left) _ (c .before .before .before .has-bit .ensures) (c .before .before .if2 .left) (c .before .if3 .left) _ (c .with-bit .ensures)
 

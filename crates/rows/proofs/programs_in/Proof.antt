@@ -18,28 +18,22 @@ Inv-loop lines b₀ n i₀ b i = (i ≤ length lines / 8) × (b ≡ begunBefore 
 abbrev μ-loop : tie.MeasureT-loop
 μ-loop lines b₀ n i₀ b i = length lines / 8 - i
 
--- src/lib.rt:252:5
 loop-holds : tie.Need-loop-holds Inv-loop μ-loop
 unfolding begunBefore
 loop-holds c = (search needs, refl)
 
--- src/lib.rt:253:9
 begin-line-requires : tie.Need-begin-line-requires Inv-loop μ-loop
 begin-line-requires c κs = (search needs, begun-fits _ _ _ (c .before .loop .inv .1) .0, begun-fits _ _ _ (c .before .loop .inv .1) .1)
 
--- src/lib.rt:254:9
 add-i : tie.Need-add-i Inv-loop μ-loop
 add-i c = search needs
 
--- src/lib.rt:252:5
 loop-less : tie.Need-loop-less Inv-loop μ-loop
 loop-less c = search needs
 
--- src/lib.rt:252:5
 loop-again : tie.Need-loop-again Inv-loop μ-loop
 loop-again c = (search needs, begun-next _ _ _ _ (c .before .before .loop .inv .1) (c .begin-line .ensures))
 
--- src/lib.rt:243:1
 returns : tie.Need-returns Inv-loop μ-loop
 returns c = begun-all _ _ _ _ (c .before .loop .inv .0) (c .loop-test .left) (c .before .loop .inv .1)
 

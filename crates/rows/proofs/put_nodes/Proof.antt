@@ -11,7 +11,7 @@ use Rattle.rows.proofs.put_nodes.Reads as reads
 use Rattle.rows.proofs.put_nodes.Lts as lts
 use Rattle.rows.proofs.byte_at.Reads as byte-at-reads
 use Rattle.rows.proofs.put_places.Reads as put-places-reads
-use Rattle.rows.proofs.word_at.Reads as word-at-reads
+use Rattle.words.proofs.word_at.Reads as word-at-reads
 
 abbrev Inv-loop : tie.InvT-loop
 Inv-loop lines firsts programs lengths words n table₀ at₀ j₀ table at j = (j ≤ n) × (at ≡ totalOf lengths j) × (table ≡ putAt table₀ 0 (allRows lines firsts programs lengths words j))
@@ -19,47 +19,36 @@ Inv-loop lines firsts programs lengths words n table₀ at₀ j₀ table at j = 
 abbrev μ-loop : tie.MeasureT-loop
 μ-loop lines firsts programs lengths words n table₀ at₀ j₀ table at j = n - j
 
--- src/lib.rt:356:5
 loop-holds : tie.Need-loop-holds Inv-loop μ-loop
 loop-holds c = (search needs, total-none _, all-start _ _ _ _ _ _ _ (c .before .before .before .before .before .before .pre))
 
--- src/lib.rt:357:13
 byte-at-requires : tie.Need-byte-at-requires Inv-loop μ-loop
 byte-at-requires c κs = search needs
 
--- src/lib.rt:358:37
 cast-word-at : tie.Need-cast-word-at Inv-loop μ-loop
 cast-word-at c = search needs
 
--- src/lib.rt:358:13
 word-at-requires : tie.Need-word-at-requires Inv-loop μ-loop
 word-at-requires c κs = search needs
 
--- src/lib.rt:359:13
 word-at-requires-2 : tie.Need-word-at-requires-2 Inv-loop μ-loop
 word-at-requires-2 c κs = search needs
 
--- src/lib.rt:360:9
 put-places-requires : tie.Need-put-places-requires Inv-loop μ-loop
 put-places-requires c κs = all-room _ _ _ _ _ _ _ (c .before .before .before .before .before .before .before .before .before .before .before .before .pre) _ _ _ (c .before .before .before .before .loop-test .taken) (c .before .before .before .before .before .loop .inv .1) (c .before .before .before .before .before .loop .inv .2) _ (c .before .word-at2 .ensures)
 
--- src/lib.rt:361:9
 add-j : tie.Need-add-j Inv-loop μ-loop
 add-j c = search needs
 
--- src/lib.rt:356:5
 loop-less : tie.Need-loop-less Inv-loop μ-loop
 loop-less c = search needs
 
--- src/lib.rt:356:5
 loop-again : tie.Need-loop-again Inv-loop μ-loop
 loop-again c = (search needs, c .before .before .put-places .ensures .1 ∙ total-next _ _ _ _ (c .before .before .before .before .before .before .before .before .loop .inv .1) (c .before .before .before .before .word-at2 .ensures), all-next _ _ _ _ _ _ _ (c .before .before .before .before .before .before .before .before .before .before .before .before .before .before .before .pre) _ _ _ (c .before .before .before .before .before .before .before .loop-test .taken) (c .before .before .before .before .before .before .before .before .loop .inv .1) (c .before .before .before .before .before .before .before .before .loop .inv .2) _ _ _ (c .before .before .before .before .before .before .byte-at .ensures) (c .before .before .before .before .before .word-at .ensures) (c .before .before .before .before .word-at2 .ensures) _ (c .before .before .put-places .ensures .0))
 
--- src/lib.rt:350:1
 same-length : tie.Need-same-length Inv-loop μ-loop
 same-length c = all-same _ _ _ _ _ _ _ (c .before .before .before .before .before .before .before .before .pre) _ _ (c .before .loop .inv .0) (c .before .loop .inv .2)
 
--- src/lib.rt:350:1
 returns : tie.Need-returns Inv-loop μ-loop
 returns c = all-end _ _ _ _ _ _ _ (c .before .before .before .before .before .before .before .before .pre) _ _ _ (c .before .loop .inv .0) (c .loop-test .left) (c .before .loop .inv .1) (c .before .loop .inv .2)
 

@@ -11,69 +11,53 @@ use Rattle.rows.proofs.put_place.Reads as reads
 use Rattle.rows.proofs.put_place.Lts as lts
 use Rattle.rows.proofs.keys_from.Reads as keys-from-reads
 use Rattle.rows.proofs.put.Reads as put-reads
-use Rattle.rows.proofs.word_at.Reads as word-at-reads
+use Rattle.words.proofs.word_at.Reads as word-at-reads
 
--- src/lib.rt:319:13
 mul-l : tie.Need-mul-l
 mul-l c = search needs
 
--- src/lib.rt:320:55
 add-word-at : tie.Need-add-word-at
 add-word-at c = search needs
 
--- src/lib.rt:320:40
 word-at-requires : tie.Need-word-at-requires
 word-at-requires c κs = search needs
 
--- src/lib.rt:320:9
 keys-from-requires : tie.Need-keys-from-requires
 keys-from-requires c κs = search needs
 
--- src/lib.rt:326:9
 word-at-requires-2 : tie.Need-word-at-requires-2
 word-at-requires-2 c κs = search needs
 
--- src/lib.rt:327:24
 add-word-at-2 : tie.Need-add-word-at-2
 add-word-at-2 c = search needs
 
--- src/lib.rt:327:9
 word-at-requires-3 : tie.Need-word-at-requires-3
 word-at-requires-3 c κs = search needs
 
--- src/lib.rt:328:24
 add-word-at-3 : tie.Need-add-word-at-3
 add-word-at-3 c = search needs
 
--- src/lib.rt:328:9
 word-at-requires-4 : tie.Need-word-at-requires-4
 word-at-requires-4 c κs = search needs
 
--- src/lib.rt:329:24
 add-word-at-4 : tie.Need-add-word-at-4
 add-word-at-4 c = search needs
 
--- src/lib.rt:329:9
 word-at-requires-5 : tie.Need-word-at-requires-5
 word-at-requires-5 c κs = search needs
 
--- src/lib.rt:330:24
 add-word-at-5 : tie.Need-add-word-at-5
 add-word-at-5 c = search needs
 
--- src/lib.rt:330:9
 word-at-requires-6 : tie.Need-word-at-requires-6
 word-at-requires-6 c κs = search needs
 
--- src/lib.rt:321:5
 put-requires : tie.Need-put-requires
 put-requires c κs = search needs
 
--- src/lib.rt:314:1
 same-length : tie.Need-same-length
 same-length c = search needs
 
--- src/lib.rt:314:1
 returns : tie.Need-returns
 returns c = (c .before .before .put .ensures .0 ∙ ap (putAt (c .before .before .before .before .before .before .before .before .before .before .before .before .before .args .table .now) (c .before .before .before .before .before .before .before .before .before .before .before .before .before .args .at)) (row-words (c .before .before .before .before .before .before .before .before .before .before .before .before .before .args .lines .now) _ _ _ _ _ _ _ _ _ _ _ (c .before .before .before .before .before .before .before .before .before .before .word-at .ensures) (c .before .before .before .before .before .before .before .before .before .keys-from .ensures) (c .before .before .before .before .before .before .before .word-at2 .ensures) (c .before .before .before .before .before .before .word-at3 .ensures) (c .before .before .before .before .before .word-at4 .ensures) (c .before .before .before .before .word-at5 .ensures) (c .before .before .before .word-at6 .ensures)), c .before .before .put .ensures .1)
 

@@ -10,7 +10,7 @@ use Rattle.rows.proofs.put_places.Tie as tie
 use Rattle.rows.proofs.put_places.Reads as reads
 use Rattle.rows.proofs.put_places.Lts as lts
 use Rattle.rows.proofs.put_place.Reads as put-place-reads
-use Rattle.rows.proofs.word_at.Reads as word-at-reads
+use Rattle.words.proofs.word_at.Reads as word-at-reads
 
 abbrev Inv-loop : tie.InvT-loop
 Inv-loop lines first node words start n table₀ i₀ table i = (i ≤ n) × (table ≡ putAt table₀ (start * 8) (nodeRows lines first node words start i))
@@ -18,51 +18,39 @@ Inv-loop lines first node words start n table₀ i₀ table i = (i ≤ n) × (ta
 abbrev μ-loop : tie.MeasureT-loop
 μ-loop lines first node words start n table₀ i₀ table i = n - i
 
--- src/lib.rt:341:5
 loop-holds : tie.Need-loop-holds Inv-loop μ-loop
 loop-holds c = (search needs, rows-start _ _ _ _ _ _ _ (c .before .before .before .pre))
 
--- src/lib.rt:342:35
 add-word-at : tie.Need-add-word-at Inv-loop μ-loop
 add-word-at c = search needs
 
--- src/lib.rt:342:13
 word-at-requires : tie.Need-word-at-requires Inv-loop μ-loop
 word-at-requires c κs = search needs
 
--- src/lib.rt:343:63
 add-put-place : tie.Need-add-put-place Inv-loop μ-loop
 add-put-place c = search needs
 
--- src/lib.rt:343:62
 mul-put-place : tie.Need-mul-put-place Inv-loop μ-loop
 mul-put-place c = search needs
 
--- src/lib.rt:343:9
 put-place-requires : tie.Need-put-place-requires Inv-loop μ-loop
 put-place-requires c κs = rows-room _ _ _ _ _ _ _ (c .before .before .before .before .before .before .before .pre) _ _ (c .before .before .loop-test .taken) (c .before .before .before .loop .inv .1)
 
--- src/lib.rt:344:9
 add-i : tie.Need-add-i Inv-loop μ-loop
 add-i c = search needs
 
--- src/lib.rt:341:5
 loop-less : tie.Need-loop-less Inv-loop μ-loop
 loop-less c = search needs
 
--- src/lib.rt:341:5
 loop-again : tie.Need-loop-again Inv-loop μ-loop
 loop-again c = (search needs, rows-next _ _ _ _ _ _ _ (c .before .before .before .before .before .before .before .before .before .before .pre) _ _ (c .before .before .before .before .before .loop-test .taken) (c .before .before .before .before .before .before .loop .inv .1) _ (c .before .before .before .before .word-at .ensures) _ (c .before .before .put-place .ensures .0))
 
--- src/lib.rt:346:5
 add-result : tie.Need-add-result Inv-loop μ-loop
 add-result c = search needs
 
--- src/lib.rt:336:1
 same-length : tie.Need-same-length Inv-loop μ-loop
 same-length c = rows-same _ _ _ _ _ _ _ (c .before .before .before .before .before .pre) _ _ (c .before .loop .inv .0) (c .before .loop .inv .1)
 
--- src/lib.rt:336:1
 returns : tie.Need-returns Inv-loop μ-loop
 returns c = (rows-end _ _ _ _ _ _ _ (c .before .before .before .before .before .pre) _ _ (c .before .loop .inv .0) (c .loop-test .left) (c .before .loop .inv .1), refl)
 

@@ -9,15 +9,12 @@ use Rattle.rows.proofs.reads_of.Tie as tie
 use Rattle.rows.proofs.reads_of.Reads as reads
 use Rattle.rows.proofs.reads_of.Lts as lts
 
--- src/lib.rt:136:9
 returns : tie.Need-returns
 returns c = reads-none _ _ (c .if1 .taken)
 
--- src/lib.rt:139:9
 returns-2 : tie.Need-returns-2
 returns-2 c = reads-large _ _ (c .before .if1 .left) (c .if2 .taken)
 
--- src/lib.rt:132:1
 returns-3 : tie.Need-returns-3
 returns-3 c = reads-all _ _ (c .before .if1 .left) (c .if2 .left)
 

@@ -9,7 +9,6 @@ use Rattle.rows.proofs.rows_refused.Tie as tie
 use Rattle.rows.proofs.rows_refused.Reads as reads
 use Rattle.rows.proofs.rows_refused.Lts as lts
 
--- src/lib.rt:340:1
 returns : tie.Need-returns
 unfolding rowsRefused
 returns c = refl

@@ -10,22 +10,18 @@ use Rattle.rows.proofs.tests_of.Tie as tie
 use Rattle.rows.proofs.tests_of.Reads as reads
 use Rattle.rows.proofs.tests_of.Lts as lts
 
--- src/lib.rt:160:9
 returns : tie.Need-returns
 unfolding testsBy
 returns c = sym (simp (eq-eqb _ 2 (c .if1 .taken)))
 
--- src/lib.rt:163:9
 returns-2 : tie.Need-returns-2
 unfolding testsBy
 returns-2 c = sym (simp (ne-eqb _ 2 (c .before .if1 .left), eq-eqb _ 4 (c .if2 .taken)))
 
--- src/lib.rt:166:9
 returns-3 : tie.Need-returns-3
 unfolding testsBy
 returns-3 c = sym (simp (ne-eqb _ 2 (c .before .before .if1 .left), ne-eqb _ 4 (c .before .if2 .left), eq-eqb _ 6 (c .if3 .taken)))
 
--- src/lib.rt:156:1
 returns-4 : tie.Need-returns-4
 unfolding testsBy
 returns-4 c = sym (simp (ne-eqb _ 2 (c .before .before .if1 .left), ne-eqb _ 4 (c .before .if2 .left), ne-eqb _ 6 (c .if3 .left)))

@@ -9,7 +9,7 @@ use Rattle.rows.proofs.total.Statement.{statement}
 use Rattle.rows.proofs.total.Tie as tie
 use Rattle.rows.proofs.total.Reads as reads
 use Rattle.rows.proofs.total.Lts as lts
-use Rattle.rows.proofs.word_at.Reads as word-at-reads
+use Rattle.words.proofs.word_at.Reads as word-at-reads
 
 abbrev Inv-loop : tie.InvT-loop
 Inv-loop lengths n at₀ j₀ at j = (j ≤ n) × (at ≡ totalOf lengths j)
@@ -17,32 +17,25 @@ Inv-loop lengths n at₀ j₀ at j = (j ≤ n) × (at ≡ totalOf lengths j)
 abbrev μ-loop : tie.MeasureT-loop
 μ-loop lengths n at₀ j₀ at j = n - j
 
--- src/lib.rt:373:5
 loop-holds : tie.Need-loop-holds Inv-loop μ-loop
 unfolding totalOf
 loop-holds c = (search needs, refl)
 
--- src/lib.rt:374:22
 word-at-requires : tie.Need-word-at-requires Inv-loop μ-loop
 word-at-requires c κs = search needs
 
--- src/lib.rt:375:9
 add-at : tie.Need-add-at Inv-loop μ-loop
 add-at c = omega (arith, total-most (c .before .before .before .before .args .lengths .now) (c .before .before .before .before .args .n) (c .before .before .loop .j) (c .before .loop-test .taken), c .word-at .ensures, c .before .before .loop .inv .1, c .before .before .before .before .pre)
 
--- src/lib.rt:376:9
 add-j : tie.Need-add-j Inv-loop μ-loop
 add-j c = search needs
 
--- src/lib.rt:373:5
 loop-less : tie.Need-loop-less Inv-loop μ-loop
 loop-less c = search needs
 
--- src/lib.rt:373:5
 loop-again : tie.Need-loop-again Inv-loop μ-loop
 loop-again c = (search needs, total-next _ _ _ _ (c .before .before .loop .inv .1) (c .word-at .ensures))
 
--- src/lib.rt:367:1
 returns : tie.Need-returns Inv-loop μ-loop
 returns c = total-end _ _ _ _ (c .before .loop .inv .0) (c .loop-test .left) (c .before .loop .inv .1)
 

@@ -9,11 +9,9 @@ use Rattle.rows.proofs.with_bit.Tie as tie
 use Rattle.rows.proofs.with_bit.Reads as reads
 use Rattle.rows.proofs.with_bit.Lts as lts
 
--- src/lib.rt:66:11
 shl-result : tie.Need-shl-result
 shl-result c = search needs
 
--- src/lib.rt:62:1
 returns : tie.Need-returns
 returns c = shifted-bit (c .args .set) (c .args .k) (c .pre)
 

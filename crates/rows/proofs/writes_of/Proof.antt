@@ -10,17 +10,14 @@ use Rattle.rows.proofs.writes_of.Tie as tie
 use Rattle.rows.proofs.writes_of.Reads as reads
 use Rattle.rows.proofs.writes_of.Lts as lts
 
--- src/lib.rt:148:9
 returns : tie.Need-returns
 unfolding writesBy
 returns c = sym (simp (eq-eqb _ 1 (c .if1 .taken)))
 
--- src/lib.rt:151:9
 returns-2 : tie.Need-returns-2
 unfolding writesBy
 returns-2 c = sym (simp (ne-eqb _ 1 (c .before .if1 .left), eq-eqb _ 2 (c .if2 .taken)))
 
--- src/lib.rt:144:1
 returns-3 : tie.Need-returns-3
 unfolding writesBy
 returns-3 c = sym (simp (ne-eqb _ 1 (c .before .if1 .left), ne-eqb _ 2 (c .if2 .left)))

@@ -10,19 +10,15 @@ use Rattle.stages.proofs.rows_word.Reads as reads
 use Rattle.stages.proofs.rows_word.Lts as lts
 use Rattle.stages.proofs.refusal_word.Reads as refusal-word-reads
 
--- src/lib.rt:92:9
 refusal-word-requires : tie.Need-refusal-word-requires
 refusal-word-requires c κs = search needs
 
--- src/lib.rt:92:9
 returns : tie.Need-returns
 returns c = rows-refused _ (c .before .if1 .taken) (c .refusal-word .ensures)
 
--- src/lib.rt:94:5
 cast-result : tie.Need-cast-result
 cast-result c = search needs
 
--- src/lib.rt:88:1
 returns-2 : tie.Need-returns-2
 returns-2 c = rows-taken _ (c .before .if1 .left) refl
 

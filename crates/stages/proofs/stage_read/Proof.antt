@@ -12,23 +12,18 @@ use Rattle.reader.proofs.read_text.Reads as read-text-reads
 use Rattle.stages.proofs.refusal_word.Reads as refusal-word-reads
 use Rattle.stages.proofs.value_word.Reads as value-word-reads
 
--- src/lib.rt:41:9
 read-text-requires : tie.Need-read-text-requires
 read-text-requires c κs = search needs
 
--- src/lib.rt:43:9
 refusal-word-requires : tie.Need-refusal-word-requires
 refusal-word-requires c κs = search needs
 
--- src/lib.rt:43:9
 returns : tie.Need-returns
 returns c = read-refused (c .before .before .before .read-text .ensures) (c .before .if1 .taken) (c .refusal-word .ensures)
 
--- src/lib.rt:46:5
 value-word-requires : tie.Need-value-word-requires
 value-word-requires c κs = search needs
 
--- src/lib.rt:37:1
 returns-2 : tie.Need-returns-2
 returns-2 c = read-taken (c .before .before .before .before .read-text .ensures) (c .before .before .if1 .left) (c .value-word .ensures)
 

@@ -12,27 +12,21 @@ use Rattle.reader.proofs.read_text.Reads as read-text-reads
 use Rattle.stages.proofs.refusal_word.Reads as refusal-word-reads
 use Rattle.stages.proofs.unfold_value.Reads as unfold-value-reads
 
--- src/lib.rt:80:9
 read-text-requires : tie.Need-read-text-requires
 read-text-requires c κs = search needs
 
--- src/lib.rt:82:9
 refusal-word-requires : tie.Need-refusal-word-requires
 refusal-word-requires c κs = search needs
 
--- src/lib.rt:82:9
 returns : tie.Need-returns
 returns c = unfold-refused (c .before .before .before .read-text .ensures) (c .before .if1 .taken) (c .refusal-word .ensures)
 
--- src/lib.rt:85:5
 unfold-value-requires : tie.Need-unfold-value-requires
 unfold-value-requires c κs = search needs
 
--- src/lib.rt:76:1
 same-length : tie.Need-same-length
 same-length c = search needs
 
--- src/lib.rt:76:1
 returns-2 : tie.Need-returns-2
 returns-2 c = unfold-goes-on (c .before .before .before .before .before .before .before .read-text .ensures) (c .before .before .before .before .before .if1 .left) (c .before .before .unfold-value .ensures)
 

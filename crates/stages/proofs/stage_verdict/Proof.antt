@@ -12,27 +12,21 @@ use Rattle.reader.proofs.read_text.Reads as read-text-reads
 use Rattle.stages.proofs.judge_value.Reads as judge-value-reads
 use Rattle.stages.proofs.refusal_word.Reads as refusal-word-reads
 
--- src/lib.rt:151:9
 read-text-requires : tie.Need-read-text-requires
 read-text-requires c κs = search needs
 
--- src/lib.rt:153:9
 refusal-word-requires : tie.Need-refusal-word-requires
 refusal-word-requires c κs = search needs
 
--- src/lib.rt:153:9
 returns : tie.Need-returns
 returns c = verdict-refused (c .before .before .before .read-text .ensures) (c .before .if1 .taken) (c .refusal-word .ensures)
 
--- src/lib.rt:156:5
 judge-value-requires : tie.Need-judge-value-requires
 judge-value-requires c κs = search needs
 
--- src/lib.rt:147:1
 same-length : tie.Need-same-length
 same-length c = search needs
 
--- src/lib.rt:147:1
 returns-2 : tie.Need-returns-2
 returns-2 c = verdict-goes-on (c .before .before .before .before .before .before .before .read-text .ensures) (c .before .before .before .before .before .if1 .left) (c .before .before .judge-value .ensures)
 

@@ -11,31 +11,24 @@ use Rattle.stages.proofs.unfold_word.Lts as lts
 use Rattle.stages.proofs.places_told.Reads as places-told-reads
 use Rattle.stages.proofs.refusal_word.Reads as refusal-word-reads
 
--- src/lib.rt:63:9
 refusal-word-requires : tie.Need-refusal-word-requires
 refusal-word-requires c κs = search needs
 
--- src/lib.rt:63:9
 returns : tie.Need-returns
 returns c = nodes-refused _ (c .before .if1 .taken) (c .refusal-word .ensures)
 
--- src/lib.rt:65:17
 cast-nodes : tie.Need-cast-nodes
 cast-nodes c = search needs
 
--- src/lib.rt:66:5
 mul-result : tie.Need-mul-result
 mul-result c = search needs
 
--- src/lib.rt:66:21
 places-told-requires : tie.Need-places-told-requires
 places-told-requires c κs = search needs
 
--- src/lib.rt:66:5
 add-result : tie.Need-add-result
 add-result c = search needs
 
--- src/lib.rt:59:1
 returns-2 : tie.Need-returns-2
 returns-2 c = nodes-taken _ (c .before .before .if1 .left) (c .places-told .ensures)
 

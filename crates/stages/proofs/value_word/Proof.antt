@@ -9,31 +9,24 @@ use Rattle.stages.proofs.value_word.Reads as reads
 use Rattle.stages.proofs.value_word.Lts as lts
 use Rattle.stages.proofs.line_sum.Reads as line-sum-reads
 
--- src/lib.rt:32:13
 mul-l : tie.Need-mul-l
 mul-l c = search needs
 
--- src/lib.rt:32:13
 element-copy-out-l : tie.Need-element-copy-out-l
 element-copy-out-l c = search needs
 
--- src/lib.rt:33:9
 line-sum-requires : tie.Need-line-sum-requires
 line-sum-requires c κs = search needs
 
--- src/lib.rt:34:6
 mul-result : tie.Need-mul-result
 mul-result c = search needs
 
--- src/lib.rt:34:6
 add-result : tie.Need-add-result
 add-result c = search needs
 
--- src/lib.rt:34:5
 cast-result : tie.Need-cast-result
 cast-result c = search needs
 
--- src/lib.rt:29:1
 returns : tie.Need-returns
 returns c = ap (λ (s : ℕ). s * 65536 + c .before .before .args .t1 .count % 65536) (c .line-sum .ensures)
 

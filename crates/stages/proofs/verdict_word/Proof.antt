@@ -10,27 +10,21 @@ use Rattle.stages.proofs.verdict_word.Reads as reads
 use Rattle.stages.proofs.verdict_word.Lts as lts
 use Rattle.stages.proofs.refusal_word.Reads as refusal-word-reads
 
--- src/lib.rt:130:9
 refusal-word-requires : tie.Need-refusal-word-requires
 refusal-word-requires c κs = search needs
 
--- src/lib.rt:130:9
 returns : tie.Need-returns
 returns c = judged-refused _ (c .before .if1 .taken) (c .refusal-word .ensures)
 
--- src/lib.rt:132:17
 cast-edges : tie.Need-cast-edges
 cast-edges c = search needs
 
--- src/lib.rt:134:16
 add-result : tie.Need-add-result
 add-result c = search needs
 
--- src/lib.rt:134:9
 returns-2 : tie.Need-returns-2
 returns-2 c = judged-danger _ (c .before .before .if1 .left) (c .if2 .taken) refl
 
--- src/lib.rt:126:1
 returns-3 : tie.Need-returns-3
 returns-3 c = judged-robust _ (c .before .before .if1 .left) (c .if2 .left) refl
 

@@ -4,22 +4,18 @@ use borrow.Author.Needs.{needs}
 use Rattle.standing.proofs.back_stands.Statement.{statement}
 use Rattle.standing.proofs.back_stands.Tie as tie
 
--- src/lib.rt:268:9
 returns : tie.Need-returns
 unfolding rowBack
 returns c =
     simp
     (ne-eqb _ _ (c .if1 .taken))
 
--- src/lib.rt:270:17
 meet-requires : tie.Need-meet-requires
 meet-requires c κs = search needs
 
--- src/lib.rt:271:9
 holds-e-requires : tie.Need-holds-e-requires
 holds-e-requires c κs = search needs
 
--- src/lib.rt:273:9
 returns-2 : tie.Need-returns-2
 unfolding rowBack
 returns-2 c =
@@ -29,15 +25,12 @@ returns-2 c =
       eq-eqb _ _ (c .before .before .before .if1 .left),
     )
 
--- src/lib.rt:276:8
 is-select-requires : tie.Need-is-select-requires
 is-select-requires c κs = search needs
 
--- src/lib.rt:277:12
 holds-d-requires : tie.Need-holds-d-requires
 holds-d-requires c κs = search needs
 
--- src/lib.rt:278:13
 returns-3 : tie.Need-returns-3
 unfolding rowBack
 returns-3 c =
@@ -52,7 +45,6 @@ returns-3 c =
       eq-eqb _ _ (c .before .before .before .before .before .before .before .if1 .left),
     )
 
--- src/lib.rt:264:1
 returns-4 : tie.Need-returns-4
 unfolding rowBack
 returns-4 c =
@@ -66,7 +58,6 @@ returns-4 c =
       eq-eqb _ _ (c .before .before .before .before .before .before .before .if1 .left),
     )
 
--- src/lib.rt:264:1
 returns-5 : tie.Need-returns-5
 unfolding rowBack
 returns-5 c =

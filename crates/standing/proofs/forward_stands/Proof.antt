@@ -4,25 +4,20 @@ use borrow.Author.Needs.{needs}
 use Rattle.standing.proofs.forward_stands.Statement.{statement}
 use Rattle.standing.proofs.forward_stands.Tie as tie
 
--- src/lib.rt:236:9
 returns : tie.Need-returns
 unfolding rowForward
 returns c = simp (ne-eqb _ _ (c .if1 .taken))
 
--- src/lib.rt:238:8
 holds-a-requires : tie.Need-holds-a-requires
 holds-a-requires c κs = search needs
 
--- src/lib.rt:239:9
 returns-2 : tie.Need-returns-2
 unfolding rowForward
 returns-2 c = simp (c .if2 .taken, ← c .before .holds-a .ensures, eq-eqb _ _ (c .before .before .if1 .left))
 
--- src/lib.rt:241:8
 holds-b-requires : tie.Need-holds-b-requires
 holds-b-requires c κs = search needs
 
--- src/lib.rt:242:9
 returns-3 : tie.Need-returns-3
 unfolding rowForward
 returns-3 c =
@@ -34,11 +29,9 @@ returns-3 c =
       eq-eqb _ _ (c .before .before .before .before .if1 .left),
     )
 
--- src/lib.rt:244:8
 holds-c-requires : tie.Need-holds-c-requires
 holds-c-requires c κs = search needs
 
--- src/lib.rt:245:9
 returns-4 : tie.Need-returns-4
 unfolding rowForward
 returns-4 c =
@@ -52,11 +45,9 @@ returns-4 c =
       eq-eqb _ _ (c .before .before .before .before .before .before .if1 .left),
     )
 
--- src/lib.rt:247:8
 holds-d-requires : tie.Need-holds-d-requires
 holds-d-requires c κs = search needs
 
--- src/lib.rt:248:9
 returns-5 : tie.Need-returns-5
 unfolding rowForward
 returns-5 c =
@@ -72,11 +63,9 @@ returns-5 c =
       eq-eqb _ _ (c .before .before .before .before .before .before .before .before .if1 .left),
     )
 
--- src/lib.rt:250:5
 holds-e-requires : tie.Need-holds-e-requires
 holds-e-requires c κs = search needs
 
--- src/lib.rt:232:1
 returns-6 : tie.Need-returns-6
 unfolding rowForward
 returns-6 c =

@@ -3,29 +3,23 @@ use borrow.Author.Needs.{needs}
 use Rattle.standing.proofs.holds_a.Statement.{statement}
 use Rattle.standing.proofs.holds_a.Tie as tie
 
--- src/lib.rt:163:8
 is-delete-requires : tie.Need-is-delete-requires
 is-delete-requires c κs = search needs
 
--- src/lib.rt:164:9
 returns : tie.Need-returns
 unfolding rowHolds
 returns c = simp (c .if1 .taken, ← c .before .is-delete .ensures)
 
--- src/lib.rt:167:8
 is-insert-requires : tie.Need-is-insert-requires
 is-insert-requires c κs = search needs
 
--- src/lib.rt:168:9
 returns-2 : tie.Need-returns-2
 unfolding rowHolds
 returns-2 c = simp (c .if2 .taken, ← c .before .is-insert .ensures, c .before .before .if1 .left, ← c .before .before .before .is-delete .ensures)
 
--- src/lib.rt:170:5
 meet-requires : tie.Need-meet-requires
 meet-requires c κs = search needs
 
--- src/lib.rt:159:1
 returns-3 : tie.Need-returns-3
 unfolding rowHolds
 returns-3 c =

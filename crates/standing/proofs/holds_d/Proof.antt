@@ -3,20 +3,16 @@ use borrow.Author.Needs.{needs}
 use Rattle.standing.proofs.holds_d.Statement.{statement}
 use Rattle.standing.proofs.holds_d.Tie as tie
 
--- src/lib.rt:214:8
 is-insert-requires : tie.Need-is-insert-requires
 is-insert-requires c κs = search needs
 
--- src/lib.rt:215:9
 returns : tie.Need-returns
 unfolding rowHolds
 returns c = simp (c .if1 .taken, ← c .before .is-insert .ensures)
 
--- src/lib.rt:217:5
 meet-requires : tie.Need-meet-requires
 meet-requires c κs = search needs
 
--- src/lib.rt:210:1
 returns-2 : tie.Need-returns-2
 unfolding rowHolds
 returns-2 c = simp (← c .meet .ensures, c .before .if1 .left, ← c .before .before .is-insert .ensures)

@@ -5,8 +5,8 @@ use Rattle.takeline.proofs.take_closing.Tie as tie
 use Rattle.takeline.proofs.take_closing.Reads as reads
 use Rattle.takeline.proofs.take_closing.Lts as lts
 
-word-requires : tie.Need-word-requires
-word-requires c κs = search needs
+word-at-requires : tie.Need-word-at-requires
+word-at-requires c κs = search needs
 
 previous-requires : tie.Need-previous-requires
 previous-requires c κs = search needs
@@ -26,7 +26,7 @@ same-length c = search needs
 returns : tie.Need-returns
 returns c = took-closing
     (c .before .before .before .before .before .before .before .before .before .before .before .before .before .before .before .before .pre)
-    (c .before .before .before .before .before .before .before .before .before .before .before .before .before .word .ensures)
+    (c .before .before .before .before .before .before .before .before .before .before .before .before .before .word-at .ensures)
     (c .before .before .before .before .before .before .before .before .before .before .before .previous .ensures)
     (c .before .before .before .before .before .before .before .before .before .before .set-word .ensures)
     (c .before .before .before .before .before .before .advance .ensures) (c .before .before .advance2 .ensures)
@@ -35,7 +35,7 @@ pub take-closing-spec : {M : Type 1} → statement M
 take-closing-spec =
     tie.close
     (tie.spec
-    word-requires
+    word-at-requires
     previous-requires
     set-word-requires
     advance-requires

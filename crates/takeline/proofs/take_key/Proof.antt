@@ -5,8 +5,8 @@ use Rattle.takeline.proofs.take_key.Tie as tie
 use Rattle.takeline.proofs.take_key.Reads as reads
 use Rattle.takeline.proofs.take_key.Lts as lts
 
-word-requires : tie.Need-word-requires
-word-requires c κs = search needs
+word-at-requires : tie.Need-word-at-requires
+word-at-requires c κs = search needs
 
 put-requires : tie.Need-put-requires
 put-requires c κs = search needs
@@ -24,13 +24,13 @@ same-length : tie.Need-same-length
 same-length c = search needs
 
 returns : tie.Need-returns
-returns c = took-key (c .before .before .before .before .before .before .before .before .before .before .before .before .before .before .before .before .before .before .before .args .child) (c .before .before .before .before .before .before .before .before .before .before .before .before .before .before .before .before .before .before .before .args .parent) (c .before .before .before .before .before .before .before .before .before .before .before .before .before .before .before .before .before .before .before .pre) (c .before .before .before .before .before .before .before .before .before .before .before .before .before .before .before .before .word .ensures) (c .before .before .before .before .before .before .before .before .before .before .before .before .before .before .put .ensures) (c .before .before .before .before .before .before .before .before .before .before .put2 .ensures) (c .before .before .before .before .before .before .advance .ensures) (c .before .before .advance2 .ensures)
+returns c = took-key (c .before .before .before .before .before .before .before .before .before .before .before .before .before .before .before .before .before .before .before .args .child) (c .before .before .before .before .before .before .before .before .before .before .before .before .before .before .before .before .before .before .before .args .parent) (c .before .before .before .before .before .before .before .before .before .before .before .before .before .before .before .before .before .before .before .pre) (c .before .before .before .before .before .before .before .before .before .before .before .before .before .before .before .before .word-at .ensures) (c .before .before .before .before .before .before .before .before .before .before .before .before .before .before .put .ensures) (c .before .before .before .before .before .before .before .before .before .before .put2 .ensures) (c .before .before .before .before .before .before .advance .ensures) (c .before .before .advance2 .ensures)
 
 pub take-key-spec : {M : Type 1} → statement M
 take-key-spec =
     tie.close
     (tie.spec
-    word-requires
+    word-at-requires
     put-requires
     put-requires-2
     advance-requires

@@ -5,8 +5,8 @@ use Rattle.takeline.proofs.take_relation.Tie as tie
 use Rattle.takeline.proofs.take_relation.Reads as reads
 use Rattle.takeline.proofs.take_relation.Lts as lts
 
-word-requires : tie.Need-word-requires
-word-requires c κs = search needs
+word-at-requires : tie.Need-word-at-requires
+word-at-requires c κs = search needs
 
 put-requires : tie.Need-put-requires
 put-requires c κs = search needs
@@ -24,11 +24,11 @@ returns : tie.Need-returns
 returns c = took-relation
     (c .before .before .before .before .before .before .before .before .before .before .before .before .before .before .before .args .reads)
     (c .before .before .before .before .before .before .before .before .before .before .before .before .before .before .before .pre)
-    (c .before .before .before .before .before .before .before .before .before .before .before .before .word .ensures)
+    (c .before .before .before .before .before .before .before .before .before .before .before .before .word-at .ensures)
     (c .before .before .before .before .before .before .before .before .before .before .put .ensures)
     (c .before .before .before .before .before .before .advance .ensures) (c .before .before .advance2 .ensures)
 
 pub take-relation-spec : {M : Type 1} → statement M
 take-relation-spec =
     tie.close
-    (tie.spec word-requires put-requires advance-requires advance-requires-2 same-length returns)
+    (tie.spec word-at-requires put-requires advance-requires advance-requires-2 same-length returns)

@@ -5,8 +5,8 @@ use Rattle.takeline.proofs.take_second.Tie as tie
 use Rattle.takeline.proofs.take_second.Reads as reads
 use Rattle.takeline.proofs.take_second.Lts as lts
 
-word-requires : tie.Need-word-requires
-word-requires c κs = search needs
+word-at-requires : tie.Need-word-at-requires
+word-at-requires c κs = search needs
 
 cell-requires : tie.Need-cell-requires
 cell-requires c κs = search needs
@@ -21,10 +21,10 @@ same-length : tie.Need-same-length
 same-length c = search needs
 
 returns : tie.Need-returns
-returns c = took-second (c .before .before .before .before .before .before .before .word .ensures)
+returns c = took-second (c .before .before .before .before .before .before .before .word-at .ensures)
     (c .before .before .before .before .before .cell .ensures) (c .before .before .before .previous .ensures) (c .before .before .push .ensures)
 
 pub take-second-spec : {M : Type 1} → statement M
 take-second-spec =
     tie.close
-    (tie.spec word-requires cell-requires previous-requires push-requires same-length returns)
+    (tie.spec word-at-requires cell-requires previous-requires push-requires same-length returns)

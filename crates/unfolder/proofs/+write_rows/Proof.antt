@@ -27,7 +27,6 @@ abbrev write-rows-below : ℕ → In 4 write-rows-kinds.ps
 write-rows-below t =
     and 4 write-rows-kinds.ps (falls 4 write-rows-kinds.ps _<_ μ-write-rows t) write-rows.Pre
 
--- src/lib.rt:287:9
 write-rows-returns : (t : ℕ) → write-rows-lts.Need-returns (
   write-run-reads.Asked,
   write-run-reads.Learnt,
@@ -37,9 +36,8 @@ write-rows-returns : (t : ℕ) → write-rows-lts.Need-returns (
   write-rows.Post,
 ) (write-rows-at t) write-rows.Post
 write-rows-returns t c =
-    rowed-nothing _ _ _ (rows-end (row (c .before .before .before .before .before .args .program) (c .before .before .before .before .before .args .codes .now) (c .before .before .before .before .before .args .words .now) (c .before .before .before .before .before .args .marks .now) (c .before .before .before .before .before .args .at) (c .before .before .before .before .before .args .left)) (c .before .before .before .before .before .args .k) (c .before .before .before .before .before .args .n) (c .if1 .taken))
+    rowed-nothing _ _ _ (rows-end (row (c .before .before .before .before .before .args .program) (c .before .before .before .before .before .args .codes .now) (c .before .before .before .before .before .args .words .now) (c .before .before .before .before .before .args .marks .now) (c .before .before .before .before .before .args .at) (c .before .before .before .before .before .args .left)) (c .before .before .before .before .before .args .k) (c .before .before .before .before .before .args .n) (omega (arith, c .if1 .taken)))
 
--- src/lib.rt:289:9
 write-rows-write-run-requires : (t : ℕ) → write-rows-lts.Need-write-run-requires (
   write-run-reads.Asked,
   write-run-reads.Learnt,
@@ -50,7 +48,6 @@ write-rows-write-run-requires : (t : ℕ) → write-rows-lts.Need-write-run-requ
 ) (write-rows-at t) write-rows.Post
 write-rows-write-run-requires t c κs = search needs
 
--- src/lib.rt:290:9
 write-rows-add-requires : (t : ℕ) → write-rows-lts.Need-add-requires (
   write-run-reads.Asked,
   write-run-reads.Learnt,
@@ -61,9 +58,8 @@ write-rows-add-requires : (t : ℕ) → write-rows-lts.Need-add-requires (
 ) (write-rows-at t) write-rows.Post
 unfolding row
 write-rows-add-requires t c κs =
-    (row-cell _ _ _ (rows-step (row (c .before .before .before .before .before .before .before .before .before .args .program) (c .before .before .before .before .before .before .before .before .before .args .codes .now) (c .before .before .before .before .before .before .before .before .before .args .words .now) (c .before .before .before .before .before .before .before .before .before .args .marks .now) (c .before .before .before .before .before .before .before .before .before .args .at) (c .before .before .before .before .before .before .before .before .before .args .left)) (c .before .before .before .before .before .before .before .before .before .args .k) (c .before .before .before .before .before .before .before .before .before .args .n) (c .before .before .before .before .if1 .left)) (c .before .before .before .before .before .before .before .before .before .args .t) _ (c .before .before .before .before .before .before .before .before .before .pre .1), row-places _ _ _ (rows-step (row (c .before .before .before .before .before .before .before .before .before .args .program) (c .before .before .before .before .before .before .before .before .before .args .codes .now) (c .before .before .before .before .before .before .before .before .before .args .words .now) (c .before .before .before .before .before .before .before .before .before .args .marks .now) (c .before .before .before .before .before .before .before .before .before .args .at) (c .before .before .before .before .before .before .before .before .before .args .left)) (c .before .before .before .before .before .before .before .before .before .args .k) (c .before .before .before .before .before .before .before .before .before .args .n) (c .before .before .before .before .if1 .left)) (c .before .before .before .before .before .before .before .before .before .args .t) _ (c .before .before .before .before .before .before .before .before .before .pre .1) _ _ (c .before .before .write-run .ensures))
+    (row-cell _ _ _ (rows-step (row (c .before .before .before .before .before .before .before .before .before .args .program) (c .before .before .before .before .before .before .before .before .before .args .codes .now) (c .before .before .before .before .before .before .before .before .before .args .words .now) (c .before .before .before .before .before .before .before .before .before .args .marks .now) (c .before .before .before .before .before .before .before .before .before .args .at) (c .before .before .before .before .before .before .before .before .before .args .left)) (c .before .before .before .before .before .before .before .before .before .args .k) (c .before .before .before .before .before .before .before .before .before .args .n) (omega (arith, c .before .before .before .before .if1 .left))) (c .before .before .before .before .before .before .before .before .before .args .t) _ (c .before .before .before .before .before .before .before .before .before .pre .1), row-places _ _ _ (rows-step (row (c .before .before .before .before .before .before .before .before .before .args .program) (c .before .before .before .before .before .before .before .before .before .args .codes .now) (c .before .before .before .before .before .before .before .before .before .args .words .now) (c .before .before .before .before .before .before .before .before .before .args .marks .now) (c .before .before .before .before .before .before .before .before .before .args .at) (c .before .before .before .before .before .before .before .before .before .args .left)) (c .before .before .before .before .before .before .before .before .before .args .k) (c .before .before .before .before .before .before .before .before .before .args .n) (omega (arith, c .before .before .before .before .if1 .left))) (c .before .before .before .before .before .before .before .before .before .args .t) _ (c .before .before .before .before .before .before .before .before .before .pre .1) _ _ (c .before .before .write-run .ensures .lays))
 
--- src/lib.rt:291:38
 write-rows-add-write-rows : (t : ℕ) → write-rows-lts.Need-add-write-rows (
   write-run-reads.Asked,
   write-run-reads.Learnt,
@@ -74,7 +70,6 @@ write-rows-add-write-rows : (t : ℕ) → write-rows-lts.Need-add-write-rows (
 ) (write-rows-at t) write-rows.Post
 write-rows-add-write-rows t c = search needs
 
--- src/lib.rt:291:60
 write-rows-mul-write-rows : (t : ℕ) → write-rows-lts.Need-mul-write-rows (
   write-run-reads.Asked,
   write-run-reads.Learnt,
@@ -85,7 +80,6 @@ write-rows-mul-write-rows : (t : ℕ) → write-rows-lts.Need-mul-write-rows (
 ) (write-rows-at t) write-rows.Post
 write-rows-mul-write-rows t c = search needs
 
--- src/lib.rt:291:60
 write-rows-sub-write-rows : (t : ℕ) → write-rows-lts.Need-sub-write-rows (
   write-run-reads.Asked,
   write-run-reads.Learnt,
@@ -96,7 +90,6 @@ write-rows-sub-write-rows : (t : ℕ) → write-rows-lts.Need-sub-write-rows (
 ) (write-rows-at t) write-rows.Post
 write-rows-sub-write-rows t c = search needs
 
--- src/lib.rt:291:60
 write-rows-part-write-rows-start : (t : ℕ) → write-rows-lts.Need-part-write-rows-start (
   write-run-reads.Asked,
   write-run-reads.Learnt,
@@ -107,7 +100,6 @@ write-rows-part-write-rows-start : (t : ℕ) → write-rows-lts.Need-part-write-
 ) (write-rows-at t) write-rows.Post
 write-rows-part-write-rows-start t c = search needs
 
--- src/lib.rt:291:60
 write-rows-part-write-rows-end : (t : ℕ) → write-rows-lts.Need-part-write-rows-end (
   write-run-reads.Asked,
   write-run-reads.Learnt,
@@ -118,7 +110,6 @@ write-rows-part-write-rows-end : (t : ℕ) → write-rows-lts.Need-part-write-ro
 ) (write-rows-at t) write-rows.Post
 write-rows-part-write-rows-end t c = search needs
 
--- src/lib.rt:291:5
 write-rows-write-rows-requires : (t : ℕ) → write-rows-lts.Need-write-rows-requires (
   write-run-reads.Asked,
   write-run-reads.Learnt,
@@ -129,9 +120,8 @@ write-rows-write-rows-requires : (t : ℕ) → write-rows-lts.Need-write-rows-re
 ) (write-rows-at t) write-rows.Post
 unfolding row
 write-rows-write-rows-requires t c κs =
-    (search needs, more-rows _ _ _ (rows-step (row (c .before .before .before .before .before .before .before .before .before .before .before .args .program) (c .before .before .before .before .before .before .before .before .before .before .before .args .codes .now) (c .before .before .before .before .before .before .before .before .before .before .before .args .words .now) (c .before .before .before .before .before .before .before .before .before .before .before .args .marks .now) (c .before .before .before .before .before .before .before .before .before .before .before .args .at) (c .before .before .before .before .before .before .before .before .before .before .before .args .left)) (c .before .before .before .before .before .before .before .before .before .before .before .args .k) (c .before .before .before .before .before .before .before .before .before .before .before .args .n) (c .before .before .before .before .before .before .if1 .left)) (c .before .before .before .before .before .before .before .before .before .before .before .args .t) _ (c .before .before .before .before .before .before .before .before .before .before .before .pre .1) _ _ (c .before .before .before .before .write-run .ensures) _ (c .before .add .ensures))
+    (search needs, more-rows _ _ _ (rows-step (row (c .before .before .before .before .before .before .before .before .before .before .before .args .program) (c .before .before .before .before .before .before .before .before .before .before .before .args .codes .now) (c .before .before .before .before .before .before .before .before .before .before .before .args .words .now) (c .before .before .before .before .before .before .before .before .before .before .before .args .marks .now) (c .before .before .before .before .before .before .before .before .before .before .before .args .at) (c .before .before .before .before .before .before .before .before .before .before .before .args .left)) (c .before .before .before .before .before .before .before .before .before .before .before .args .k) (c .before .before .before .before .before .before .before .before .before .before .before .args .n) (omega (arith, c .before .before .before .before .before .before .if1 .left))) (c .before .before .before .before .before .before .before .before .before .before .before .args .t) _ (c .before .before .before .before .before .before .before .before .before .before .before .pre .1) _ _ (c .before .before .before .before .write-run .ensures .lays) _ (c .before .add .ensures))
 
--- src/lib.rt:281:1
 write-rows-same-length : (t : ℕ) → write-rows-lts.Need-same-length (
   write-run-reads.Asked,
   write-run-reads.Learnt,
@@ -142,7 +132,6 @@ write-rows-same-length : (t : ℕ) → write-rows-lts.Need-same-length (
 ) (write-rows-at t) write-rows.Post
 write-rows-same-length t c = search needs
 
--- src/lib.rt:281:1
 write-rows-returns-2 : (t : ℕ) → write-rows-lts.Need-returns-2 (
   write-run-reads.Asked,
   write-run-reads.Learnt,
@@ -153,7 +142,7 @@ write-rows-returns-2 : (t : ℕ) → write-rows-lts.Need-returns-2 (
 ) (write-rows-at t) write-rows.Post
 unfolding row
 write-rows-returns-2 t c =
-    rowed-next _ _ _ (rows-step (row (c .before .before .before .before .before .before .before .before .before .before .before .before .before .before .args .program) (c .before .before .before .before .before .before .before .before .before .before .before .before .before .before .args .codes .now) (c .before .before .before .before .before .before .before .before .before .before .before .before .before .before .args .words .now) (c .before .before .before .before .before .before .before .before .before .before .before .before .before .before .args .marks .now) (c .before .before .before .before .before .before .before .before .before .before .before .before .before .before .args .at) (c .before .before .before .before .before .before .before .before .before .before .before .before .before .before .args .left)) (c .before .before .before .before .before .before .before .before .before .before .before .before .before .before .args .k) (c .before .before .before .before .before .before .before .before .before .before .before .before .before .before .args .n) (c .before .before .before .before .before .before .before .before .before .if1 .left)) (c .before .before .before .before .before .before .before .before .before .before .before .before .before .before .args .t) _ (c .before .before .before .before .before .before .before .before .before .before .before .before .before .before .pre .1) _ _ (c .before .before .before .before .before .before .before .write-run .ensures) _ _ _ (c .before .before .before .before .add .ensures) (c .before .before .write-rows .ensures)
+    rowed-next _ _ _ (rows-step (row (c .before .before .before .before .before .before .before .before .before .before .before .before .before .before .args .program) (c .before .before .before .before .before .before .before .before .before .before .before .before .before .before .args .codes .now) (c .before .before .before .before .before .before .before .before .before .before .before .before .before .before .args .words .now) (c .before .before .before .before .before .before .before .before .before .before .before .before .before .before .args .marks .now) (c .before .before .before .before .before .before .before .before .before .before .before .before .before .before .args .at) (c .before .before .before .before .before .before .before .before .before .before .before .before .before .before .args .left)) (c .before .before .before .before .before .before .before .before .before .before .before .before .before .before .args .k) (c .before .before .before .before .before .before .before .before .before .before .before .before .before .before .args .n) (omega (arith, c .before .before .before .before .before .before .before .before .before .if1 .left))) (c .before .before .before .before .before .before .before .before .before .before .before .before .before .before .args .t) _ (c .before .before .before .before .before .before .before .before .before .before .before .before .before .before .pre .1) _ _ (c .before .before .before .before .before .before .before .write-run .ensures .lays) _ _ _ (c .before .before .before .before .add .ensures) (c .before .before .write-rows .ensures)
 
 pub +write-rows-spec : {M : Type 1} → statement M
 +write-rows-spec = close μ-write-rows λ t. write-rows-lts.spec (

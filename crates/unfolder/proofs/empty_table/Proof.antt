@@ -10,7 +10,6 @@ use Rattle.unfolder.proofs.empty_table.Tie as tie
 use Rattle.unfolder.proofs.empty_table.Reads as reads
 use Rattle.unfolder.proofs.empty_table.Lts as lts
 
--- src/lib.rt:321:1
 returns : tie.Need-returns
 unfolding table cells starts flat
 returns c = refl

@@ -9,21 +9,17 @@ use Rattle.unfolder.proofs.next_program.Tie as tie
 use Rattle.unfolder.proofs.next_program.Reads as reads
 use Rattle.unfolder.proofs.next_program.Lts as lts
 
--- src/lib.rt:315:8
 shared-slice-read-if1 : tie.Need-shared-slice-read-if1
 shared-slice-read-if1 c = search needs
 
--- src/lib.rt:316:9
-returns : tie.Need-returns
-returns c = program-stays _ _ _ (c .if1 .taken)
-
--- src/lib.rt:318:5
 add-result : tie.Need-add-result
 add-result c = search needs
 
--- src/lib.rt:311:1
+returns : tie.Need-returns
+returns c = program-next _ _ _ (c .if1 .taken)
+
 returns-2 : tie.Need-returns-2
-returns-2 c = program-next _ _ _ (c .if1 .left)
+returns-2 c = program-stays _ _ _ (c .if1 .left)
 
 pub next-program-spec : {M : Type 1} → statement M
-next-program-spec = tie.close (tie.spec shared-slice-read-if1 returns add-result returns-2)
+next-program-spec = tie.close (tie.spec shared-slice-read-if1 add-result returns returns-2)

@@ -9,7 +9,6 @@ use Rattle.unfolder.proofs.refused.Tie as tie
 use Rattle.unfolder.proofs.refused.Reads as reads
 use Rattle.unfolder.proofs.refused.Lts as lts
 
--- src/lib.rt:354:1
 returns : tie.Need-returns
 unfolding refusedWith
 returns c = refl

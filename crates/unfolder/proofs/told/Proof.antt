@@ -9,7 +9,6 @@ use Rattle.unfolder.proofs.told.Tie as tie
 use Rattle.unfolder.proofs.told.Reads as reads
 use Rattle.unfolder.proofs.told.Lts as lts
 
--- src/lib.rt:360:1
 returns : tie.Need-returns
 unfolding tableTold
 returns c = refl

@@ -14,57 +14,45 @@ use Rattle.linetables.proofs.id_tables.Reads as id-tables-reads
 use Rattle.unfolder.proofs.refused.Reads as refused-reads
 use Rattle.unfolder.proofs.unfold_tables.Reads as unfold-tables-reads
 
--- src/lib.rt:205:9
 is-given-requires : tie.Need-is-given-requires
 is-given-requires c κs = search needs
 
--- src/lib.rt:206:9
 refused-requires : tie.Need-refused-requires
 refused-requires c κs = search needs
 
--- src/lib.rt:206:9
 returns : tie.Need-returns
 returns c =
     not-given-ids _ _ _ (c .before .before .is-given .ensures .no (not-true _ (c .before .if1 .taken))) (c .refused .ensures)
 
--- src/lib.rt:209:9
 id-tables-requires : tie.Need-id-tables-requires
 id-tables-requires c κs = search needs
 
--- src/lib.rt:213:19
 array-share-prefix-codes : tie.Need-array-share-prefix-codes
 array-share-prefix-codes c =
     part-fits (c .before .before .before .before .before .before .args .w) (c .before .before .before .before .is-given .ensures .yes (not-false _ (c .before .before .before .if1 .left))) (c .before .before .id-tables .result .codes) (codes-length (c .before .before .before .before .before .before .args .w) (c .before .before .before .before .is-given .ensures .yes (not-false _ (c .before .before .before .if1 .left))) (c .before .before .id-tables .result .codes) (ids-codes _ _ (c .before .before .id-tables .ensures)))
 
--- src/lib.rt:213:19
 slice-aggregate-unfold-tables : tie.Need-slice-aggregate-unfold-tables
 slice-aggregate-unfold-tables c =
     part-length (c .before .before .before .before .before .before .before .args .w) (c .before .before .before .before .before .is-given .ensures .yes (not-false _ (c .before .before .before .before .if1 .left))) (c .before .before .before .id-tables .result .codes) (codes-length (c .before .before .before .before .before .before .before .args .w) (c .before .before .before .before .before .is-given .ensures .yes (not-false _ (c .before .before .before .before .if1 .left))) (c .before .before .before .id-tables .result .codes) (ids-codes _ _ (c .before .before .before .id-tables .ensures)))
 
--- src/lib.rt:213:32
 array-share-prefix-words : tie.Need-array-share-prefix-words
 array-share-prefix-words c =
     part-fits (c .before .before .before .before .before .before .before .args .w) (c .before .before .before .before .before .is-given .ensures .yes (not-false _ (c .before .before .before .before .if1 .left))) (c .before .before .before .id-tables .result .words) (ids-length (c .before .before .before .before .before .before .before .args .w) (c .before .before .before .before .before .is-given .ensures .yes (not-false _ (c .before .before .before .before .if1 .left))) (c .before .before .before .id-tables .result .words) (ids-words _ _ (c .before .before .before .id-tables .ensures)))
 
--- src/lib.rt:213:32
 slice-aggregate-unfold-tables-2 : tie.Need-slice-aggregate-unfold-tables-2
 slice-aggregate-unfold-tables-2 c =
     part-length (c .before .before .before .before .before .before .before .before .args .w) (c .before .before .before .before .before .before .is-given .ensures .yes (not-false _ (c .before .before .before .before .before .if1 .left))) (c .before .before .before .before .id-tables .result .words) (ids-length (c .before .before .before .before .before .before .before .before .args .w) (c .before .before .before .before .before .before .is-given .ensures .yes (not-false _ (c .before .before .before .before .before .if1 .left))) (c .before .before .before .before .id-tables .result .words) (ids-words _ _ (c .before .before .before .before .id-tables .ensures)))
 
--- src/lib.rt:213:45
 slice-aggregate-unfold-tables-3 : tie.Need-slice-aggregate-unfold-tables-3
 slice-aggregate-unfold-tables-3 c = search needs
 
--- src/lib.rt:213:5
 unfold-tables-requires : tie.Need-unfold-tables-requires
 unfold-tables-requires c κs =
     ready-ids (c .before .before .before .before .before .before .before .before .before .before .args .w) (c .before .before .before .before .before .before .before .before .is-given .ensures .yes (not-false _ (c .before .before .before .before .before .before .before .if1 .left))) _ _ (ids-codes _ _ (c .before .before .before .before .before .before .id-tables .ensures)) (ids-words _ _ (c .before .before .before .before .before .before .id-tables .ensures))
 
--- src/lib.rt:202:1
 same-length : tie.Need-same-length
 same-length c = search needs
 
--- src/lib.rt:202:1
 returns-2 : tie.Need-returns-2
 returns-2 c =
     settled-ids (c .before .before .before .before .before .before .before .before .before .before .before .before .before .args .w) (c .before .before .before .before .before .before .before .before .before .before .before .is-given .ensures .yes (not-false _ (c .before .before .before .before .before .before .before .before .before .before .if1 .left))) _ _ (ids-codes _ _ (c .before .before .before .before .before .before .before .before .before .id-tables .ensures)) (ids-words _ _ (c .before .before .before .before .before .before .before .before .before .id-tables .ensures)) _ _ _ (c .before .before .unfold-tables .ensures)

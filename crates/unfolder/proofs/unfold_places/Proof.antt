@@ -14,63 +14,50 @@ use Rattle.linetables.proofs.place_tables.Reads as place-tables-reads
 use Rattle.unfolder.proofs.refused.Reads as refused-reads
 use Rattle.unfolder.proofs.unfold_tables.Reads as unfold-tables-reads
 
--- src/lib.rt:220:9
 is-given-requires : tie.Need-is-given-requires
 is-given-requires c κs = search needs
 
--- src/lib.rt:221:9
 refused-requires : tie.Need-refused-requires
 refused-requires c κs = search needs
 
--- src/lib.rt:221:9
 returns : tie.Need-returns
 returns c =
     not-given-places _ _ _ (c .before .before .is-given .ensures .no (not-true _ (c .before .if1 .taken))) (c .refused .ensures)
 
--- src/lib.rt:224:9
 place-tables-requires : tie.Need-place-tables-requires
 place-tables-requires c κs = search needs
 
--- src/lib.rt:228:19
 array-share-prefix-codes : tie.Need-array-share-prefix-codes
 array-share-prefix-codes c =
     part-fits (c .before .before .before .before .before .before .before .args .w) (c .before .before .before .before .before .is-given .ensures .yes (not-false _ (c .before .before .before .before .if1 .left))) (c .before .before .before .place-tables .result .codes) (codes-length (c .before .before .before .before .before .before .before .args .w) (c .before .before .before .before .before .is-given .ensures .yes (not-false _ (c .before .before .before .before .if1 .left))) (c .before .before .before .place-tables .result .codes) (places-codes _ _ (c .before .before .before .place-tables .ensures)))
 
--- src/lib.rt:228:19
 slice-aggregate-unfold-tables : tie.Need-slice-aggregate-unfold-tables
 slice-aggregate-unfold-tables c =
     part-length (c .before .before .before .before .before .before .before .before .args .w) (c .before .before .before .before .before .before .is-given .ensures .yes (not-false _ (c .before .before .before .before .before .if1 .left))) (c .before .before .before .before .place-tables .result .codes) (codes-length (c .before .before .before .before .before .before .before .before .args .w) (c .before .before .before .before .before .before .is-given .ensures .yes (not-false _ (c .before .before .before .before .before .if1 .left))) (c .before .before .before .before .place-tables .result .codes) (places-codes _ _ (c .before .before .before .before .place-tables .ensures)))
 
--- src/lib.rt:228:32
 array-share-prefix-words : tie.Need-array-share-prefix-words
 array-share-prefix-words c =
     part-fits (c .before .before .before .before .before .before .before .before .args .w) (c .before .before .before .before .before .before .is-given .ensures .yes (not-false _ (c .before .before .before .before .before .if1 .left))) (c .before .before .before .before .place-tables .result .words) (numbers-length (c .before .before .before .before .before .before .before .before .args .w) (c .before .before .before .before .before .before .is-given .ensures .yes (not-false _ (c .before .before .before .before .before .if1 .left))) (c .before .before .before .before .place-tables .result .words) (places-words _ _ (c .before .before .before .before .place-tables .ensures)))
 
--- src/lib.rt:228:32
 slice-aggregate-unfold-tables-2 : tie.Need-slice-aggregate-unfold-tables-2
 slice-aggregate-unfold-tables-2 c =
     part-length (c .before .before .before .before .before .before .before .before .before .args .w) (c .before .before .before .before .before .before .before .is-given .ensures .yes (not-false _ (c .before .before .before .before .before .before .if1 .left))) (c .before .before .before .before .before .place-tables .result .words) (numbers-length (c .before .before .before .before .before .before .before .before .before .args .w) (c .before .before .before .before .before .before .before .is-given .ensures .yes (not-false _ (c .before .before .before .before .before .before .if1 .left))) (c .before .before .before .before .before .place-tables .result .words) (places-words _ _ (c .before .before .before .before .before .place-tables .ensures)))
 
--- src/lib.rt:228:45
 array-share-prefix-marks : tie.Need-array-share-prefix-marks
 array-share-prefix-marks c =
     part-fits (c .before .before .before .before .before .before .before .before .before .args .w) (c .before .before .before .before .before .before .before .is-given .ensures .yes (not-false _ (c .before .before .before .before .before .before .if1 .left))) (c .before .before .before .before .before .place-tables .result .marks) (marks-length (c .before .before .before .before .before .before .before .before .before .args .w) (c .before .before .before .before .before .before .before .is-given .ensures .yes (not-false _ (c .before .before .before .before .before .before .if1 .left))) (c .before .before .before .before .before .place-tables .result .marks) (places-marks _ _ (c .before .before .before .before .before .place-tables .ensures)))
 
--- src/lib.rt:228:45
 slice-aggregate-unfold-tables-3 : tie.Need-slice-aggregate-unfold-tables-3
 slice-aggregate-unfold-tables-3 c =
     part-length (c .before .before .before .before .before .before .before .before .before .before .args .w) (c .before .before .before .before .before .before .before .before .is-given .ensures .yes (not-false _ (c .before .before .before .before .before .before .before .if1 .left))) (c .before .before .before .before .before .before .place-tables .result .marks) (marks-length (c .before .before .before .before .before .before .before .before .before .before .args .w) (c .before .before .before .before .before .before .before .before .is-given .ensures .yes (not-false _ (c .before .before .before .before .before .before .before .if1 .left))) (c .before .before .before .before .before .before .place-tables .result .marks) (places-marks _ _ (c .before .before .before .before .before .before .place-tables .ensures)))
 
--- src/lib.rt:228:5
 unfold-tables-requires : tie.Need-unfold-tables-requires
 unfold-tables-requires c κs =
     ready-places (c .before .before .before .before .before .before .before .before .before .before .before .args .w) (c .before .before .before .before .before .before .before .before .before .is-given .ensures .yes (not-false _ (c .before .before .before .before .before .before .before .before .if1 .left))) _ _ _ (places-codes _ _ (c .before .before .before .before .before .before .before .place-tables .ensures)) (places-words _ _ (c .before .before .before .before .before .before .before .place-tables .ensures)) (places-marks _ _ (c .before .before .before .before .before .before .before .place-tables .ensures))
 
--- src/lib.rt:217:1
 same-length : tie.Need-same-length
 same-length c = search needs
 
--- src/lib.rt:217:1
 returns-2 : tie.Need-returns-2
 returns-2 c =
     settled-places (c .before .before .before .before .before .before .before .before .before .before .before .before .before .before .args .w) (c .before .before .before .before .before .before .before .before .before .before .before .before .is-given .ensures .yes (not-false _ (c .before .before .before .before .before .before .before .before .before .before .before .if1 .left))) _ _ _ (places-codes _ _ (c .before .before .before .before .before .before .before .before .before .before .place-tables .ensures)) (places-words _ _ (c .before .before .before .before .before .before .before .before .before .before .place-tables .ensures)) (places-marks _ _ (c .before .before .before .before .before .before .before .before .before .before .place-tables .ensures)) _ _ _ (c .before .before .unfold-tables .ensures)

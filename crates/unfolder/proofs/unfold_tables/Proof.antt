@@ -13,51 +13,40 @@ use Rattle.unfolder.proofs.refused.Reads as refused-reads
 use Rattle.unfolder.proofs.told.Reads as told-reads
 use Rattle.unfolder.proofs.write_all.Reads as write-all-reads
 
--- src/lib.rt:423:9
 count-all-requires : tie.Need-count-all-requires
 count-all-requires c κs = search needs
 
--- src/lib.rt:425:9
 refused-requires : tie.Need-refused-requires
 refused-requires c κs = search needs
 
--- src/lib.rt:425:9
 returns : tie.Need-returns
 returns c =
     many-nodes (c .before .before .before .before .before .before .before .before .args .codes .now) (c .before .before .before .before .before .before .before .before .args .words .now) (c .before .before .before .before .before .before .before .before .args .marks .now) (c .before .before .before .before .before .before .before .before .args .area .now) (c .before .before .before .count-all .result) (c .before .before .before .count-all .ensures) _ (c .before .if1 .taken) (c .refused .ensures)
 
--- src/lib.rt:428:9
 refused-requires-2 : tie.Need-refused-requires-2
 refused-requires-2 c κs = search needs
 
--- src/lib.rt:428:9
 returns-2 : tie.Need-returns-2
 returns-2 c =
     many-statements (c .before .before .before .before .before .before .before .before .before .before .args .codes .now) (c .before .before .before .before .before .before .before .before .before .before .args .words .now) (c .before .before .before .before .before .before .before .before .before .before .args .marks .now) (c .before .before .before .before .before .before .before .before .before .before .args .area .now) (c .before .before .before .before .before .count-all .result) (c .before .before .before .before .before .count-all .ensures) _ (c .before .if2 .taken) (c .refused2 .ensures)
 
--- src/lib.rt:432:9
 refused-requires-3 : tie.Need-refused-requires-3
 refused-requires-3 c κs = search needs
 
--- src/lib.rt:432:9
 returns-3 : tie.Need-returns-3
 returns-3 c =
     short-area (c .before .before .before .before .before .before .before .before .before .before .before .before .args .codes .now) (c .before .before .before .before .before .before .before .before .before .before .before .before .args .words .now) (c .before .before .before .before .before .before .before .before .before .before .before .before .args .marks .now) (c .before .before .before .before .before .before .before .before .before .before .before .before .args .area .now) (c .before .before .before .before .before .before .before .count-all .result) (c .before .before .before .before .before .before .before .count-all .ensures) (c .before .before .before .before .before .if1 .left) (c .before .before .before .if2 .left) _ (c .before .if3 .taken) (c .refused3 .ensures)
 
--- src/lib.rt:434:9
 write-all-requires : tie.Need-write-all-requires
 write-all-requires c κs =
     all-fit (c .before .before .before .before .before .before .before .before .before .before .before .before .args .codes .now) (c .before .before .before .before .before .before .before .before .before .before .before .before .args .words .now) (c .before .before .before .before .before .before .before .before .before .before .before .before .args .marks .now) (c .before .before .before .before .before .before .before .before .before .before .before .before .args .area .now) (c .before .before .before .before .before .before .before .count-all .result) (c .before .before .before .before .before .before .before .count-all .ensures) (c .before .before .before .before .before .if1 .left) (c .before .before .before .if2 .left) (c .before .before .before .before .before .before .before .before .before .before .before .before .pre) (c .before .if3 .left)
 
--- src/lib.rt:435:5
 told-requires : tie.Need-told-requires
 told-requires c κs = search needs
 
--- src/lib.rt:419:1
 same-length : tie.Need-same-length
 same-length c = search needs
 
--- src/lib.rt:419:1
 returns-4 : tie.Need-returns-4
 returns-4 c =
     all-told (c .before .before .before .before .before .before .before .before .before .before .before .before .before .before .before .before .args .codes .now) (c .before .before .before .before .before .before .before .before .before .before .before .before .before .before .before .before .args .words .now) (c .before .before .before .before .before .before .before .before .before .before .before .before .before .before .before .before .args .marks .now) (c .before .before .before .before .before .before .before .before .before .before .before .before .before .before .before .before .args .area .now) (c .before .before .before .before .before .before .before .before .before .before .before .count-all .result) (c .before .before .before .before .before .before .before .before .before .before .before .count-all .ensures) (c .before .before .before .before .before .before .before .before .before .if1 .left) (c .before .before .before .before .before .before .before .if2 .left) (c .before .before .before .before .before .before .before .before .before .before .before .before .before .before .before .before .pre) (c .before .before .before .before .before .if3 .left) _ _ _ (c .before .before .before .write-all .ensures) (c .told .ensures)

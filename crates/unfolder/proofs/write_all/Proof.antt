@@ -18,43 +18,34 @@ Inv-loop codes words marks area₀ t₀ program₀ i₀ area t program i = Going
 abbrev μ-loop : tie.MeasureT-loop
 μ-loop codes words marks area₀ t₀ program₀ i₀ area t program i = length codes - i
 
--- src/lib.rt:332:9
 empty-table-requires : tie.Need-empty-table-requires Inv-loop μ-loop
 empty-table-requires c κs = search needs
 
--- src/lib.rt:335:5
 loop-holds : tie.Need-loop-holds Inv-loop μ-loop
 loop-holds c = going-start _ _ _ _ _ (c .empty-table .ensures)
 
--- src/lib.rt:336:9
 write-line-requires : tie.Need-write-line-requires Inv-loop μ-loop
 write-line-requires c κs =
     (search needs, going-fits _ _ _ _ (c .before .before .before .before .before .before .before .before .pre) _ _ _ _ (c .before .before .loop .inv) (c .before .loop-test .taken))
 
--- src/lib.rt:337:9
 next-program-requires : tie.Need-next-program-requires Inv-loop μ-loop
 next-program-requires c κs =
     (search needs, program-small _ _ _ _ (c .before .before .before .before .before .before .before .before .before .before .before .pre) _ _ _ _ (c .before .before .before .before .before .loop .inv))
 
--- src/lib.rt:338:9
 add-i : tie.Need-add-i Inv-loop μ-loop
 add-i c = search needs
 
--- src/lib.rt:335:5
 loop-less : tie.Need-loop-less Inv-loop μ-loop
 loop-less c = search needs
 
--- src/lib.rt:335:5
 loop-again : tie.Need-loop-again Inv-loop μ-loop
 loop-again c =
     going-next _ _ _ _ (c .before .before .before .before .before .before .before .before .before .before .before .before .pre) _ _ _ _ (c .before .before .before .before .before .before .loop .inv) (c .before .before .before .before .before .loop-test .taken) _ _ _ (c .before .before .before .write-line .ensures) (c .next-program .ensures)
 
--- src/lib.rt:328:1
 same-length : tie.Need-same-length Inv-loop μ-loop
 same-length c =
     going-length _ _ _ _ (c .before .before .before .before .before .before .before .pre) _ _ _ _ (c .before .loop .inv)
 
--- src/lib.rt:328:1
 returns : tie.Need-returns Inv-loop μ-loop
 returns c =
     going-end _ _ _ _ (c .before .before .before .before .before .before .before .pre) _ _ _ _ (c .before .loop .inv) (c .loop-test .left)

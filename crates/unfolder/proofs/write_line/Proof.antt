@@ -11,63 +11,49 @@ use Rattle.unfolder.proofs.write_line.Lts as lts
 use Rattle.counting.proofs.count_run.Reads as count-run-reads
 use Rattle.unfolder.proofs.write_rows.Reads as write-rows-reads
 
--- src/lib.rt:301:8
 shared-slice-read-if1 : tie.Need-shared-slice-read-if1
 shared-slice-read-if1 c = search needs
 
--- src/lib.rt:302:9
 returns : tie.Need-returns
-returns c = lined-none _ _ _ _ _ _ _ (c .if1 .taken)
+returns c = lined-none _ _ _ _ _ _ _ (λ z. omega (arith, z, c .if1 .taken))
 
--- src/lib.rt:304:31
 add-left : tie.Need-add-left
 add-left c = search needs
 
--- src/lib.rt:304:16
 sub-left : tie.Need-sub-left
 sub-left c = search needs
 
--- src/lib.rt:305:30
 add-count-run : tie.Need-add-count-run
 add-count-run c = search needs
 
--- src/lib.rt:305:9
 count-run-requires : tie.Need-count-run-requires
 count-run-requires c κs = search needs
 
--- src/lib.rt:307:28
 add-write-rows : tie.Need-add-write-rows
 add-write-rows c = search needs
 
--- src/lib.rt:307:65
 mul-write-rows : tie.Need-mul-write-rows
 mul-write-rows c = search needs
 
--- src/lib.rt:307:65
 sub-write-rows : tie.Need-sub-write-rows
 sub-write-rows c = search needs
 
--- src/lib.rt:307:65
 part-write-rows-start : tie.Need-part-write-rows-start
 part-write-rows-start c = search needs
 
--- src/lib.rt:307:65
 part-write-rows-end : tie.Need-part-write-rows-end
 part-write-rows-end c = search needs
 
--- src/lib.rt:307:5
 write-rows-requires : tie.Need-write-rows-requires
 write-rows-requires c κs =
-    line-rows-fit _ _ (line-rows (c .before .before .before .before .before .before .before .before .args .codes .now) (c .before .before .before .before .before .before .before .before .args .words .now) (c .before .before .before .before .before .before .before .before .args .marks .now) (c .before .before .before .before .before .before .before .before .args .i) (c .before .before .before .before .before .before .before .before .args .program) (c .before .count-run .result) (c .before .before .if1 .left) (c .before .count-run .ensures)) _ _ (c .before .before .before .before .before .before .before .before .pre .1) (c .before .before .before .before .before .before .before .before .good .1 .1 .1 .1 .1 .1 .0 .0)
+    line-rows-fit _ _ (line-rows (c .before .before .before .before .before .before .before .before .args .codes .now) (c .before .before .before .before .before .before .before .before .args .words .now) (c .before .before .before .before .before .before .before .before .args .marks .now) (c .before .before .before .before .before .before .before .before .args .i) (c .before .before .before .before .before .before .before .before .args .program) (c .before .count-run .result) (omega (arith, c .before .before .if1 .left)) (c .before .count-run .ensures)) _ _ (c .before .before .before .before .before .before .before .before .pre .1) (c .before .before .before .before .before .before .before .before .good .1 .1 .1 .1 .1 .1 .0 .0)
 
--- src/lib.rt:296:1
 same-length : tie.Need-same-length
 same-length c = search needs
 
--- src/lib.rt:296:1
 returns-2 : tie.Need-returns-2
 returns-2 c =
-    lined-rows _ _ (line-rows (c .before .before .before .before .before .before .before .before .before .before .before .args .codes .now) (c .before .before .before .before .before .before .before .before .before .before .before .args .words .now) (c .before .before .before .before .before .before .before .before .before .before .before .args .marks .now) (c .before .before .before .before .before .before .before .before .before .before .before .args .i) (c .before .before .before .before .before .before .before .before .before .before .before .args .program) (c .before .before .before .before .count-run .result) (c .before .before .before .before .before .if1 .left) (c .before .before .before .before .count-run .ensures)) _ _ (c .before .before .before .before .before .before .before .before .before .before .before .pre .1) _ _ (c .before .before .write-rows .ensures)
+    lined-rows _ _ (line-rows (c .before .before .before .before .before .before .before .before .before .before .before .args .codes .now) (c .before .before .before .before .before .before .before .before .before .before .before .args .words .now) (c .before .before .before .before .before .before .before .before .before .before .before .args .marks .now) (c .before .before .before .before .before .before .before .before .before .before .before .args .i) (c .before .before .before .before .before .before .before .before .before .before .before .args .program) (c .before .before .before .before .count-run .result) (omega (arith, c .before .before .before .before .before .if1 .left)) (c .before .before .before .before .count-run .ensures)) _ _ (c .before .before .before .before .before .before .before .before .before .before .before .pre .1) _ _ (c .before .before .write-rows .ensures)
 
 pub write-line-spec : {M : Type 1} → statement M
 write-line-spec =

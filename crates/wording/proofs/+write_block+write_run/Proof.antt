@@ -43,7 +43,6 @@ abbrev write-run-below : ℕ → In 4 write-run-kinds.ps
 write-run-below t =
     and 4 write-run-kinds.ps (falls 4 write-run-kinds.ps _<_ μ-write-run t) write-run.Pre
 
--- src/lib.rt:116:33
 write-block-add-count-run : (t : ℕ) → write-block-lts.Need-add-count-run (
   count-run-reads.Asked,
   count-run-reads.Learnt,
@@ -54,7 +53,6 @@ write-block-add-count-run : (t : ℕ) → write-block-lts.Need-add-count-run (
 ) (write-block-at t) write-block.Post
 write-block-add-count-run t c = search needs
 
--- src/lib.rt:116:9
 write-block-count-run-requires : (t : ℕ) → write-block-lts.Need-count-run-requires (
   count-run-reads.Asked,
   count-run-reads.Learnt,
@@ -65,7 +63,6 @@ write-block-count-run-requires : (t : ℕ) → write-block-lts.Need-count-run-re
 ) (write-block-at t) write-block.Post
 write-block-count-run-requires t c κs = search needs
 
--- src/lib.rt:118:8
 write-block-shared-slice-read-if1 : (t : ℕ) → write-block-lts.Need-shared-slice-read-if1 (
   count-run-reads.Asked,
   count-run-reads.Learnt,
@@ -76,7 +73,6 @@ write-block-shared-slice-read-if1 : (t : ℕ) → write-block-lts.Need-shared-sl
 ) (write-block-at t) write-block.Post
 write-block-shared-slice-read-if1 t c = search needs
 
--- src/lib.rt:120:13
 write-block-returns : (t : ℕ) → write-block-lts.Need-returns (
   count-run-reads.Asked,
   count-run-reads.Learnt,
@@ -88,7 +84,6 @@ write-block-returns : (t : ℕ) → write-block-lts.Need-returns (
 write-block-returns t c =
     loop-none (c .before .before .before .before .before .before .before .before .args .codes .now) (c .before .before .before .before .before .before .before .before .args .words .now) (c .before .before .before .before .before .before .before .before .args .marks .now) (c .before .before .before .before .before .before .before .before .args .seen) (c .before .before .before .before .before .before .before .before .args .at) (c .before .before .before .before .before .before .before .before .args .k) _ (c .before .before .before .before .before .before .before .before .args .left) (c .before .before .before .count-run .result) (c .before .before .before .count-run .ensures) (c .before .if1 .taken) (c .if2 .taken)
 
--- src/lib.rt:123:57
 write-block-add-write-run : (t : ℕ) → write-block-lts.Need-add-write-run (
   count-run-reads.Asked,
   count-run-reads.Learnt,
@@ -99,7 +94,6 @@ write-block-add-write-run : (t : ℕ) → write-block-lts.Need-add-write-run (
 ) (write-block-at t) write-block.Post
 write-block-add-write-run t c = search needs
 
--- src/lib.rt:123:71
 write-block-sub-write-run : (t : ℕ) → write-block-lts.Need-sub-write-run (
   count-run-reads.Asked,
   count-run-reads.Learnt,
@@ -110,7 +104,6 @@ write-block-sub-write-run : (t : ℕ) → write-block-lts.Need-sub-write-run (
 ) (write-block-at t) write-block.Post
 write-block-sub-write-run t c = search needs
 
--- src/lib.rt:123:13
 write-block-write-run-requires : (t : ℕ) → write-block-lts.Need-write-run-requires (
   count-run-reads.Asked,
   count-run-reads.Learnt,
@@ -121,7 +114,6 @@ write-block-write-run-requires : (t : ℕ) → write-block-lts.Need-write-run-re
 ) (write-block-at t) write-block.Post
 write-block-write-run-requires t c κs = search needs
 
--- src/lib.rt:123:13
 write-block-same-length : (t : ℕ) → write-block-lts.Need-same-length (
   count-run-reads.Asked,
   count-run-reads.Learnt,
@@ -132,7 +124,6 @@ write-block-same-length : (t : ℕ) → write-block-lts.Need-same-length (
 ) (write-block-at t) write-block.Post
 write-block-same-length t c = search needs
 
--- src/lib.rt:123:13
 write-block-returns-2 : (t : ℕ) → write-block-lts.Need-returns-2 (
   count-run-reads.Asked,
   count-run-reads.Learnt,
@@ -144,7 +135,6 @@ write-block-returns-2 : (t : ℕ) → write-block-lts.Need-returns-2 (
 write-block-returns-2 t c =
     loop-one (c .before .before .before .before .before .before .before .before .before .before .before .before .before .args .codes .now) (c .before .before .before .before .before .before .before .before .before .before .before .before .before .args .words .now) (c .before .before .before .before .before .before .before .before .before .before .before .before .before .args .marks .now) (c .before .before .before .before .before .before .before .before .before .before .before .before .before .args .seen) (c .before .before .before .before .before .before .before .before .before .before .before .before .before .args .at) (c .before .before .before .before .before .before .before .before .before .before .before .before .before .args .k) _ (c .before .before .before .before .before .before .before .before .before .before .before .before .before .args .left) (c .before .before .before .before .before .before .before .before .count-run .result) (c .before .before .before .before .before .before .before .before .count-run .ensures) _ _ (c .before .before .before .before .before .before .if1 .taken) (c .before .before .before .before .before .if2 .left) (c .before .before .before .before .if3 .taken) (c .before .before .write-run .ensures)
 
--- src/lib.rt:125:17
 write-block-sub-j : (t : ℕ) → write-block-lts.Need-sub-j (
   count-run-reads.Asked,
   count-run-reads.Learnt,
@@ -155,7 +145,6 @@ write-block-sub-j : (t : ℕ) → write-block-lts.Need-sub-j (
 ) (write-block-at t) write-block.Post
 write-block-sub-j t c = search needs
 
--- src/lib.rt:125:17
 write-block-sub-j-2 : (t : ℕ) → write-block-lts.Need-sub-j-2 (
   count-run-reads.Asked,
   count-run-reads.Learnt,
@@ -166,7 +155,6 @@ write-block-sub-j-2 : (t : ℕ) → write-block-lts.Need-sub-j-2 (
 ) (write-block-at t) write-block.Post
 write-block-sub-j-2 t c = search needs
 
--- src/lib.rt:126:54
 write-block-add-write-run-2 : (t : ℕ) → write-block-lts.Need-add-write-run-2 (
   count-run-reads.Asked,
   count-run-reads.Learnt,
@@ -177,7 +165,6 @@ write-block-add-write-run-2 : (t : ℕ) → write-block-lts.Need-add-write-run-2
 ) (write-block-at t) write-block.Post
 write-block-add-write-run-2 t c = search needs
 
--- src/lib.rt:126:68
 write-block-div-write-run : (t : ℕ) → write-block-lts.Need-div-write-run (
   count-run-reads.Asked,
   count-run-reads.Learnt,
@@ -188,7 +175,6 @@ write-block-div-write-run : (t : ℕ) → write-block-lts.Need-div-write-run (
 ) (write-block-at t) write-block.Post
 write-block-div-write-run t c = search needs
 
--- src/lib.rt:126:13
 write-block-write-run-requires-2 : (t : ℕ) → write-block-lts.Need-write-run-requires-2 (
   count-run-reads.Asked,
   count-run-reads.Learnt,
@@ -199,7 +185,6 @@ write-block-write-run-requires-2 : (t : ℕ) → write-block-lts.Need-write-run-
 ) (write-block-at t) write-block.Post
 write-block-write-run-requires-2 t c κs = search needs
 
--- src/lib.rt:133:17
 write-block-add-write-run-3 : (t : ℕ) → write-block-lts.Need-add-write-run-3 (
   count-run-reads.Asked,
   count-run-reads.Learnt,
@@ -210,7 +195,6 @@ write-block-add-write-run-3 : (t : ℕ) → write-block-lts.Need-add-write-run-3
 ) (write-block-at t) write-block.Post
 write-block-add-write-run-3 t c = search needs
 
--- src/lib.rt:135:17
 write-block-rem-write-run : (t : ℕ) → write-block-lts.Need-rem-write-run (
   count-run-reads.Asked,
   count-run-reads.Learnt,
@@ -221,7 +205,6 @@ write-block-rem-write-run : (t : ℕ) → write-block-lts.Need-rem-write-run (
 ) (write-block-at t) write-block.Post
 write-block-rem-write-run t c = search needs
 
--- src/lib.rt:136:17
 write-block-mul-write-run : (t : ℕ) → write-block-lts.Need-mul-write-run (
   count-run-reads.Asked,
   count-run-reads.Learnt,
@@ -232,7 +215,6 @@ write-block-mul-write-run : (t : ℕ) → write-block-lts.Need-mul-write-run (
 ) (write-block-at t) write-block.Post
 write-block-mul-write-run t c = search needs
 
--- src/lib.rt:136:17
 write-block-sub-write-run-2 : (t : ℕ) → write-block-lts.Need-sub-write-run-2 (
   count-run-reads.Asked,
   count-run-reads.Learnt,
@@ -243,7 +225,6 @@ write-block-sub-write-run-2 : (t : ℕ) → write-block-lts.Need-sub-write-run-2
 ) (write-block-at t) write-block.Post
 write-block-sub-write-run-2 t c = search needs
 
--- src/lib.rt:136:17
 write-block-part-write-run-start : (t : ℕ) → write-block-lts.Need-part-write-run-start (
   count-run-reads.Asked,
   count-run-reads.Learnt,
@@ -254,7 +235,6 @@ write-block-part-write-run-start : (t : ℕ) → write-block-lts.Need-part-write
 ) (write-block-at t) write-block.Post
 write-block-part-write-run-start t c = search needs
 
--- src/lib.rt:136:17
 write-block-part-write-run-end : (t : ℕ) → write-block-lts.Need-part-write-run-end (
   count-run-reads.Asked,
   count-run-reads.Learnt,
@@ -265,7 +245,6 @@ write-block-part-write-run-end : (t : ℕ) → write-block-lts.Need-part-write-r
 ) (write-block-at t) write-block.Post
 write-block-part-write-run-end t c = search needs
 
--- src/lib.rt:128:15
 write-block-write-run-requires-3 : (t : ℕ) → write-block-lts.Need-write-run-requires-3 (
   count-run-reads.Asked,
   count-run-reads.Learnt,
@@ -276,7 +255,6 @@ write-block-write-run-requires-3 : (t : ℕ) → write-block-lts.Need-write-run-
 ) (write-block-at t) write-block.Post
 write-block-write-run-requires-3 t c κs = search needs
 
--- src/lib.rt:127:16
 write-block-add-result : (t : ℕ) → write-block-lts.Need-add-result (
   count-run-reads.Asked,
   count-run-reads.Learnt,
@@ -286,9 +264,8 @@ write-block-add-result : (t : ℕ) → write-block-lts.Need-add-result (
   behind-reads.Learnt,
 ) (write-block-at t) write-block.Post
 write-block-add-result t c =
-    omega (arith, lays-inside _ _ (c .before .before .before .before .before .before .before .before .before .before .before .before .before .before .before .before .before .args .out .now) _ _ _ _ (c .before .before .before .before .before .before .write-run2 .ensures) (c .before .before .write-run3 .ensures), (c .before .before .before .before .before .before .before .before .before .before .before .before .before .before .before .before .before .good .1 .1 .1 .1 .1 .1 .1 .0))
+    omega (arith, lays-inside _ _ (c .before .before .before .before .before .before .before .before .before .before .before .before .before .before .before .before .before .args .out .now) _ _ _ _ (c .before .before .before .before .before .before .write-run2 .ensures .lays) (c .before .before .write-run3 .ensures .lays), (c .before .before .before .before .before .before .before .before .before .before .before .before .before .before .before .before .before .good .1 .1 .1 .1 .1 .1 .1 .0))
 
--- src/lib.rt:127:9
 write-block-same-length-2 : (t : ℕ) → write-block-lts.Need-same-length-2 (
   count-run-reads.Asked,
   count-run-reads.Learnt,
@@ -299,7 +276,6 @@ write-block-same-length-2 : (t : ℕ) → write-block-lts.Need-same-length-2 (
 ) (write-block-at t) write-block.Post
 write-block-same-length-2 t c = search needs
 
--- src/lib.rt:127:9
 write-block-returns-3 : (t : ℕ) → write-block-lts.Need-returns-3 (
   count-run-reads.Asked,
   count-run-reads.Learnt,
@@ -311,7 +287,6 @@ write-block-returns-3 : (t : ℕ) → write-block-lts.Need-returns-3 (
 write-block-returns-3 t c =
     loop-two (c .before .before .before .before .before .before .before .before .before .before .before .before .before .before .before .before .before .args .codes .now) (c .before .before .before .before .before .before .before .before .before .before .before .before .before .before .before .before .before .args .words .now) (c .before .before .before .before .before .before .before .before .before .before .before .before .before .before .before .before .before .args .marks .now) (c .before .before .before .before .before .before .before .before .before .before .before .before .before .before .before .before .before .args .seen) (c .before .before .before .before .before .before .before .before .before .before .before .before .before .before .before .before .before .args .at) (c .before .before .before .before .before .before .before .before .before .before .before .before .before .before .before .before .before .args .k) _ (c .before .before .before .before .before .before .before .before .before .before .before .before .before .before .before .before .before .args .left) (c .before .before .before .before .before .before .before .before .before .before .before .before .count-run .result) (c .before .before .before .before .before .before .before .before .before .before .before .before .count-run .ensures) _ _ _ _ (c .before .before .before .before .before .before .before .before .before .before .if1 .taken) (c .before .before .before .before .before .before .before .before .before .if2 .left) (c .before .before .before .before .before .before .before .before .if3 .left) (c .before .before .before .before .before .before .write-run2 .ensures) (c .before .before .write-run3 .ensures)
 
--- src/lib.rt:140:53
 write-block-add-write-run-4 : (t : ℕ) → write-block-lts.Need-add-write-run-4 (
   count-run-reads.Asked,
   count-run-reads.Learnt,
@@ -322,7 +297,6 @@ write-block-add-write-run-4 : (t : ℕ) → write-block-lts.Need-add-write-run-4
 ) (write-block-at t) write-block.Post
 write-block-add-write-run-4 t c = search needs
 
--- src/lib.rt:140:9
 write-block-write-run-requires-4 : (t : ℕ) → write-block-lts.Need-write-run-requires-4 (
   count-run-reads.Asked,
   count-run-reads.Learnt,
@@ -333,7 +307,6 @@ write-block-write-run-requires-4 : (t : ℕ) → write-block-lts.Need-write-run-
 ) (write-block-at t) write-block.Post
 write-block-write-run-requires-4 t c κs = search needs
 
--- src/lib.rt:140:9
 write-block-same-length-3 : (t : ℕ) → write-block-lts.Need-same-length-3 (
   count-run-reads.Asked,
   count-run-reads.Learnt,
@@ -344,7 +317,6 @@ write-block-same-length-3 : (t : ℕ) → write-block-lts.Need-same-length-3 (
 ) (write-block-at t) write-block.Post
 write-block-same-length-3 t c = search needs
 
--- src/lib.rt:140:9
 write-block-returns-4 : (t : ℕ) → write-block-lts.Need-returns-4 (
   count-run-reads.Asked,
   count-run-reads.Learnt,
@@ -356,7 +328,6 @@ write-block-returns-4 : (t : ℕ) → write-block-lts.Need-returns-4 (
 write-block-returns-4 t c =
     branch-one (c .before .before .before .before .before .before .before .before .before .before .before .before .args .codes .now) (c .before .before .before .before .before .before .before .before .before .before .before .before .args .words .now) (c .before .before .before .before .before .before .before .before .before .before .before .before .args .marks .now) (c .before .before .before .before .before .before .before .before .before .before .before .before .args .seen) (c .before .before .before .before .before .before .before .before .before .before .before .before .args .at) (c .before .before .before .before .before .before .before .before .before .before .before .before .args .k) _ (c .before .before .before .before .before .before .before .before .before .before .before .before .args .left) (c .before .before .before .before .before .before .before .count-run .result) (c .before .before .before .before .before .before .before .count-run .ensures) _ _ (c .before .before .before .before .before .if1 .left) (c .before .before .before .before .if4 .taken) (c .before .before .write-run4 .ensures)
 
--- src/lib.rt:147:9
 write-block-behind-requires : (t : ℕ) → write-block-lts.Need-behind-requires (
   count-run-reads.Asked,
   count-run-reads.Learnt,
@@ -367,7 +338,6 @@ write-block-behind-requires : (t : ℕ) → write-block-lts.Need-behind-requires
 ) (write-block-at t) write-block.Post
 write-block-behind-requires t c κs = search needs
 
--- src/lib.rt:142:5
 write-block-write-run-requires-5 : (t : ℕ) → write-block-lts.Need-write-run-requires-5 (
   count-run-reads.Asked,
   count-run-reads.Learnt,
@@ -378,7 +348,6 @@ write-block-write-run-requires-5 : (t : ℕ) → write-block-lts.Need-write-run-
 ) (write-block-at t) write-block.Post
 write-block-write-run-requires-5 t c κs = search needs
 
--- src/lib.rt:103:1
 write-block-same-length-4 : (t : ℕ) → write-block-lts.Need-same-length-4 (
   count-run-reads.Asked,
   count-run-reads.Learnt,
@@ -389,7 +358,6 @@ write-block-same-length-4 : (t : ℕ) → write-block-lts.Need-same-length-4 (
 ) (write-block-at t) write-block.Post
 write-block-same-length-4 t c = search needs
 
--- src/lib.rt:103:1
 write-block-returns-5 : (t : ℕ) → write-block-lts.Need-returns-5 (
   count-run-reads.Asked,
   count-run-reads.Learnt,
@@ -401,7 +369,6 @@ write-block-returns-5 : (t : ℕ) → write-block-lts.Need-returns-5 (
 write-block-returns-5 t c =
     branch-two (c .before .before .before .before .before .before .before .before .before .before .before .before .before .args .codes .now) (c .before .before .before .before .before .before .before .before .before .before .before .before .before .args .words .now) (c .before .before .before .before .before .before .before .before .before .before .before .before .before .args .marks .now) (c .before .before .before .before .before .before .before .before .before .before .before .before .before .args .seen) (c .before .before .before .before .before .before .before .before .before .before .before .before .before .args .at) (c .before .before .before .before .before .before .before .before .before .before .before .before .before .args .k) _ (c .before .before .before .before .before .before .before .before .before .before .before .before .before .args .left) (c .before .before .before .before .before .before .before .before .count-run .result) (c .before .before .before .before .before .before .before .before .count-run .ensures) _ _ _ (c .before .before .before .before .behind .ensures) (c .before .before .before .before .before .before .if1 .left) (c .before .before .before .before .before .if4 .left) (c .before .before .write-run5 .ensures)
 
--- src/lib.rt:63:9
 write-run-returns : (t : ℕ) → write-run-lts.Need-returns (
   word-at-reads.Asked,
   word-at-reads.Learnt,
@@ -421,7 +388,6 @@ write-run-returns : (t : ℕ) → write-run-lts.Need-returns (
 write-run-returns t c =
     run-none (c .before .before .before .before .before .args .codes .now) (c .before .before .before .before .before .args .words .now) (c .before .before .before .before .before .args .marks .now) (c .before .before .before .before .before .args .seen) (c .before .before .before .before .before .args .at) (c .before .before .before .before .before .args .k) _ (c .before .before .before .before .before .args .left) (c .if1 .taken)
 
--- src/lib.rt:66:9
 write-run-returns-2 : (t : ℕ) → write-run-lts.Need-returns-2 (
   word-at-reads.Asked,
   word-at-reads.Learnt,
@@ -441,7 +407,6 @@ write-run-returns-2 : (t : ℕ) → write-run-lts.Need-returns-2 (
 write-run-returns-2 t c =
     run-past (c .before .before .before .before .before .before .args .codes .now) (c .before .before .before .before .before .before .args .words .now) (c .before .before .before .before .before .before .args .marks .now) (c .before .before .before .before .before .before .args .seen) (c .before .before .before .before .before .before .args .at) (c .before .before .before .before .before .before .args .k) _ (c .before .before .before .before .before .before .args .left) (c .if2 .taken)
 
--- src/lib.rt:68:8
 write-run-shared-slice-read-if3 : (t : ℕ) → write-run-lts.Need-shared-slice-read-if3 (
   word-at-reads.Asked,
   word-at-reads.Learnt,
@@ -460,7 +425,6 @@ write-run-shared-slice-read-if3 : (t : ℕ) → write-run-lts.Need-shared-slice-
 ) (write-run-at t) write-run.Post
 write-run-shared-slice-read-if3 t c = search needs
 
--- src/lib.rt:69:9
 write-run-returns-3 : (t : ℕ) → write-run-lts.Need-returns-3 (
   word-at-reads.Asked,
   word-at-reads.Learnt,
@@ -480,7 +444,6 @@ write-run-returns-3 : (t : ℕ) → write-run-lts.Need-returns-3 (
 write-run-returns-3 t c =
     run-stop (c .before .before .before .before .before .before .before .before .args .codes .now) (c .before .before .before .before .before .before .before .before .args .words .now) (c .before .before .before .before .before .before .before .before .args .marks .now) (c .before .before .before .before .before .before .before .before .args .seen) (c .before .before .before .before .before .before .before .before .args .at) (c .before .before .before .before .before .before .before .before .args .k) _ (c .before .before .before .before .before .before .before .before .args .left) (c .before .before .if2 .left) (c .if3 .taken)
 
--- src/lib.rt:71:8
 write-run-shared-slice-read-if4 : (t : ℕ) → write-run-lts.Need-shared-slice-read-if4 (
   word-at-reads.Asked,
   word-at-reads.Learnt,
@@ -499,7 +462,6 @@ write-run-shared-slice-read-if4 : (t : ℕ) → write-run-lts.Need-shared-slice-
 ) (write-run-at t) write-run.Post
 write-run-shared-slice-read-if4 t c = search needs
 
--- src/lib.rt:72:28
 write-run-word-at-requires : (t : ℕ) → write-run-lts.Need-word-at-requires (
   word-at-reads.Asked,
   word-at-reads.Learnt,
@@ -518,7 +480,6 @@ write-run-word-at-requires : (t : ℕ) → write-run-lts.Need-word-at-requires (
 ) (write-run-at t) write-run.Post
 write-run-word-at-requires t c κs = search needs
 
--- src/lib.rt:72:13
 write-run-lay-word-requires : (t : ℕ) → write-run-lts.Need-lay-word-requires (
   word-at-reads.Asked,
   word-at-reads.Learnt,
@@ -537,7 +498,6 @@ write-run-lay-word-requires : (t : ℕ) → write-run-lts.Need-lay-word-requires
 ) (write-run-at t) write-run.Post
 write-run-lay-word-requires t c κs = search needs
 
--- src/lib.rt:78:24
 write-run-mark-at-requires : (t : ℕ) → write-run-lts.Need-mark-at-requires (
   word-at-reads.Asked,
   word-at-reads.Learnt,
@@ -556,7 +516,6 @@ write-run-mark-at-requires : (t : ℕ) → write-run-lts.Need-mark-at-requires (
 ) (write-run-at t) write-run.Post
 write-run-mark-at-requires t c κs = search needs
 
--- src/lib.rt:79:17
 write-run-add-write-run : (t : ℕ) → write-run-lts.Need-add-write-run (
   word-at-reads.Asked,
   word-at-reads.Learnt,
@@ -575,7 +534,6 @@ write-run-add-write-run : (t : ℕ) → write-run-lts.Need-add-write-run (
 ) (write-run-at t) write-run.Post
 write-run-add-write-run t c = search needs
 
--- src/lib.rt:80:17
 write-run-sub-write-run : (t : ℕ) → write-run-lts.Need-sub-write-run (
   word-at-reads.Asked,
   word-at-reads.Learnt,
@@ -594,7 +552,6 @@ write-run-sub-write-run : (t : ℕ) → write-run-lts.Need-sub-write-run (
 ) (write-run-at t) write-run.Post
 write-run-sub-write-run t c = search needs
 
--- src/lib.rt:82:17
 write-run-mul-write-run : (t : ℕ) → write-run-lts.Need-mul-write-run (
   word-at-reads.Asked,
   word-at-reads.Learnt,
@@ -613,7 +570,6 @@ write-run-mul-write-run : (t : ℕ) → write-run-lts.Need-mul-write-run (
 ) (write-run-at t) write-run.Post
 write-run-mul-write-run t c = search needs
 
--- src/lib.rt:82:17
 write-run-sub-write-run-2 : (t : ℕ) → write-run-lts.Need-sub-write-run-2 (
   word-at-reads.Asked,
   word-at-reads.Learnt,
@@ -632,7 +588,6 @@ write-run-sub-write-run-2 : (t : ℕ) → write-run-lts.Need-sub-write-run-2 (
 ) (write-run-at t) write-run.Post
 write-run-sub-write-run-2 t c = search needs
 
--- src/lib.rt:82:17
 write-run-part-write-run-start : (t : ℕ) → write-run-lts.Need-part-write-run-start (
   word-at-reads.Asked,
   word-at-reads.Learnt,
@@ -651,7 +606,6 @@ write-run-part-write-run-start : (t : ℕ) → write-run-lts.Need-part-write-run
 ) (write-run-at t) write-run.Post
 write-run-part-write-run-start t c = search needs
 
--- src/lib.rt:82:17
 write-run-part-write-run-end : (t : ℕ) → write-run-lts.Need-part-write-run-end (
   word-at-reads.Asked,
   word-at-reads.Learnt,
@@ -670,7 +624,6 @@ write-run-part-write-run-end : (t : ℕ) → write-run-lts.Need-part-write-run-e
 ) (write-run-at t) write-run.Post
 write-run-part-write-run-end t c = search needs
 
--- src/lib.rt:74:15
 write-run-write-run-requires : (t : ℕ) → write-run-lts.Need-write-run-requires (
   word-at-reads.Asked,
   word-at-reads.Learnt,
@@ -689,7 +642,6 @@ write-run-write-run-requires : (t : ℕ) → write-run-lts.Need-write-run-requir
 ) (write-run-at t) write-run.Post
 write-run-write-run-requires t c κs = search needs
 
--- src/lib.rt:73:16
 write-run-add-result : (t : ℕ) → write-run-lts.Need-add-result (
   word-at-reads.Asked,
   word-at-reads.Learnt,
@@ -707,9 +659,8 @@ write-run-add-result : (t : ℕ) → write-run-lts.Need-add-result (
   write-block.Post,
 ) (write-run-at t) write-run.Post
 write-run-add-result t c =
-    omega (arith, lays-inside _ _ (c .before .before .before .before .before .before .before .before .before .before .before .before .before .before .before .before .before .before .before .before .args .out .now) _ _ _ _ (c .before .before .before .before .before .before .before .lay-word .ensures) (c .before .before .write-run .ensures))
+    omega (arith, lays-inside _ _ (c .before .before .before .before .before .before .before .before .before .before .before .before .before .before .before .before .before .before .before .before .args .out .now) _ _ _ _ (c .before .before .before .before .before .before .before .lay-word .ensures) (c .before .before .write-run .ensures .lays))
 
--- src/lib.rt:73:9
 write-run-same-length : (t : ℕ) → write-run-lts.Need-same-length (
   word-at-reads.Asked,
   word-at-reads.Learnt,
@@ -728,7 +679,6 @@ write-run-same-length : (t : ℕ) → write-run-lts.Need-same-length (
 ) (write-run-at t) write-run.Post
 write-run-same-length t c = search needs
 
--- src/lib.rt:73:9
 write-run-returns-4 : (t : ℕ) → write-run-lts.Need-returns-4 (
   word-at-reads.Asked,
   word-at-reads.Learnt,
@@ -748,7 +698,6 @@ write-run-returns-4 : (t : ℕ) → write-run-lts.Need-returns-4 (
 write-run-returns-4 t c =
     run-statement (c .before .before .before .before .before .before .before .before .before .before .before .before .before .before .before .before .before .before .before .before .args .codes .now) (c .before .before .before .before .before .before .before .before .before .before .before .before .before .before .before .before .before .before .before .before .args .words .now) (c .before .before .before .before .before .before .before .before .before .before .before .before .before .before .before .before .before .before .before .before .args .marks .now) (c .before .before .before .before .before .before .before .before .before .before .before .before .before .before .before .before .before .before .before .before .args .seen) (c .before .before .before .before .before .before .before .before .before .before .before .before .before .before .before .before .before .before .before .before .args .at) (c .before .before .before .before .before .before .before .before .before .before .before .before .before .before .before .before .before .before .before .before .args .k) _ _ _ _ _ (c .before .before .before .before .before .before .before .before .before .before .before .before .before .before .before .before .before .before .before .before .args .left) _ _ (c .before .before .before .before .before .before .before .before .before .before .before .before .before .before .before .if1 .left) (c .before .before .before .before .before .before .before .before .before .before .before .before .before .before .if2 .left) (c .before .before .before .before .before .before .before .before .before .before .if4 .taken) (c .before .before .before .before .before .before .before .before .before .word-at .ensures) (c .before .before .before .before .mark-at .ensures) (c .before .before .before .before .before .before .before .lay-word .ensures) (c .before .before .write-run .ensures)
 
--- src/lib.rt:85:36
 write-run-sub-count-place : (t : ℕ) → write-run-lts.Need-sub-count-place (
   word-at-reads.Asked,
   word-at-reads.Learnt,
@@ -767,7 +716,6 @@ write-run-sub-count-place : (t : ℕ) → write-run-lts.Need-sub-count-place (
 ) (write-run-at t) write-run.Post
 write-run-sub-count-place t c = search needs
 
--- src/lib.rt:85:9
 write-run-count-place-requires : (t : ℕ) → write-run-lts.Need-count-place-requires (
   word-at-reads.Asked,
   word-at-reads.Learnt,
@@ -786,7 +734,6 @@ write-run-count-place-requires : (t : ℕ) → write-run-lts.Need-count-place-re
 ) (write-run-at t) write-run.Post
 write-run-count-place-requires t c κs = search needs
 
--- src/lib.rt:86:40
 write-run-sub-count-run : (t : ℕ) → write-run-lts.Need-sub-count-run (
   word-at-reads.Asked,
   word-at-reads.Learnt,
@@ -805,7 +752,6 @@ write-run-sub-count-run : (t : ℕ) → write-run-lts.Need-sub-count-run (
 ) (write-run-at t) write-run.Post
 write-run-sub-count-run t c = search needs
 
--- src/lib.rt:86:9
 write-run-count-run-requires : (t : ℕ) → write-run-lts.Need-count-run-requires (
   word-at-reads.Asked,
   word-at-reads.Learnt,
@@ -824,7 +770,6 @@ write-run-count-run-requires : (t : ℕ) → write-run-lts.Need-count-run-requir
 ) (write-run-at t) write-run.Post
 write-run-count-run-requires t c κs = search needs
 
--- src/lib.rt:88:56
 write-run-sub-write-block : (t : ℕ) → write-run-lts.Need-sub-write-block (
   word-at-reads.Asked,
   word-at-reads.Learnt,
@@ -843,7 +788,6 @@ write-run-sub-write-block : (t : ℕ) → write-run-lts.Need-sub-write-block (
 ) (write-run-at t) write-run.Post
 write-run-sub-write-block t c = search needs
 
--- src/lib.rt:88:66
 write-run-div-write-block : (t : ℕ) → write-run-lts.Need-div-write-block (
   word-at-reads.Asked,
   word-at-reads.Learnt,
@@ -862,7 +806,6 @@ write-run-div-write-block : (t : ℕ) → write-run-lts.Need-div-write-block (
 ) (write-run-at t) write-run.Post
 write-run-div-write-block t c = search needs
 
--- src/lib.rt:88:9
 write-run-write-block-requires : (t : ℕ) → write-run-lts.Need-write-block-requires (
   word-at-reads.Asked,
   word-at-reads.Learnt,
@@ -881,7 +824,6 @@ write-run-write-block-requires : (t : ℕ) → write-run-lts.Need-write-block-re
 ) (write-run-at t) write-run.Post
 write-run-write-block-requires t c κs = search needs
 
--- src/lib.rt:96:13
 write-run-sub-write-run-3 : (t : ℕ) → write-run-lts.Need-sub-write-run-3 (
   word-at-reads.Asked,
   word-at-reads.Learnt,
@@ -900,7 +842,6 @@ write-run-sub-write-run-3 : (t : ℕ) → write-run-lts.Need-sub-write-run-3 (
 ) (write-run-at t) write-run.Post
 write-run-sub-write-run-3 t c = search needs
 
--- src/lib.rt:97:13
 write-run-rem-write-run : (t : ℕ) → write-run-lts.Need-rem-write-run (
   word-at-reads.Asked,
   word-at-reads.Learnt,
@@ -919,7 +860,6 @@ write-run-rem-write-run : (t : ℕ) → write-run-lts.Need-rem-write-run (
 ) (write-run-at t) write-run.Post
 write-run-rem-write-run t c = search needs
 
--- src/lib.rt:98:13
 write-run-mul-write-run-2 : (t : ℕ) → write-run-lts.Need-mul-write-run-2 (
   word-at-reads.Asked,
   word-at-reads.Learnt,
@@ -939,7 +879,6 @@ write-run-mul-write-run-2 : (t : ℕ) → write-run-lts.Need-mul-write-run-2 (
 write-run-mul-write-run-2 t c =
     let h : (c .before .before .write-block .result) ≤ length (c .before .before .before .before .before .before .before .before .before .before .before .before .before .before .before .before .args .out .now) = (c .before .before .write-block .ensures .inside) in search (needs, h, (c .before .before .before .before .before .before .before .before .before .before .before .before .before .before .before .before .good .1 .1 .1 .1 .1 .1 .1 .0))
 
--- src/lib.rt:98:13
 write-run-sub-write-run-4 : (t : ℕ) → write-run-lts.Need-sub-write-run-4 (
   word-at-reads.Asked,
   word-at-reads.Learnt,
@@ -958,7 +897,6 @@ write-run-sub-write-run-4 : (t : ℕ) → write-run-lts.Need-sub-write-run-4 (
 ) (write-run-at t) write-run.Post
 write-run-sub-write-run-4 t c = search needs
 
--- src/lib.rt:98:13
 write-run-part-write-run-start-2 : (t : ℕ) → write-run-lts.Need-part-write-run-start-2 (
   word-at-reads.Asked,
   word-at-reads.Learnt,
@@ -977,7 +915,6 @@ write-run-part-write-run-start-2 : (t : ℕ) → write-run-lts.Need-part-write-r
 ) (write-run-at t) write-run.Post
 write-run-part-write-run-start-2 t c = search needs
 
--- src/lib.rt:98:13
 write-run-part-write-run-end-2 : (t : ℕ) → write-run-lts.Need-part-write-run-end-2 (
   word-at-reads.Asked,
   word-at-reads.Learnt,
@@ -996,7 +933,6 @@ write-run-part-write-run-end-2 : (t : ℕ) → write-run-lts.Need-part-write-run
 ) (write-run-at t) write-run.Post
 write-run-part-write-run-end-2 t c = search needs
 
--- src/lib.rt:90:11
 write-run-write-run-requires-2 : (t : ℕ) → write-run-lts.Need-write-run-requires-2 (
   word-at-reads.Asked,
   word-at-reads.Learnt,
@@ -1015,7 +951,6 @@ write-run-write-run-requires-2 : (t : ℕ) → write-run-lts.Need-write-run-requ
 ) (write-run-at t) write-run.Post
 write-run-write-run-requires-2 t c κs = search needs
 
--- src/lib.rt:89:5
 write-run-add-result-2 : (t : ℕ) → write-run-lts.Need-add-result-2 (
   word-at-reads.Asked,
   word-at-reads.Learnt,
@@ -1033,9 +968,8 @@ write-run-add-result-2 : (t : ℕ) → write-run-lts.Need-add-result-2 (
   write-block.Post,
 ) (write-run-at t) write-run.Post
 write-run-add-result-2 t c =
-    omega (arith, lays-inside _ _ (c .before .before .before .before .before .before .before .before .before .before .before .before .before .before .before .before .before .before .before .before .args .out .now) _ _ _ _ (c .before .before .before .before .before .before .write-block .ensures) (c .before .before .write-run2 .ensures), (c .before .before .before .before .before .before .before .before .before .before .before .before .before .before .before .before .before .before .before .before .good .1 .1 .1 .1 .1 .1 .1 .0))
+    omega (arith, lays-inside _ _ (c .before .before .before .before .before .before .before .before .before .before .before .before .before .before .before .before .before .before .before .before .args .out .now) _ _ _ _ (c .before .before .before .before .before .before .write-block .ensures) (c .before .before .write-run2 .ensures .lays), (c .before .before .before .before .before .before .before .before .before .before .before .before .before .before .before .before .before .before .before .before .good .1 .1 .1 .1 .1 .1 .1 .0))
 
--- src/lib.rt:50:1
 write-run-same-length-2 : (t : ℕ) → write-run-lts.Need-same-length-2 (
   word-at-reads.Asked,
   word-at-reads.Learnt,
@@ -1054,7 +988,6 @@ write-run-same-length-2 : (t : ℕ) → write-run-lts.Need-same-length-2 (
 ) (write-run-at t) write-run.Post
 write-run-same-length-2 t c = search needs
 
--- src/lib.rt:50:1
 write-run-returns-5 : (t : ℕ) → write-run-lts.Need-returns-5 (
   word-at-reads.Asked,
   word-at-reads.Learnt,

@@ -9,19 +9,15 @@ use Rattle.wording.proofs.lay_word.Tie as tie
 use Rattle.wording.proofs.lay_word.Reads as reads
 use Rattle.wording.proofs.lay_word.Lts as lts
 
--- src/lib.rt:41:9
 returns : tie.Need-returns
 returns c = lays-none _ _ (c .if1 .taken)
 
--- src/lib.rt:43:5
 slice-write-out : tie.Need-slice-write-out
 slice-write-out c = search needs
 
--- src/lib.rt:37:1
 same-length : tie.Need-same-length
 same-length c = search needs
 
--- src/lib.rt:37:1
 returns-2 : tie.Need-returns-2
 returns-2 c = lays-one _ _ (c .if1 .left)
 

@@ -9,19 +9,15 @@ use Rattle.wording.proofs.mark_at.Tie as tie
 use Rattle.wording.proofs.mark_at.Reads as reads
 use Rattle.wording.proofs.mark_at.Lts as lts
 
--- src/lib.rt:31:9
 returns : tie.Need-returns
 returns c = sym (List·getD-eq-default (c .before .args .marks .now) 0 {n = c .before .args .at} (c .if1 .taken))
 
--- src/lib.rt:33:5
 mul-result : tie.Need-mul-result
 mul-result c = search needs
 
--- src/lib.rt:33:5
 shared-slice-read-result : tie.Need-shared-slice-read-result
 shared-slice-read-result c = search needs
 
--- src/lib.rt:27:1
 returns-2 : tie.Need-returns-2
 returns-2 c = search needs
 

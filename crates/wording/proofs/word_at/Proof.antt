@@ -7,27 +7,21 @@ use Rattle.wording.proofs.word_at.Reads as reads
 use Rattle.wording.proofs.word_at.Lts as lts
 use Rattle.wording.proofs.word_with.Reads as word-with-reads
 
--- src/lib.rt:26:9
 word-with-requires : tie.Need-word-with-requires
 word-with-requires c κs = search needs
 
--- src/lib.rt:26:9
 returns : tie.Need-returns
 returns c = omega (arith, c .word-with .ensures, List·getD-eq-default (c .before .before .before .args .words .now) 0 {n = c .before .before .before .args .at} (c .before .if1 .taken))
 
--- src/lib.rt:28:15
 mul-word-with : tie.Need-mul-word-with
 mul-word-with c = search needs
 
--- src/lib.rt:28:15
 shared-slice-read-word-with : tie.Need-shared-slice-read-word-with
 shared-slice-read-word-with c = search needs
 
--- src/lib.rt:28:5
 word-with-requires-2 : tie.Need-word-with-requires-2
 word-with-requires-2 c κs = search needs
 
--- src/lib.rt:22:1
 returns-2 : tie.Need-returns-2
 returns-2 c = search needs
 

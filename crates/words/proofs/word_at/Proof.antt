@@ -9,19 +9,15 @@ use Rattle.words.proofs.word_at.Tie as tie
 use Rattle.words.proofs.word_at.Reads as reads
 use Rattle.words.proofs.word_at.Lts as lts
 
--- src/lib.rt:16:16
 mul-result : tie.Need-mul-result
 mul-result c = search needs
 
--- src/lib.rt:16:16
 shared-slice-read-result : tie.Need-shared-slice-read-result
 shared-slice-read-result c = search needs
 
--- src/lib.rt:16:9
 returns : tie.Need-returns
 returns c = search needs
 
--- src/lib.rt:12:1
 returns-2 : tie.Need-returns-2
 returns-2 c = sym (List·getD-eq-default (c .before .args .words .now) 0 (c .if1 .left))
 

@@ -1,14 +1,12 @@
 use Rattle.tables.specs.Table.{rowCount}
 use native.Mathlib.Omega.{arith}
-use Rattle.standing.proofs.row_count.Statement.{statement}
-use Rattle.standing.proofs.row_count.Tie as tie
+use Rattle.fetching.proofs.row_count.Statement.{statement}
+use Rattle.fetching.proofs.row_count.Tie as tie
 
--- src/lib.rt:134:9
 returns : tie.Need-returns
 unfolding rowCount
 returns c = omega arith
 
--- src/lib.rt:129:1
 returns-2 : tie.Need-returns-2
 unfolding rowCount
 returns-2 c = omega arith

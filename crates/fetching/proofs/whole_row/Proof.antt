@@ -1,109 +1,83 @@
 use Rattle.tables.specs.Table.{rowAt}
 use borrow.Author.Needs.{needs}
-use Rattle.standing.proofs.whole_row.Statement.{statement}
-use Rattle.standing.proofs.whole_row.Tie as tie
+use Rattle.fetching.proofs.whole_row.Statement.{statement}
+use Rattle.fetching.proofs.whole_row.Tie as tie
 
--- src/lib.rt:144:13
 mul-b : tie.Need-mul-b
 mul-b c = search needs
 
--- src/lib.rt:145:27
 add-kind-of : tie.Need-add-kind-of
 add-kind-of c = search needs
 
--- src/lib.rt:145:21
 mul-kind-of : tie.Need-mul-kind-of
 mul-kind-of c = search needs
 
--- src/lib.rt:145:21
 shared-slice-read-kind-of : tie.Need-shared-slice-read-kind-of
 shared-slice-read-kind-of c = search needs
 
--- src/lib.rt:145:9
 kind-of-requires : tie.Need-kind-of-requires
 kind-of-requires c κs = search needs
 
--- src/lib.rt:147:15
 mul-t5 : tie.Need-mul-t5
 mul-t5 c = search needs
 
--- src/lib.rt:147:15
 shared-slice-read-t8 : tie.Need-shared-slice-read-t8
 shared-slice-read-t8 c = search needs
 
--- src/lib.rt:148:22
 add-t6 : tie.Need-add-t6
 add-t6 c = search needs
 
--- src/lib.rt:148:16
 mul-t10 : tie.Need-mul-t10
 mul-t10 c = search needs
 
--- src/lib.rt:148:16
 shared-slice-read-t12 : tie.Need-shared-slice-read-t12
 shared-slice-read-t12 c = search needs
 
--- src/lib.rt:150:25
 add-t13 : tie.Need-add-t13
 add-t13 c = search needs
 
--- src/lib.rt:150:19
 mul-t14 : tie.Need-mul-t14
 mul-t14 c = search needs
 
--- src/lib.rt:150:19
 shared-slice-read-t16 : tie.Need-shared-slice-read-t16
 shared-slice-read-t16 c = search needs
 
--- src/lib.rt:151:22
 add-t17 : tie.Need-add-t17
 add-t17 c = search needs
 
--- src/lib.rt:151:16
 mul-t18 : tie.Need-mul-t18
 mul-t18 c = search needs
 
--- src/lib.rt:151:16
 shared-slice-read-t20 : tie.Need-shared-slice-read-t20
 shared-slice-read-t20 c = search needs
 
--- src/lib.rt:152:23
 add-t21 : tie.Need-add-t21
 add-t21 c = search needs
 
--- src/lib.rt:152:17
 mul-t22 : tie.Need-mul-t22
 mul-t22 c = search needs
 
--- src/lib.rt:152:17
 shared-slice-read-t24 : tie.Need-shared-slice-read-t24
 shared-slice-read-t24 c = search needs
 
--- src/lib.rt:153:22
 add-t25 : tie.Need-add-t25
 add-t25 c = search needs
 
--- src/lib.rt:153:16
 mul-t26 : tie.Need-mul-t26
 mul-t26 c = search needs
 
--- src/lib.rt:153:16
 shared-slice-read-t28 : tie.Need-shared-slice-read-t28
 shared-slice-read-t28 c = search needs
 
--- src/lib.rt:154:21
 add-t29 : tie.Need-add-t29
 add-t29 c = search needs
 
--- src/lib.rt:154:15
 mul-t30 : tie.Need-mul-t30
 mul-t30 c = search needs
 
--- src/lib.rt:154:15
 shared-slice-read-t32 : tie.Need-shared-slice-read-t32
 shared-slice-read-t32 c = search needs
 
--- src/lib.rt:140:1
 returns : tie.Need-returns
 unfolding rowAt
 returns c = simp (← c .before .before .before .before .before .before .before .kind-of .ensures)

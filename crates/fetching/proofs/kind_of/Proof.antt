@@ -1,24 +1,20 @@
 use Rattle.tables.specs.Table.{kindOf}
 use borrow.Author.Tests.{eq-eqb, ne-eqb}
-use Rattle.standing.proofs.kind_of.Statement.{statement}
-use Rattle.standing.proofs.kind_of.Tie as tie
+use Rattle.fetching.proofs.kind_of.Statement.{statement}
+use Rattle.fetching.proofs.kind_of.Tie as tie
 
--- src/lib.rt:118:9
 returns : tie.Need-returns
 unfolding kindOf
 returns c = simp (eq-eqb _ _ (c .if1 .taken))
 
--- src/lib.rt:121:9
 returns-2 : tie.Need-returns-2
 unfolding kindOf
 returns-2 c = simp (eq-eqb _ _ (c .if2 .taken), ne-eqb _ _ (c .before .if1 .left))
 
--- src/lib.rt:124:9
 returns-3 : tie.Need-returns-3
 unfolding kindOf
 returns-3 c = simp (eq-eqb _ _ (c .if3 .taken), ne-eqb _ _ (c .before .if2 .left), ne-eqb _ _ (c .before .before .if1 .left))
 
--- src/lib.rt:127:9
 returns-4 : tie.Need-returns-4
 unfolding kindOf
 returns-4 c =
@@ -29,7 +25,6 @@ returns-4 c =
       ne-eqb _ _ (c .before .before .before .if1 .left),
     )
 
--- src/lib.rt:130:9
 returns-5 : tie.Need-returns-5
 unfolding kindOf
 returns-5 c =
@@ -41,7 +36,6 @@ returns-5 c =
       ne-eqb _ _ (c .before .before .before .before .if1 .left),
     )
 
--- src/lib.rt:133:9
 returns-6 : tie.Need-returns-6
 unfolding kindOf
 returns-6 c =
@@ -54,7 +48,6 @@ returns-6 c =
       ne-eqb _ _ (c .before .before .before .before .before .if1 .left),
     )
 
--- src/lib.rt:114:1
 returns-7 : tie.Need-returns-7
 unfolding kindOf
 returns-7 c =

@@ -1,63 +1,51 @@
 use Rattle.tables.specs.Table.{kindOf}
-use Rattle.standing.specs.RowLaws.{row-made}
+use Rattle.fetching.specs.RowLaws.{row-made}
 use native.Mathlib.Omega.{arith}
 use mathlib.Core.Path.{_≡_, refl, ap, sym, _∙_}
 use Prim.Native.Nat.{ℕ, _+_, _-_, _*_, _≤_, _<_}
 use lib.ListN.{length, set, getD, length-set, take, drop}
 use borrow.Author.Needs.{needs}
-use Rattle.standing.proofs.row_at.Statement.{statement}
-use Rattle.standing.proofs.row_at.Tie as tie
-use Rattle.standing.proofs.row_at.Reads as reads
-use Rattle.standing.proofs.row_at.Lts as lts
-use Rattle.standing.proofs.kind_of.Reads as kind-of-reads
-use Rattle.standing.proofs.whole_row.Reads as whole-row-reads
-use Rattle.standing.proofs.word_at.Reads as word-at-reads
+use Rattle.fetching.proofs.row_at.Statement.{statement}
+use Rattle.fetching.proofs.row_at.Tie as tie
+use Rattle.fetching.proofs.row_at.Reads as reads
+use Rattle.fetching.proofs.row_at.Lts as lts
+use Rattle.fetching.proofs.kind_of.Reads as kind-of-reads
+use Rattle.fetching.proofs.whole_row.Reads as whole-row-reads
+use Rattle.fetching.proofs.word_at.Reads as word-at-reads
 
--- src/lib.rt:153:9
 whole-row-requires : tie.Need-whole-row-requires
 whole-row-requires c κs = search needs
 
--- src/lib.rt:153:9
 returns : tie.Need-returns
 returns c = search needs
 
--- src/lib.rt:155:21
 word-at-requires : tie.Need-word-at-requires
 word-at-requires c κs = search needs
 
--- src/lib.rt:155:9
 kind-of-requires : tie.Need-kind-of-requires
 kind-of-requires c κs = search needs
 
--- src/lib.rt:157:15
 word-at-requires-2 : tie.Need-word-at-requires-2
 word-at-requires-2 c κs = search needs
 
--- src/lib.rt:158:16
 word-at-requires-3 : tie.Need-word-at-requires-3
 word-at-requires-3 c κs = search needs
 
--- src/lib.rt:160:19
 word-at-requires-4 : tie.Need-word-at-requires-4
 word-at-requires-4 c κs = search needs
 
--- src/lib.rt:161:16
 word-at-requires-5 : tie.Need-word-at-requires-5
 word-at-requires-5 c κs = search needs
 
--- src/lib.rt:162:17
 word-at-requires-6 : tie.Need-word-at-requires-6
 word-at-requires-6 c κs = search needs
 
--- src/lib.rt:163:16
 word-at-requires-7 : tie.Need-word-at-requires-7
 word-at-requires-7 c κs = search needs
 
--- src/lib.rt:164:15
 word-at-requires-8 : tie.Need-word-at-requires-8
 word-at-requires-8 c κs = search needs
 
--- src/lib.rt:149:1
 returns-2 : tie.Need-returns-2
 returns-2 c =
     row-made _ _

@@ -1,27 +1,21 @@
 -- Words and rows of a table.
-use mathlib.Core.Path.{_≡_, refl, ap, _∙_}
-use mathlib.Core.List.{List, [], _∷_}
-use Prim.Native.Nat.{ℕ, zero, suc, _+_, _-_, _*_, _/_, _≤_, _<_}
-use native.Mathlib.Nat.{not-suc-le-zero, le-of-suc-le-suc, add-zero}
+use mathlib.Core.Path.{_≡_, ap, sym, _∙_}
+use mathlib.Core.List.{List}
+use Prim.Native.Nat.{ℕ, _+_, _-_, _*_, _/_, _≤_, _<_}
+use native.Mathlib.Nat.{add-zero}
 use native.Mathlib.Omega.{arith}
-use lib.ListN.{length, getD}
+use lib.ListN.{length, getD, List·getD-eq-default}
 use Rattle.tables.specs.declared.Row.{Row}
 use Rattle.text.specs.declared.StatementKind.{StatementKind}
 use Rattle.tables.specs.Table.{kindOf, rowAt}
 
--- past its end a list has only the default
-getD-past : (l : List ℕ) (i : ℕ) → length l ≤ i → 0 ≡ getD l i 0
-getD-past [] i h = refl
-getD-past (x ∷ l) zero h = absurd (not-suc-le-zero h)
-getD-past (x ∷ l) (suc i) h = getD-past l i (le-of-suc-le-suc h)
-
 -- no word of a row past the last one that begins in the table
 pub word-past : (table : List ℕ) (i k : ℕ) → length table / 8 < i → 0 ≡ getD table (i * 8 + k) 0
-word-past table i k h = getD-past table (i * 8 + k) (omega arith)
+word-past table i k h = sym (List·getD-eq-default table 0 (omega arith))
 
 -- nor one past the table's end in the row that it cuts
 pub word-short : (table : List ℕ) (i k : ℕ) → length table - i * 8 ≤ k → 0 ≡ getD table (i * 8 + k) 0
-word-short table i k h = getD-past table (i * 8 + k) (omega arith)
+word-short table i k h = sym (List·getD-eq-default table 0 (omega arith))
 
 -- a row put together from its eight words
 pub row-made : (table : List ℕ) (i : ℕ) {a b r d w t k : ℕ} {kind : StatementKind}
