@@ -1,3 +1,4 @@
+-- No line counted and 1616 unused lines are the value of no lines, by computation.
 use mathlib.Core.Path.{refl}
 use Rattle.text.specs.Value.{valueOf}
 use Rattle.text.specs.Text.{unusedLine}

@@ -1,3 +1,4 @@
+-- No byte ends no line (endsLine-none); else the last byte decides (endsLine-last).
 use Rattle.reader.specs.ParseLaws.{endsLine-none, endsLine-last}
 use mathlib.Core.Path.{_≡_, refl, sym, ap, _∙_}
 use native.Mathlib.Omega.{arith}

@@ -1,3 +1,5 @@
+-- The first byte not allowed from i on, with the line reached there, is the text's: a byte that is allowed leaves it so (otherByte-next). The
+-- line is at most i + 1, so it fits a word.
 use borrow.Author.Needs.{needs}
 use Rattle.reader.specs.Parse.{lineOr}
 use Rattle.reader.specs.ParseLaws.{otherByte-here, otherByte-next, otherByte-done, lineBehind-le}

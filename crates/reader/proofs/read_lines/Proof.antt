@@ -1,3 +1,6 @@
+-- Between two lines the value and the words hold the lines taken, and reading on from here gives what the whole gives (`Going`): a line without
+-- fault joins them (going-next), a fault is the answer (going-refused), and at the end only an open block is left to refuse (going-open,
+-- going-closed).
 use Rattle.reader.specs.Parse.{parsedAs, EndsAt, Going}
 use Rattle.reader.specs.ParseLaws.{going-first, going-here, going-few, going-refused, going-room, going-next, going-open, going-closed}
 use Rattle.lines.specs.SpanLaws.{span-end, span-past}

@@ -1,3 +1,5 @@
+-- Bytes, last byte and names line are tested in the order of the rules, so each refusal is what `read` gives (read-long, read-other, read-last,
+-- read-unnamed), and past them `read` is what its lines give (read-whole).
 use mathlib.Core.Path.{sym, ap, _∙_}
 use native.Mathlib.Omega.{arith}
 use borrow.Author.Tests.{not-true, not-false}

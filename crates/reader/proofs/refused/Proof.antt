@@ -1,3 +1,4 @@
+-- The three fields are those of a refusal's answer, whose value is the empty workload.
 use Rattle.reader.specs.Parse.{parsedAs}
 use borrow.Author.Needs.{needs}
 use Rattle.reader.proofs.refused.Statement.{statement}

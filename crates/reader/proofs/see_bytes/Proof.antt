@@ -1,3 +1,4 @@
+-- Bytes that are a line are seen as `see_value` sees that line; bytes that are none have fault 4 (saw-wrong).
 use Rattle.reader.specs.ParseLaws.{saw-wrong}
 use mathlib.Core.Path.{refl}
 use borrow.Author.Needs.{needs}

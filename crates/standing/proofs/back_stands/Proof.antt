@@ -1,3 +1,5 @@
+-- Rows of two relations have no edge; else E gives a back edge whatever the keys say, and after it a select by D where the keys do not meet: each
+-- return is `rowBack` with the tests known.
 use borrow.Author.Tests.{eq-eqb, ne-eqb}
 use Rattle.tables.specs.Table.{rowBack}
 use borrow.Author.Needs.{needs}

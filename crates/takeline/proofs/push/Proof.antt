@@ -1,3 +1,5 @@
+-- Place, part and the three sets of places are stored one depth further, and the three counts after them; of the state these are the stores that
+-- a block more makes (took-push).
 use Rattle.takeline.specs.TakeLaws.{took-push}
 use native.Mathlib.Omega.{arith}
 use borrow.Author.Needs.{needs}
