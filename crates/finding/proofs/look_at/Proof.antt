@@ -1,5 +1,5 @@
--- A slot past the last row, or past the rows of its own row, or of two relations, is empty, and so are those up to the slot named (looked-end,
--- looked-past, looked-apart); else its flow's letter decides (looked-forward, looked-back).
+-- A slot whose rows are not both there, or are of two relations, is empty, and so is every slot up to the one named (looked-end, looked-past,
+-- looked-apart); else the letter of its flow decides (looked-forward, looked-back).
 use native.Mathlib.Omega.{arith}
 use Rattle.finding.specs.StepLaws.{relations-two, looked-end, looked-past, looked-apart, looked-forward, looked-back}
 use borrow.Author.Needs.{needs}

@@ -1,5 +1,5 @@
--- Place, part and the three sets of places are stored one depth further, and the three counts after them; of the state these are the stores that
--- a block more makes (took-push).
+-- Place, part and the three sets of places are stored one depth further, then the depth, and body and lines go up: the stores that one block more
+-- makes of the state (took-push).
 use Rattle.takeline.specs.TakeLaws.{took-push}
 use native.Mathlib.Omega.{arith}
 use borrow.Author.Needs.{needs}
