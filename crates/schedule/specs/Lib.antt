@@ -2,6 +2,7 @@ pub mod Event
 pub mod Schedule
 pub mod Serial
 pub mod Examples
+pub mod Tables
 pub mod SerialTest
 pub mod Interleaved
 pub mod Unserialisable
