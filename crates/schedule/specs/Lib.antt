@@ -3,7 +3,9 @@ pub mod Schedule
 pub mod Serial
 pub mod Examples
 pub mod Tables
+pub mod SerialCases
 pub mod SerialTest
 pub mod Interleaved
+pub mod Kinds
 pub mod Unserialisable
 pub mod Phantom
