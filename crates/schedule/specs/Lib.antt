@@ -7,5 +7,6 @@ pub mod SerialCases
 pub mod SerialTest
 pub mod Interleaved
 pub mod Kinds
+pub mod Unbounded
 pub mod Unserialisable
 pub mod Phantom
