@@ -445,7 +445,7 @@ alone-rule rule past =
     (λ a. rule (λ r t. eqb r 3 && eqb t 2) past (event 1 0 0 a 3 2 1))
     (read ∷ write ∷ insert ∷ delete ∷ predicateRead ∷ commit ∷ [])
 
--- H5: no insert behind a write, nor where the tuple starts visible
+-- H5: no insert after a write, nor where the tuple starts visible
 first-alone : map (alone-rule insertsFirst) ([] ∷ (event 0 0 0 delete 3 2 1 ∷ []) ∷ [])
     ≡ (true ∷ true ∷ false ∷ true ∷ true ∷ true ∷ []) ∷ (true ∷ true ∷ false ∷ true ∷ true ∷ true ∷ []) ∷ []
 unfolding openRules
@@ -457,7 +457,7 @@ first-unborn : map (λ past. insertsFirst (λ r t. false) past (event 1 0 0 inse
 unfolding openRules
 first-unborn = refl
 
--- H5: no write, insert or delete behind a delete of the tuple, whosever it is and whether committed or not
+-- H5: no write, insert or delete after a delete of the tuple, whosever it is and whether committed or not
 last-alone : map (alone-rule (λ start. deletesLast))
     ((event 0 0 0 delete 3 2 1 ∷ [])
     ∷ (event 0 1 1 commit 0 0 0 ∷ event 0 0 0 delete 3 2 1 ∷ [])
@@ -597,7 +597,7 @@ link-last-tuple : keysKept byTen (childMany (10 ∷ 20 ∷ 31 ∷ [])) ≡ false
 unfolding openWorkload
 link-last-tuple = refl
 
--- a parent of this kind on tuple 0, and behind it a child of that kind on tuple t
+-- a parent of this kind on tuple 0, and after it a child of that kind on tuple t
 abbrev linked : ℕ → StatementKind → StatementKind → Transaction
 linked t p c =
     record {
@@ -633,7 +633,10 @@ threeLinks tuples =
                 (statement (says Ku 0 0 0 1 0))
                 (next (statement (says Ku 1 1 0 1 0)) (next (statement (says Ku 2 2 0 1 0)) (next (statement (says Ku 3 3 0 1 0)) done)));
             links =
-                record { key = 3; child = 1; parent = 0 } ∷ record { key = 4; child = 2; parent = 0 } ∷ record { key = 5; child = 3; parent = 0 } ∷ [];
+                record { key = 3; child = 1; parent = 0 }
+                ∷ record { key = 4; child = 2; parent = 0 }
+                ∷ record { key = 5; child = 3; parent = 0 }
+                ∷ [];
           };
       execution = step perform (step perform (step perform (step perform end)));
       tuple = tuples;

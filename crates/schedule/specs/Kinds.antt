@@ -1,6 +1,6 @@
--- A schedule that shows every kind of statement, of a dangerous workload, since a pd stands in no robust one. It has what a rule that is too strong
--- would forbid: predicate statements on three tuples, behind an own write an insert and a predicate read, deletes of several tuples, a write of a tuple
--- that another transaction inserted, empty transactions, two runs of one program, and a program that nobody runs.
+-- A schedule that shows every kind of statement, of a dangerous workload, since a pd stands in no robust one. It has what a rule that is too
+-- strong would forbid: predicate statements on three tuples, an insert and a predicate read after an own write, deletes of several tuples, a
+-- write of a tuple that another transaction inserted, empty transactions, two runs of one program, and a program that nobody runs.
 use mathlib.Core.Bool.{not, _&&_}
 use mathlib.Core.List.{List, [], _∷_, List·Memᴰ}
 use mathlib.Core.List.List·Memᴰ.{List·Memᴰ·head, List·Memᴰ·tail}

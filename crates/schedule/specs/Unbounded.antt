@@ -201,16 +201,17 @@ commits-keep a (suc n) i l m = go (λ k. commits-keep (suc a) n i k (omega arith
         ∙ ap (λ j. event j 0 0 commit 0 0 0 ∷ []) e
     go rest (no d) = keep-no (by i) (event a 0 0 commit 0 0 0) (commits (suc a) n) (ne-eqb a i d) ∙ rest (omega arith)
 
--- they obey the rules behind what lower transactions have done
-commits-apart : (start : ℕ → ℕ → Bool) (a n : ℕ) (past : List Event) → ((d : Event) → List·Memᴰ d past → (d .transaction < a) × (isWrite (d .action) ≡ false))
-    → allApart start past (commits a n) ≡ true
+-- they obey the rules after what lower transactions have done
+commits-apart : (start : ℕ → ℕ → Bool) (a n : ℕ) (past : List Event)
+    → ((d : Event) → List·Memᴰ d past → (d .transaction < a) × (isWrite (d .action) ≡ false)) → allApart start past (commits a n) ≡ true
 unfolding commits allApart fits apart writesTo sameStatement
 commits-apart start a zero past f = refl
 commits-apart start a (suc n) past f =
     and-of
     (and-of
     (not-of-false (any-none (writesTo 0 0) past (λ d m. and-left (eqb (d .tuple) 0) (and-left (eqb (d .relation) 0) (f d m .1)))))
-    (not-of-false (any-none (sameStatement e) past (λ d m. and-left (eqb (d .place) 0) (ne-eqb (d .transaction) a (λ q. let t = f d m in omega arith))))))
+    (not-of-false (any-none (sameStatement e) past
+    (λ d m. and-left (eqb (d .place) 0) (ne-eqb (d .transaction) a (λ q. let t = f d m in omega arith))))))
     (commits-apart start (suc a) n (e ∷ past) (λ d m. go d (List·Memᴰ·cases-cons m)))
   where
     e : Event

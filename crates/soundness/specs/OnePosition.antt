@@ -1,5 +1,6 @@
--- The serial run holds an event of a schedule at one position only: its transaction and number tell which operation it is. `SerialOrder` says of a read
--- that it takes the same at some position k of the run where it stands; as there is no other such position, it says so of the read itself.
+-- The serial run holds an event of a schedule at one position only: its transaction and number tell which operation it is.
+-- What it is for: `SerialOrder` says of a read that it takes the same at some position k of the run where it stands; as there is no other
+-- such position, it says so of the read itself.
 use mathlib.Core.List.{List, List·Memᴰ}
 use mathlib.Core.Logic.{_⊎_, inl, inr}
 use mathlib.Core.Option.{some}
