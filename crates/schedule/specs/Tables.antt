@@ -1,7 +1,7 @@
 -- The rules on events (H) over tables of cases, each table computed at once: what each action is; what may follow what on one tuple; that
 -- nothing hinders what is done elsewhere; and when a statement's operations stand together. Two of them are told again by small machines.
 use mathlib.Core.Bool.{Bool, true, false, cond, not, _&&_, _||_}
-use mathlib.Core.List.{List, [], _∷_, _++_, map}
+use mathlib.Core.List.{List, [], _∷_, _++_, map, flatMap}
 use mathlib.Core.Option.{Option, none, some}
 use mathlib.Core.Path.{_≡_, refl}
 use Prim.Native.Nat.{ℕ, zero, suc, _+_, _*_, _%_}
@@ -152,6 +152,18 @@ visible-tuple = refl
 unborn-tuple : agrees 1 4 (record { settled = unborn; pending = none }) [] ≡ true
 unfolding openRules agrees
 unborn-tuple = refl
+
+-- a tuple may have a long life: inserted and updated by one transaction, read and updated twice by each of five others in turn, deleted by one more
+long-life :
+    lawful
+    ((acts 0 0 insert 0 1 ∷ acts 0 1 write 0 1 ∷ acts 0 2 write 0 1 ∷ acts 0 3 write 0 1 ∷ acts 0 4 commit 0 0 ∷ [])
+    ++ flatMap
+    (λ i. acts i 0 read 0 1 ∷ acts i 1 write 0 1 ∷ acts i 2 write 0 1 ∷ acts i 3 commit 0 0 ∷ [])
+    (1 ∷ 2 ∷ 3 ∷ 4 ∷ 5 ∷ [])
+    ++ (acts 6 0 read 0 1 ∷ acts 6 1 delete 0 1 ∷ acts 6 2 predicateRead 0 0 ∷ acts 6 3 commit 0 0 ∷ acts 7 0 predicateRead 0 0 ∷ []))
+    ≡ true
+unfolding openRules
+long-life = refl
 
 -- ---- what is done elsewhere hinders nothing
 
