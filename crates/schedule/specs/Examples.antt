@@ -1,20 +1,21 @@
 -- Small closed cases that pin each rule of the schedules (H) and of the serial run (X), each under its label; and the words in which
 -- they and the witnesses are written.
-use mathlib.Core.Bool.{Bool, true, false, false≢true}
+use mathlib.Core.Bool.{Bool, true, false, not, _&&_, false≢true}
 use mathlib.Core.List.{List, [], _∷_, flatMap, List·Memᴰ, List·Memᴰ·cases-cons, List·Memᴰ·not-nil, Memᴰ·cast, _++_, map}
 use mathlib.Core.Logic.{_⊎_, inl, inr}
 use mathlib.Core.Path.{_≡_, ap, refl, sym, _∙_, subst, subst₂}
-use Prim.Native.Nat.{ℕ, _+_, _*_, _%_}
+use Prim.Native.Nat.{ℕ, suc, _+_, _*_, _%_}
 use Rattle.text.specs.declared.Line.{Line}
 use Rattle.text.specs.declared.LineKind.{LineKind}
 use Rattle.text.specs.declared.StatementKind.{StatementKind}
 use Rattle.graph.specs.Program.{Statement, Program, statementOf, behind, runOf, linksOf, programsOf, Run}
-use Rattle.graph.specs.Unfolding.{inside, occurrences}
+use Rattle.graph.specs.Unfolding.{Occurrence, inside, occurrences}
 use Rattle.graph.specs.Edge.{W, R, T, leads, binds}
 use Rattle.schedule.specs.Event.{Action, Event, by, writesTo, pastAt, writesOf, committed, seen, source, existence, visible}
 use Rattle.schedule.specs.Event.{insertsFirst, deletesLast, meetsVisible, waits, sameStatement, together, obeys, allObey}
 use Rattle.schedule.specs.Serial.{serialRun, stateAt, SameRead, SamePredicateRead, SerialOrder}
-use Rattle.schedule.specs.Schedule.{Tuple, Transaction, Operation, Schedule, performedFrom, performed, onTuple, operationsOf}
+use Rattle.schedule.specs.Schedule.{Tuple, Transaction, Performed, Operation, Schedule, everyAttribute, chosen}
+use Rattle.schedule.specs.Schedule.{performedFrom, performed, onTuple, operationsOf}
 use Rattle.schedule.specs.Schedule.{operations, numbered, eventsOf, linkKept, keysKept}
 use mathlib.Core.List.List·Memᴰ.{List·Memᴰ·head}
 use mathlib.Core.Option.{none, some, Option·some-ne-none}
@@ -90,14 +91,14 @@ unfolding openWorkload
 loop-never = refl
 
 -- a transaction of one statement of this kind on relation 5, with reads 1, writes 2 and tests 4; as a key statement it is on
--- tuple 7, as a predicate statement on tuples 8 and 9
+-- tuple 7, as a predicate statement on tuples 8, 9 and 10
 abbrev alone : StatementKind → Transaction
 alone k =
     record {
       program = record { body = next (statement (says k 0 5 1 2 4)) done; links = [] };
       execution = step perform end;
       tuple = λ i. 7;
-      tuples = λ i. 8 ∷ 9 ∷ [];
+      tuples = λ i. 8 ∷ 9 ∷ 10 ∷ [];
     }
 
 abbrev operation : ℕ → Action → ℕ → ℕ → ℕ → Operation
@@ -127,7 +128,8 @@ unfolding openWorkload
 delete-one = refl
 
 -- H2, H12: ps gives a predicate read of the relation, then a read of each tuple
-select-many : operations (alone Ps) ≡ operation 0 predicateRead 5 0 4 ∷ operation 0 read 5 8 1 ∷ operation 0 read 5 9 1 ∷ last
+select-many : operations (alone Ps)
+    ≡ operation 0 predicateRead 5 0 4 ∷ operation 0 read 5 8 1 ∷ operation 0 read 5 9 1 ∷ operation 0 read 5 10 1 ∷ last
 unfolding openWorkload
 select-many = refl
 
@@ -135,16 +137,46 @@ select-many = refl
 update-many : operations (alone Pu)
     ≡ operation 0 predicateRead 5 0 4
     ∷ operation 0 read 5 8 1 ∷ operation 0 write 5 8 2
-    ∷ operation 0 read 5 9 1 ∷ operation 0 write 5 9 2 ∷ last
+    ∷ operation 0 read 5 9 1 ∷ operation 0 write 5 9 2
+    ∷ operation 0 read 5 10 1 ∷ operation 0 write 5 10 2 ∷ last
 unfolding openWorkload
 update-many = refl
 
 -- H2, H12, H13: pd gives a predicate read, then a delete of each tuple
 delete-many : operations (alone Pd)
     ≡ operation 0 predicateRead 5 0 4
-    ∷ operation 0 delete 5 8 0xffff_ffff_ffff_ffff ∷ operation 0 delete 5 9 0xffff_ffff_ffff_ffff ∷ last
+    ∷ operation 0 delete 5 8 everyAttribute ∷ operation 0 delete 5 9 everyAttribute ∷ operation 0 delete 5 10 everyAttribute ∷ last
 unfolding openWorkload
 delete-many = refl
+
+-- a statement of this kind with these tuples at place 3
+abbrev at : StatementKind → List ℕ → Performed
+at k l = record { place = 3; occurrence = record { statement = says k 0 5 1 2 4; path = [] }; tuples = chosen k 7 l }
+
+-- H2: so it is with any finite number of tuples, none too
+select-any : (l : List ℕ) → operationsOf (at Ps l) ≡ operation 3 predicateRead 5 0 4 ∷ flatMap (λ t. operation 3 read 5 t 1 ∷ []) l
+unfolding openWorkload
+select-any l = refl
+
+update-any : (l : List ℕ) → operationsOf (at Pu l)
+    ≡ operation 3 predicateRead 5 0 4 ∷ flatMap (λ t. operation 3 read 5 t 1 ∷ operation 3 write 5 t 2 ∷ []) l
+unfolding openWorkload
+update-any l = refl
+
+delete-any : (l : List ℕ) → operationsOf (at Pd l)
+    ≡ operation 3 predicateRead 5 0 4 ∷ flatMap (λ t. operation 3 delete 5 t everyAttribute ∷ []) l
+unfolding openWorkload
+delete-any l = refl
+
+-- H8: every statement of the execution is performed, in its order
+performed-all : (x : Transaction) (i : ℕ) (l : List Occurrence) → map (λ p. p .occurrence) (performedFrom x i l) ≡ l
+unfolding performedFrom
+performed-all x i [] = refl
+performed-all x i (o ∷ l) = ap (λ r. o ∷ r) (performed-all x (suc i) l)
+
+every-statement : (x : Transaction) → map (λ p. p .occurrence) (performed x) ≡ occurrences (x .execution) 0
+unfolding performed
+every-statement x = performed-all x 0 (occurrences (x .execution) 0)
 
 -- H8, X7: a transaction's events are numbered in their order, and the commit is the last
 numbered-events : eventsOf 3 (alone Ku) ≡ event 3 0 0 read 5 7 1 ∷ event 3 1 0 write 5 7 2 ∷ event 3 2 1 commit 0 0 0 ∷ []
@@ -290,6 +322,32 @@ sees-start : seen (does 0 0 write 0 ∷ []) 2 0 0 ≡ []
 unfolding openRules
 sees-start = refl
 
+-- latest first: on tuple 2 of relation 3 transactions 0 and 1 have written and committed, then transaction 2 has written; transaction 3 has
+-- begun before them all, and transaction 4 has written elsewhere and committed
+abbrev history : List Event
+history =
+    event 2 0 0 write 3 2 1 ∷ event 4 1 1 commit 0 0 0 ∷ event 4 0 0 write 0 2 1 ∷ event 1 1 1 commit 0 0 0 ∷ event 1 0 0 write 3 2 1
+    ∷ event 0 2 2 commit 0 0 0 ∷ event 0 1 1 write 3 2 1 ∷ event 0 0 0 write 3 2 1 ∷ event 3 0 0 read 3 2 1 ∷ []
+
+-- H10: the version that each of the transactions sees of the tuple, as the transactions whose writes it holds: the last committed one, also for one
+-- that began before; a transaction's own
+sees-each : map (λ i. map (λ w. w .transaction) (seen history i 3 2)) (2 ∷ 3 ∷ 4 ∷ 5 ∷ [])
+    ≡ (2 ∷ 1 ∷ 0 ∷ 0 ∷ []) ∷ (1 ∷ 0 ∷ 0 ∷ []) ∷ (1 ∷ 0 ∷ 0 ∷ []) ∷ (1 ∷ 0 ∷ 0 ∷ []) ∷ []
+unfolding openRules
+sees-each = refl
+
+-- H10: a version holds all writes up to its last, also where the list is not lawful: transaction 0 has not committed, and 1 has
+sees-all-below : map (λ i. map (λ w. w .transaction) (seen (does 1 1 commit 0 ∷ does 1 0 write 0 ∷ does 0 0 write 0 ∷ []) i 0 0)) (0 ∷ 1 ∷ 2 ∷ [])
+    ≡ (0 ∷ []) ∷ (1 ∷ 0 ∷ []) ∷ (1 ∷ 0 ∷ []) ∷ []
+unfolding openRules
+sees-all-below = refl
+
+-- who has committed, also with nothing written
+has-committed : map (committed (does 1 1 commit 0 ∷ does 2 0 read 0 ∷ does 0 1 commit 0 ∷ does 0 0 write 0 ∷ [])) (0 ∷ 1 ∷ 2 ∷ 3 ∷ [])
+    ≡ true ∷ true ∷ false ∷ false ∷ []
+unfolding openRules
+has-committed = refl
+
 -- H11: no transaction writes a tuple between another's write of it and that one's commit
 write-early : rules (does 0 0 write 0 ∷ does 1 0 write 0 ∷ []) ≡ false
 unfolding openRules
@@ -329,6 +387,11 @@ source-newer = refl
 source-insert : source thrice 63 ≡ some (event 0 0 0 insert 0 1 0xffff_ffff_ffff_ffff)
 unfolding openRules
 source-insert = refl
+
+-- H13: a delete writes all too
+source-delete : source (event 0 3 3 delete 0 1 0xffff_ffff_ffff_ffff ∷ thrice) 1 ≡ some (event 0 3 3 delete 0 1 0xffff_ffff_ffff_ffff)
+unfolding openRules
+source-delete = refl
 
 -- H13: where there is none, from the start
 source-start : source (event 0 1 1 write 0 1 1 ∷ []) 1 ≡ none
@@ -373,6 +436,68 @@ visible-relation = refl
 insert-relation : insertsFirst (λ r t. eqb r 0) [] (event 0 0 0 insert 1 0 0) ≡ true
 unfolding openRules
 insert-relation = refl
+
+-- ---- each rule by itself, also where another would refuse the same: on tuple 2 of relation 3, which starts visible, transaction 0 has done
+-- what `past` says, and then transaction 1 does what `a` says
+abbrev alone-rule : ((ℕ → ℕ → Bool) → List Event → Event → Bool) → List Event → List Bool
+alone-rule rule past =
+    map
+    (λ a. rule (λ r t. eqb r 3 && eqb t 2) past (event 1 0 0 a 3 2 1))
+    (read ∷ write ∷ insert ∷ delete ∷ predicateRead ∷ commit ∷ [])
+
+-- H5: no insert after a write, nor where the tuple starts visible
+first-alone : map (alone-rule insertsFirst) ([] ∷ (event 0 0 0 delete 3 2 1 ∷ []) ∷ [])
+    ≡ (true ∷ true ∷ false ∷ true ∷ true ∷ true ∷ []) ∷ (true ∷ true ∷ false ∷ true ∷ true ∷ true ∷ []) ∷ []
+unfolding openRules
+first-alone = refl
+
+first-unborn : map (λ past. insertsFirst (λ r t. false) past (event 1 0 0 insert 3 2 1))
+    ([] ∷ (event 0 0 0 insert 3 2 1 ∷ []) ∷ (event 1 0 0 delete 3 2 1 ∷ []) ∷ (event 0 0 0 insert 2 3 1 ∷ []) ∷ [])
+    ≡ true ∷ false ∷ false ∷ true ∷ []
+unfolding openRules
+first-unborn = refl
+
+-- H5: no write, insert or delete after a delete of the tuple, whosever it is and whether committed or not
+last-alone : map (alone-rule (λ start. deletesLast))
+    ((event 0 0 0 delete 3 2 1 ∷ [])
+    ∷ (event 0 1 1 commit 0 0 0 ∷ event 0 0 0 delete 3 2 1 ∷ [])
+    ∷ (event 0 0 0 delete 2 3 1 ∷ event 0 0 0 write 3 2 1 ∷ [])
+    ∷ [])
+    ≡ (true ∷ false ∷ false ∷ false ∷ true ∷ true ∷ [])
+    ∷ (true ∷ false ∷ false ∷ false ∷ true ∷ true ∷ [])
+    ∷ (true ∷ true ∷ true ∷ true ∷ true ∷ true ∷ [])
+    ∷ []
+unfolding openRules
+last-alone = refl
+
+-- H6: a read meets the version seen, a write and a delete the latest; inserts, predicate reads and commits meet none
+visible-alone : map (alone-rule meetsVisible)
+    ([] ∷ (event 0 0 0 delete 3 2 1 ∷ []) ∷ (event 0 1 1 commit 0 0 0 ∷ event 0 0 0 delete 3 2 1 ∷ []) ∷ [])
+    ≡ (true ∷ true ∷ true ∷ true ∷ true ∷ true ∷ [])
+    ∷ (true ∷ false ∷ true ∷ false ∷ true ∷ true ∷ [])
+    ∷ (false ∷ false ∷ true ∷ false ∷ true ∷ true ∷ [])
+    ∷ []
+unfolding openRules
+visible-alone = refl
+
+-- H11: each write of the tuple that is another's and not committed bars writes, inserts and deletes, also below an own one
+waits-alone : map (alone-rule (λ start. waits))
+    ((event 0 0 0 write 3 2 1 ∷ [])
+    ∷ (event 0 0 0 insert 3 2 1 ∷ [])
+    ∷ (event 0 0 0 delete 3 2 1 ∷ [])
+    ∷ (event 1 0 0 write 3 2 1 ∷ event 0 0 0 write 3 2 1 ∷ [])
+    ∷ (event 0 1 1 commit 0 0 0 ∷ event 0 0 0 write 3 2 1 ∷ event 1 0 0 write 3 2 1 ∷ [])
+    ∷ (event 0 0 0 write 2 3 1 ∷ event 0 0 0 write 3 3 1 ∷ event 0 0 0 write 2 2 1 ∷ event 0 0 0 read 3 2 1 ∷ [])
+    ∷ [])
+    ≡ (true ∷ false ∷ false ∷ false ∷ true ∷ true ∷ [])
+    ∷ (true ∷ false ∷ false ∷ false ∷ true ∷ true ∷ [])
+    ∷ (true ∷ false ∷ false ∷ false ∷ true ∷ true ∷ [])
+    ∷ (true ∷ false ∷ false ∷ false ∷ true ∷ true ∷ [])
+    ∷ (true ∷ true ∷ true ∷ true ∷ true ∷ true ∷ [])
+    ∷ (true ∷ true ∷ true ∷ true ∷ true ∷ true ∷ [])
+    ∷ []
+unfolding openRules
+waits-alone = refl
 
 -- H2: each place has its own tuples
 abbrev twoSelects : Transaction
@@ -464,27 +589,56 @@ unfolding openWorkload
 link-second-turn = refl
 
 -- each tuple of the child counts
-link-each-tuple : keysKept byTen (childMany (10 ∷ 20 ∷ [])) ≡ true
+link-each-tuple : keysKept byTen (childMany (10 ∷ 20 ∷ 30 ∷ [])) ≡ true
 unfolding openWorkload
 link-each-tuple = refl
 
-link-second-tuple : keysKept byTen (childMany (10 ∷ 21 ∷ [])) ≡ false
+link-last-tuple : keysKept byTen (childMany (10 ∷ 20 ∷ 31 ∷ [])) ≡ false
 unfolding openWorkload
-link-second-tuple = refl
+link-last-tuple = refl
 
--- two children by two links: statement 1 by key 1 and statement 2 by key 2, on the tuples given by place
-abbrev twoLinks : (ℕ → ℕ) → Transaction
-twoLinks tuples =
+-- a parent of this kind on tuple 0, and after it a child of that kind on tuple t
+abbrev linked : ℕ → StatementKind → StatementKind → Transaction
+linked t p c =
+    record {
+      program =
+          record {
+            body = next (statement (says p 0 0 1 1 0)) (next (statement (says c 1 1 1 1 1)) done);
+            links = record { key = 0; child = 1; parent = 0 } ∷ [];
+          };
+      execution = step perform (step perform end);
+      tuple = λ i. i * t;
+      tuples = λ i. t ∷ [];
+    }
+
+-- links hold between parents and children of every kind that they may have
+link-kinds :
+    map
+    (λ p. all
+    (λ c. keysKept byTen (linked 10 p c) && not (keysKept byTen (linked 11 p c)))
+    (Is ∷ Ks ∷ Ps ∷ Ku ∷ Pu ∷ Kd ∷ Pd ∷ []))
+    (Is ∷ Ks ∷ Ku ∷ Kd ∷ [])
+    ≡ true ∷ true ∷ true ∷ true ∷ []
+unfolding openWorkload
+link-kinds = refl
+
+-- three children by three links: statement 1 by key 3, statement 2 by key 4 and statement 3 by key 5, on the tuples given by place
+abbrev threeLinks : (ℕ → ℕ) → Transaction
+threeLinks tuples =
     record {
       program =
           record {
             body =
                 next
                 (statement (says Ku 0 0 0 1 0))
-                (next (statement (says Ku 1 1 0 1 0)) (next (statement (says Ku 2 2 0 1 0)) done));
-            links = record { key = 1; child = 1; parent = 0 } ∷ record { key = 2; child = 2; parent = 0 } ∷ [];
+                (next (statement (says Ku 1 1 0 1 0)) (next (statement (says Ku 2 2 0 1 0)) (next (statement (says Ku 3 3 0 1 0)) done)));
+            links =
+                record { key = 3; child = 1; parent = 0 }
+                ∷ record { key = 4; child = 2; parent = 0 }
+                ∷ record { key = 5; child = 3; parent = 0 }
+                ∷ [];
           };
-      execution = step perform (step perform (step perform end));
+      execution = step perform (step perform (step perform (step perform end)));
       tuple = tuples;
       tuples = λ i. [];
     }
@@ -493,15 +647,15 @@ twoLinks tuples =
 abbrev byAll : ℕ → Tuple → Tuple
 byAll f t = record { relation = 0; number = f * 100 + t .relation * 10 + t .number }
 
--- each link's own key is applied to its child's tuple, relation and number: both give the parent's 225
-link-by-key : keysKept byAll (twoLinks (λ i. getD (225 ∷ 115 ∷ 5 ∷ []) i 0)) ≡ true
+-- each link's own key is applied to its child's tuple, relation and number: all give the parent's 535
+link-by-key : keysKept byAll (threeLinks (λ i. getD (535 ∷ 225 ∷ 115 ∷ 5 ∷ []) i 0)) ≡ true
 unfolding openWorkload
 link-by-key = refl
 
--- every link counts, the second too
-link-second : keysKept byAll (twoLinks (λ i. getD (225 ∷ 115 ∷ 6 ∷ []) i 0)) ≡ false
+-- every link counts, the last too
+link-last : keysKept byAll (threeLinks (λ i. getD (535 ∷ 225 ∷ 115 ∷ 6 ∷ []) i 0)) ≡ false
 unfolding openWorkload
-link-second = refl
+link-last = refl
 
 -- a schedule in which a link is broken is none
 link-refused : {lines : List Line} (s : Schedule lines) → s .key ≡ byTen
@@ -551,8 +705,9 @@ none-foreign s = go (s .transactions) refl
     go [] h = refl
     go (x ∷ l) h = absurd (List·Memᴰ·not-nil (s .ofPrograms x (subst (List·Memᴰ x) (sym h) (List·Memᴰ·head refl))))
 
--- each event obeys the rules
-none-against : {lines : List Line} (s : Schedule lines) (rest : List Event) → s .events ≡ does 0 0 insert 0 ∷ rest → s .start 0 0 ≡ false
+-- each event obeys the rules, here the second
+none-against : {lines : List Line} (s : Schedule lines) (rest : List Event) → s .events ≡ does 1 0 commit 0 ∷ does 0 0 insert 0 ∷ rest
+    → s .start 0 0 ≡ false
 unfolding openRules
 none-against s rest e = false-of (s .start 0 0) (λ h. false≢true (rw h at (subst (λ l. allObey (s .start) [] l ≡ true) e (s .obeyed))))
 

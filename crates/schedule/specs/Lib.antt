@@ -2,7 +2,11 @@ pub mod Event
 pub mod Schedule
 pub mod Serial
 pub mod Examples
+pub mod Tables
+pub mod SerialCases
 pub mod SerialTest
 pub mod Interleaved
+pub mod Kinds
+pub mod Unbounded
 pub mod Unserialisable
 pub mod Phantom

@@ -6,4 +6,5 @@ pub mod Stages
 pub mod Schedules
 pub mod FromLines
 pub mod StatementSets
+pub mod OnePosition
 pub mod Theorem

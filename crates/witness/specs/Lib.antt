@@ -1,0 +1,2 @@
+pub mod Rich
+pub mod Joined
