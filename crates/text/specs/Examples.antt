@@ -413,6 +413,10 @@ rl-after-pr : behind ("rl 2 - - 3 - -" ∷ []) ≡ refused 7 7
 unfolding behind
 rl-after-pr = refl
 
+rl-after-pr-alone : given ("pr 0 - - - - -" ∷ "rl 0 - - 3 - -" ∷ []) ≡ refused 7 3
+unfolding given
+rl-after-pr-alone = refl
+
 fk-after-pr : behind ("fk 2 0 0 - - -" ∷ []) ≡ refused 7 7
 unfolding behind
 fk-after-pr = refl
@@ -472,6 +476,11 @@ el-in-loop : behind (lo ∷ el ∷ en ∷ []) ≡ refused 7 8
 unfolding behind
 el-in-loop = refl
 
+-- R7: the opener is the innermost block's: no el in a loop in a first arm, no en in a first arm in a loop
+inner-opener : map behind ((br ∷ lo ∷ el ∷ en ∷ el ∷ en ∷ []) ∷ (lo ∷ br ∷ en ∷ en ∷ []) ∷ []) ≡ refused 7 9 ∷ refused 7 9 ∷ []
+unfolding behind
+inner-opener = refl
+
 el-twice : behind (br ∷ el ∷ el ∷ en ∷ []) ≡ refused 7 9
 unfolding behind
 el-twice = refl
@@ -509,6 +518,17 @@ id-of-pr = refl
 id-of-statement : behind (is0 ∷ is0 ∷ []) ≡ refused 6 8
 unfolding behind
 id-of-statement = refl
+
+-- R6, T7: no id comes again, and none is passed over
+id-again : map given
+    (("rl 0 - - 3 - -" ∷ "rl 0 - - 3 - -" ∷ []) ∷ ("rl 0 - - 3 - -" ∷ "fk 0 0 0 - - -" ∷ "fk 0 0 0 - - -" ∷ []) ∷ [])
+    ≡ refused 6 3 ∷ refused 6 4 ∷ []
+unfolding given
+id-again = refl
+
+id-passed-over : map behind (("pr 2 - - - - -" ∷ []) ∷ (is1 ∷ []) ∷ []) ≡ refused 6 7 ∷ refused 6 7 ∷ []
+unfolding behind
+id-passed-over = refl
 
 -- R6, T7: statements in their program
 id-in-program : taken (is0 ∷ "pr 1 - - - - -" ∷ is0 ∷ is1 ∷ []) ≡ true
