@@ -1,8 +1,9 @@
 -- Small workloads that pin each rule of unfoldings (U) and walks (W).
-use mathlib.Core.Bool.{true, false}
+use mathlib.Core.Bool.{Bool, true, false, not}
 use mathlib.Core.List.{List, [], _∷_, _++_, map, flatMap}
 use mathlib.Core.Path.{_≡_, refl}
 use Prim.Native.Nat.{ℕ}
+use lib.Dec.{eqb}
 use lib.ListN.{replicate}
 use Rattle.base.specs.Basic.{numbers}
 use Rattle.text.specs.declared.Line.{Line}
@@ -13,6 +14,7 @@ use Rattle.graph.specs.Program.{statementOf, runOf, programsOf}
 use Rattle.graph.specs.Program.Run.{done}
 use Rattle.graph.specs.Unfolding.{Around, nodesOf}
 use Rattle.graph.specs.Edge.{leads}
+use Rattle.graph.specs.Walk.{Step, isDangerous}
 use Rattle.graph.specs.ExampleText.{line, rl, fk, pr, is, ks, ps, ku, pu, kd, pd, lo, br, el, en, li, step}
 use Rattle.graph.specs.ExampleText.{nodes, ids, dangerous, sizes, base, twice, select-first}
 
@@ -23,7 +25,7 @@ T5-statement : statementOf Pu (line (St Pu) 1 2 3 4 5 6) ≡ record { kind = Pu;
 unfolding statementOf
 T5-statement = refl
 
-T5-links : map (λ p. p .links) (programsOf (fk 0 0 0 ∷ pr 0 ∷ lo ∷ ks 0 0 1 ∷ en ∷ br ∷ el ∷ en ∷ li 5 6 7 ∷ li 8 9 10 ∷ pr 1 ∷ pr 2 ∷ li 1 2 3 ∷ []))
+T5-links : map (λ p. p .links) (programsOf (fk 0 0 0 ∷ pr 0 ∷ lo ∷ ks 0 0 1 ∷ en ∷ br ∷ el ∷ en ∷ li 5 6 7 ∷ li 8 9 10 ∷ pr 1 ∷ pr 2 ∷ rl 0 1 ∷ fk 0 0 0 ∷ li 1 2 3 ∷ []))
     ≡ (record { key = 5; child = 6; parent = 7 } ∷ record { key = 8; child = 9; parent = 10 } ∷ [])
     ∷ []
     ∷ (record { key = 1; child = 2; parent = 3 } ∷ [])
@@ -137,6 +139,17 @@ E4-paths : paths (ks 0 0 1 ∷ lo ∷ ks 1 0 1 ∷ ks 2 0 1 ∷ br ∷ ks 3 0 1 
 unfolding paths
 E4-paths = refl
 
+-- E4: a branch in each arm of a branch, as the second item and as the third
+E4-paths-in-arms
+    : paths (ks 0 0 1 ∷ br ∷ ks 1 0 1 ∷ br ∷ ks 2 0 1 ∷ el ∷ en ∷ el ∷ ks 3 0 1 ∷ ks 4 0 1 ∷ br ∷ el ∷ ks 5 0 1 ∷ en ∷ en ∷ [])
+    ≡ ([] ∷ ((1, 0) ∷ []) ∷ ((1, 0) ∷ (1, 0) ∷ []) ∷ [])
+    ∷ ([] ∷ ((1, 0) ∷ []) ∷ [])
+    ∷ ([] ∷ ((1, 1) ∷ []) ∷ ((1, 1) ∷ []) ∷ [])
+    ∷ ([] ∷ ((1, 1) ∷ []) ∷ ((1, 1) ∷ []) ∷ ((1, 1) ∷ (2, 1) ∷ []) ∷ [])
+    ∷ []
+unfolding paths
+E4-paths-in-arms = refl
+
 -- E4: the paths that go on to this one: its first parts, with the same items and turns
 E4-leads : let at : ℕ → ℕ → Around = λ item turn. record { item = item; turn = turn } in
     map
@@ -228,6 +241,26 @@ W1-no-edge = (refl, refl, refl, refl)
 W1-empty : dangerous twice [] ≡ false
 unfolding dangerous
 W1-empty = refl
+
+-- W4 over a graph with every edge between two nodes, where no kind makes a pair dangerous: e is back, or c leaves earlier than e enters
+every-edge : List Step → Bool
+unfolding dangerous
+every-edge walk = isDangerous (record { size = 2; places = λ m. 9; edge = λ m i n j flow. not (eqb m n); loose = λ m i. false }) walk
+
+W4-every-edge
+    : map
+    every-edge
+    ((step 0 0 0 Flow.back ∷ step 1 0 0 Flow.back ∷ step 0 0 0 Flow.forward ∷ step 1 0 0 Flow.forward ∷ [])
+    ∷ (step 0 0 3 Flow.forward ∷ step 1 2 0 Flow.back ∷ [])
+    ∷ (step 0 0 2 Flow.forward ∷ step 1 2 0 Flow.back ∷ [])
+    ∷ (step 0 4 2 Flow.forward ∷ step 1 3 0 Flow.back ∷ [])
+    ∷ (step 0 0 3 Flow.forward ∷ step 1 2 4 Flow.forward ∷ [])
+    ∷ (step 0 0 1 Flow.forward ∷ step 1 2 1 Flow.back ∷ [])
+    ∷ (step 0 0 3 Flow.forward ∷ step 1 2 0 Flow.back ∷ step 0 0 0 Flow.forward ∷ [])
+    ∷ [])
+    ≡ true ∷ true ∷ false ∷ false ∷ false ∷ false ∷ false ∷ []
+unfolding every-edge
+W4-every-edge = refl
 
 -- a program that ends with this statement, and one that the statement has an edge to, in front of a back edge to the first
 abbrev leaving : Line → List Line

@@ -17,7 +17,7 @@ use Rattle.text.specs.Text.{isHexadecimal, linesIn, fieldsIn, namesLine,
 use Rattle.text.specs.Reading.{sort, isStatementOf, program, relation, key, statement, Block, blocksAfter, openBlocks, blocksAround}
 use Rattle.text.specs.Reading.{Outcome, isAllowed, otherByte, fault, readLines, read}
 use Rattle.text.specs.Reading.Outcome.{refused, accepted}
-use Rattle.text.specs.Value.{valueOf, Given, written}
+use Rattle.text.specs.Value.{linesOf, valueOf, Given, written}
 use Rattle.text.specs.Quoted.{bytes, text, readBytes, given, rereads}
 
 -- two relations, a key from relation 1 to relation 0, one from relation 0 to itself, and a program
@@ -40,10 +40,13 @@ behind : List String → Outcome
 unfolding given baseLines
 behind lines = readLines baseLines (map bytes lines)
 
+abbrev isAccepted : Outcome → Bool
+isAccepted o = elim o [ refused number line ↦ false | accepted lines ↦ true ]
+
 -- lines behind `base` are accepted
 taken : List String → Bool
 unfolding behind
-taken lines = elim (behind lines) [ refused number line ↦ false | accepted lines′ ↦ true ]
+taken lines = isAccepted (behind lines)
 
 -- lines of flow, and two inserts into relation 0
 abbrev lo : String
@@ -556,6 +559,11 @@ key-of-li : behind (is0 ∷ "li 2 0 0 - - -" ∷ []) ≡ refused 6 8
 unfolding behind
 key-of-li = refl
 
+key-of-li-in-keys
+    : given ("rl 0 - - 3 - -" ∷ "rl 1 - - 3 - -" ∷ "fk 0 0 0 - - -" ∷ "pr 0 - - - - -" ∷ is0 ∷ "li 1 0 0 - - -" ∷ []) ≡ refused 6 7
+unfolding given
+key-of-li-in-keys = refl
+
 child-of-li : behind (is0 ∷ "li 1 1 0 - - -" ∷ []) ≡ refused 6 8
 unfolding behind
 child-of-li = refl
@@ -572,6 +580,11 @@ child-of-other-program = refl
 parent-of-other-program : behind (is0 ∷ is1 ∷ "pr 1 - - - - -" ∷ is0 ∷ "li 1 0 1 - - -" ∷ []) ≡ refused 6 11
 unfolding behind
 parent-of-other-program = refl
+
+-- R6: a line of flow is no statement
+flow-no-statement : map behind ((is0 ∷ lo ∷ en ∷ "li 1 1 0 - - -" ∷ []) ∷ (is0 ∷ lo ∷ en ∷ "li 1 0 1 - - -" ∷ []) ∷ []) ≡ refused 6 10 ∷ refused 6 10 ∷ []
+unfolding behind
+flow-no-statement = refl
 
 -- R7 comes before R6, R6 before R5
 order-before-id : behind ("rl 9 - - 3 - -" ∷ []) ≡ refused 7 7
@@ -724,6 +737,29 @@ link-in-program : taken (is0 ∷ "ps 1 0 - 1 - 1" ∷ "pr 1 - - - - -" ∷ is0 �
 unfolding taken
 link-in-program = refl
 
+-- R8: its child, and the blocks around both, are those of its own program, too; its key is the one that it names
+links-in-program
+    : map taken
+    (("is 0 1 - - 3 -" ∷ "pr 1 - - - - -" ∷ is0 ∷ "li 1 0 0 - - -" ∷ [])
+    ∷ (lo ∷ is0 ∷ en ∷ is1 ∷ "pr 1 - - - - -" ∷ is0 ∷ is1 ∷ "li 1 1 0 - - -" ∷ [])
+    ∷ (is0 ∷ "is 1 1 - - 3 -" ∷ "li 0 1 0 - - -" ∷ [])
+    ∷ [])
+    ≡ true ∷ true ∷ true ∷ []
+unfolding taken
+links-in-program = refl
+
+link-by-second-key
+    : isAccepted
+    (given
+    ("rl 0 - - 3 - -"
+    ∷ "rl 1 - - 3 - -"
+    ∷ "fk 0 0 0 - - -"
+    ∷ "fk 1 0 1 - - -"
+    ∷ "pr 0 - - - - -" ∷ "is 0 1 - - 3 -" ∷ is1 ∷ "li 1 1 0 - - -" ∷ []))
+    ≡ true
+unfolding given
+link-by-second-key = refl
+
 -- Each line is tested before the next one: the first refused line counts
 first-line-first : behind ("is 0 0 - - 1 -" ∷ "is 9 9 - - 9 -" ∷ []) ≡ refused 5 7
 unfolding behind
@@ -738,6 +774,11 @@ form-before-bound = refl
 nothing-given : Given (record { count = 0; lines = replicate 1616 unusedLine })
 unfolding readBytes valueOf text
 nothing-given = record { text = text ("kind id rel to reads writes tests" ∷ []); lines = []; isRead = refl; value = refl }
+
+-- S21: the first cells of a value hold its lines, the others the unused line; the lines of the value are those again
+value-of-lines : (linesOf (valueOf baseLines) ≡ baseLines) × (valueOf baseLines .lines ≡ baseLines ++ replicate 1611 unusedLine)
+unfolding valueOf linesOf baseLines
+value-of-lines = (refl, refl)
 
 -- S21: a cell past `count` that holds another line
 other-kind : _≡_ {A = LineKind} Lo En → ⊥
