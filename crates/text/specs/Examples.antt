@@ -97,6 +97,10 @@ no-last-newline : readBytes (bytes "kind id rel to reads writes tests") ≡ refu
 unfolding readBytes bytes
 no-last-newline = refl
 
+no-newline-after-lines : readBytes (text ("kind id rel to reads writes tests" ∷ []) ++ bytes "rl 0 - - 3 - -") ≡ refused 2 0
+unfolding readBytes text bytes
+no-newline-after-lines = refl
+
 -- R2: another byte in the first line, before the first line is compared
 byte-in-names : readBytes (text ("Kind id rel to reads writes tests" ∷ [])) ≡ refused 2 1
 unfolding readBytes text
@@ -120,6 +124,10 @@ names-shorter = refl
 names-longer : readBytes (text ("kind id rel to reads writes tests " ∷ [])) ≡ refused 3 1
 unfolding readBytes text
 names-longer = refl
+
+names-second : readBytes (text ("rl 0 - - 3 - -" ∷ "kind id rel to reads writes tests" ∷ [])) ≡ refused 3 1
+unfolding readBytes text
+names-second = refl
 
 -- T1: lines end with 0A, fields are parted by one space; what stands between may be empty
 lines-parted : linesIn (bytes "a b\n\n c\nd") ≡ map bytes ("a b" ∷ "" ∷ " c" ∷ "d" ∷ [])
