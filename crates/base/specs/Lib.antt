@@ -1,4 +1,5 @@
 pub mod Basic
+pub mod Examples
 pub mod BoolLaws
 pub mod ListLaws
 pub mod WordLaws

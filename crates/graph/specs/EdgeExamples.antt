@@ -12,9 +12,27 @@ use Rattle.text.specs.declared.StatementKind.the-variants.{Is, Ks, Ps, Ku, Pu, 
 use Rattle.graph.specs.Graph.{Flow}
 use Rattle.graph.specs.Unfolding.{nodesOf}
 use Rattle.graph.specs.Edge.{Letter, Place, Edge, holds, at, stands, placesOf, placeAt, bothPass}
+use Rattle.graph.specs.Edge.{hasReads, hasWrites, hasTests, inserts, deletes, selects, shields, loosens}
 use Rattle.graph.specs.Edge.Letter.{A, B, C, D, E}
 use Rattle.graph.specs.ExampleText.{line, rl, fk, pr, is, ks, ps, ku, pu, kd, pd, lo, br, el, en, li, edge}
 use Rattle.graph.specs.ExampleText.{edges, backs, graph, isBackEdge, twice}
+
+-- T5, E3, W4: which of the kinds have reads, writes, tests; insert, delete, select; shield as parents; loosen a pair
+kinds : List StatementKind
+kinds = Is ∷ Ks ∷ Ps ∷ Ku ∷ Pu ∷ Kd ∷ Pd ∷ []
+
+E-kinds : map (λ test. keep test kinds) (hasReads ∷ hasWrites ∷ hasTests ∷ inserts ∷ deletes ∷ selects ∷ shields ∷ loosens ∷ [])
+    ≡ (Ks ∷ Ps ∷ Ku ∷ Pu ∷ [])
+    ∷ (Is ∷ Ku ∷ Pu ∷ Kd ∷ Pd ∷ [])
+    ∷ (Ps ∷ Pu ∷ Pd ∷ [])
+    ∷ (Is ∷ [])
+    ∷ (Kd ∷ Pd ∷ [])
+    ∷ (Ks ∷ Ps ∷ [])
+    ∷ (Is ∷ Ku ∷ Kd ∷ [])
+    ∷ (Ks ∷ Ps ∷ Pu ∷ Pd ∷ [])
+    ∷ []
+unfolding kinds
+E-kinds = refl
 
 -- ---- E0 to E2, E5, E6: letters, edges and their records
 

@@ -1,11 +1,54 @@
 -- Small workloads that pin each rule of unfoldings (U) and walks (W).
-use mathlib.Core.Bool.{true, false}
-use mathlib.Core.List.{List, [], _∷_, map}
+use mathlib.Core.Bool.{Bool, true, false, not}
+use mathlib.Core.List.{List, [], _∷_, _++_, map, flatMap}
 use mathlib.Core.Path.{_≡_, refl}
+use Prim.Native.Nat.{ℕ}
+use lib.Dec.{eqb}
+use lib.ListN.{replicate}
+use Rattle.base.specs.Basic.{numbers}
 use Rattle.text.specs.declared.Line.{Line}
+use Rattle.text.specs.declared.LineKind.the-variants.{St}
+use Rattle.text.specs.declared.StatementKind.the-variants.{Pu}
 use Rattle.graph.specs.Graph.{Flow}
-use Rattle.graph.specs.ExampleText.{rl, pr, is, ks, ps, ku, pu, kd, pd, lo, br, el, en, step}
+use Rattle.graph.specs.Program.{statementOf, runOf, programsOf}
+use Rattle.graph.specs.Program.Run.{done}
+use Rattle.graph.specs.Unfolding.{Around, nodesOf}
+use Rattle.graph.specs.Edge.{leads}
+use Rattle.graph.specs.Walk.{Step, isDangerous}
+use Rattle.graph.specs.ExampleText.{line, rl, fk, pr, is, ks, ps, ku, pu, kd, pd, lo, br, el, en, li, step}
 use Rattle.graph.specs.ExampleText.{nodes, ids, dangerous, sizes, base, twice, select-first}
+
+-- ---- T5, T6: statements, links and programs of lines
+
+-- T5: the values of a statement, of a link
+T5-statement : statementOf Pu (line (St Pu) 1 2 3 4 5 6) ≡ record { kind = Pu; id = 1; relation = 2; reads = 4; writes = 5; tests = 6 }
+unfolding statementOf
+T5-statement = refl
+
+T5-links : map (λ p. p .links) (programsOf (fk 0 0 0 ∷ pr 0 ∷ lo ∷ ks 0 0 1 ∷ en ∷ br ∷ el ∷ en ∷ li 5 6 7 ∷ li 8 9 10 ∷ pr 1 ∷ pr 2 ∷ rl 0 1 ∷ fk 0 0 0 ∷ li 1 2 3 ∷ []))
+    ≡ (record { key = 5; child = 6; parent = 7 } ∷ record { key = 8; child = 9; parent = 10 } ∷ [])
+    ∷ []
+    ∷ (record { key = 1; child = 2; parent = 3 } ∷ [])
+    ∷ []
+unfolding nodes
+T5-links = refl
+
+-- T8: the lines that end a run stay behind it, and so does what the number does not reach
+T8-ends : let ends = rl 0 1 ∷ fk 0 0 0 ∷ pr 0 ∷ el ∷ en ∷ li 0 0 0 ∷ [] in
+    (map (λ l. runOf 3 (l ∷ ks 0 0 1 ∷ [])) ends ≡ map (λ l. record { run = done; rest = l ∷ ks 0 0 1 ∷ [] }) ends)
+    × (runOf 0 (ks 0 0 1 ∷ []) ≡ record { run = done; rest = ks 0 0 1 ∷ [] })
+unfolding nodes
+T8-ends = (refl, refl)
+
+-- T8, T12: a run of as many lines as a program may have, and blocks as deep as they may stand
+T8-long : ids (replicate 64 (ks 7 0 1)) ≡ replicate 64 7 ∷ []
+unfolding ids
+T8-long = refl
+
+T8-deep : ids (replicate 8 br ++ (ks 7 0 1 ∷ flatMap (λ n. el ∷ en ∷ ks 8 0 1 ∷ []) (numbers 8)))
+    ≡ (7 ∷ replicate 8 8) ∷ map (λ n. replicate n 8) (8 ∷ 7 ∷ 6 ∷ 5 ∷ 4 ∷ 3 ∷ 2 ∷ 1 ∷ [])
+unfolding ids flatMap
+T8-deep = refl
 
 -- ---- U: unfoldings
 
@@ -83,6 +126,39 @@ U4-programs : nodes (rl 0 1 ∷ pr 0 ∷ lo ∷ en ∷ pr 1 ∷ pr 2 ∷ br ∷ 
     ∷ []
 unfolding nodes
 U4-programs = refl
+
+-- where the occurrences stand: of each place of each node the items and the turns or arms around it, outermost first
+paths : List Line → List (List (List (ℕ × ℕ)))
+unfolding nodes
+paths body = map (λ n. map (λ o. map (λ a. (a .item, a .turn)) (o .path)) (n .places)) (nodesOf (rl 0 1 ∷ pr 0 ∷ body))
+
+-- E4: a loop around a branch, as the second and third items of their runs: no turn, one, two
+E4-paths : paths (ks 0 0 1 ∷ lo ∷ ks 1 0 1 ∷ ks 2 0 1 ∷ br ∷ ks 3 0 1 ∷ el ∷ ks 4 0 1 ∷ en ∷ en ∷ [])
+    ≡ let one : ℕ → ℕ → List (List (ℕ × ℕ)) = λ turn arm. ((1, turn) ∷ []) ∷ ((1, turn) ∷ []) ∷ ((1, turn) ∷ (2, arm) ∷ []) ∷ [] in
+    map (λ turns. [] ∷ turns) ([] ∷ one 0 0 ∷ one 0 1 ∷ (one 0 0 ++ one 1 0) ∷ (one 0 0 ++ one 1 1) ∷ (one 0 1 ++ one 1 0) ∷ (one 0 1 ++ one 1 1) ∷ [])
+unfolding paths
+E4-paths = refl
+
+-- E4: a branch in each arm of a branch, as the second item and as the third
+E4-paths-in-arms
+    : paths (ks 0 0 1 ∷ br ∷ ks 1 0 1 ∷ br ∷ ks 2 0 1 ∷ el ∷ en ∷ el ∷ ks 3 0 1 ∷ ks 4 0 1 ∷ br ∷ el ∷ ks 5 0 1 ∷ en ∷ en ∷ [])
+    ≡ ([] ∷ ((1, 0) ∷ []) ∷ ((1, 0) ∷ (1, 0) ∷ []) ∷ [])
+    ∷ ([] ∷ ((1, 0) ∷ []) ∷ [])
+    ∷ ([] ∷ ((1, 1) ∷ []) ∷ ((1, 1) ∷ []) ∷ [])
+    ∷ ([] ∷ ((1, 1) ∷ []) ∷ ((1, 1) ∷ []) ∷ ((1, 1) ∷ (2, 1) ∷ []) ∷ [])
+    ∷ []
+unfolding paths
+E4-paths-in-arms = refl
+
+-- E4: the paths that go on to this one: its first parts, with the same items and turns
+E4-leads : let at : ℕ → ℕ → Around = λ item turn. record { item = item; turn = turn } in
+    map
+    (λ path. leads path (at 1 2 ∷ at 3 4 ∷ []))
+    ([] ∷ (at 1 2 ∷ []) ∷ (at 1 2 ∷ at 3 4 ∷ []) ∷ (at 1 2 ∷ at 3 4 ∷ at 0 0 ∷ []) ∷ (at 0 2 ∷ []) ∷ (at 1 0 ∷ []) ∷ (at 1 2 ∷ at 0 4 ∷ [])
+    ∷ (at 1 2 ∷ at 3 0 ∷ []) ∷ [])
+    ≡ true ∷ true ∷ true ∷ false ∷ false ∷ false ∷ false ∷ false ∷ []
+unfolding leads
+E4-leads = refl
 
 -- N2: nodes and places count from 0
 N2-sizes : sizes (rl 0 1 ∷ pr 0 ∷ lo ∷ ks 0 0 1 ∷ en ∷ pr 1 ∷ pr 2 ∷ ks 0 0 1 ∷ ks 1 0 1 ∷ ks 2 0 1 ∷ [])
@@ -165,6 +241,26 @@ W1-no-edge = (refl, refl, refl, refl)
 W1-empty : dangerous twice [] ≡ false
 unfolding dangerous
 W1-empty = refl
+
+-- W4 over a graph with every edge between two nodes, where no kind makes a pair dangerous: e is back, or c leaves earlier than e enters
+every-edge : List Step → Bool
+unfolding dangerous
+every-edge walk = isDangerous (record { size = 2; places = λ m. 9; edge = λ m i n j flow. not (eqb m n); loose = λ m i. false }) walk
+
+W4-every-edge
+    : map
+    every-edge
+    ((step 0 0 0 Flow.back ∷ step 1 0 0 Flow.back ∷ step 0 0 0 Flow.forward ∷ step 1 0 0 Flow.forward ∷ [])
+    ∷ (step 0 0 3 Flow.forward ∷ step 1 2 0 Flow.back ∷ [])
+    ∷ (step 0 0 2 Flow.forward ∷ step 1 2 0 Flow.back ∷ [])
+    ∷ (step 0 4 2 Flow.forward ∷ step 1 3 0 Flow.back ∷ [])
+    ∷ (step 0 0 3 Flow.forward ∷ step 1 2 4 Flow.forward ∷ [])
+    ∷ (step 0 0 1 Flow.forward ∷ step 1 2 1 Flow.back ∷ [])
+    ∷ (step 0 0 3 Flow.forward ∷ step 1 2 0 Flow.back ∷ step 0 0 0 Flow.forward ∷ [])
+    ∷ [])
+    ≡ true ∷ true ∷ false ∷ false ∷ false ∷ false ∷ false ∷ []
+unfolding every-edge
+W4-every-edge = refl
 
 -- a program that ends with this statement, and one that the statement has an edge to, in front of a back edge to the first
 abbrev leaving : Line → List Line

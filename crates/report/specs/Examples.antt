@@ -1,7 +1,7 @@
 -- Closed cases of the refusals of the state and of the report.
 use mathlib.Core.Bool.{Bool, true, false}
-use mathlib.Core.List.{List, [], _∷_, _++_, flatMap}
-use mathlib.Core.Option.{some}
+use mathlib.Core.List.{List, [], _∷_, _++_, map, flatMap}
+use mathlib.Core.Option.{Option, none, some}
 use mathlib.Core.Path.{_≡_, refl, ap}
 use Prim.Native.Nat.{ℕ, zero, suc}
 use Prim.Native.String.{String}
@@ -12,9 +12,10 @@ use Rattle.base.specs.BoolLaws.{true-false}
 use Rattle.text.specs.declared.Line.{Line}
 use Rattle.text.specs.declared.LineKind.{LineKind}
 use Rattle.text.specs.declared.LineKind.the-variants.{Pr, St, Lo, Br, El, En}
-use Rattle.text.specs.declared.StatementKind.the-variants.{Ku}
+use Rattle.text.specs.declared.StatementKind.the-variants.{Ks, Ku}
 use Rattle.text.specs.Reading.Outcome.{refused, accepted}
-use Rattle.text.specs.Value.{digit, digitsOf, valueOf}
+use Rattle.text.specs.Text.{digit, digitsOf}
+use Rattle.text.specs.Value.{valueOf, linesOf}
 use Rattle.text.specs.Quoted.{bytes, text, readBytes}
 use Rattle.graph.specs.Graph.{Flow}
 use Rattle.graph.specs.Program.{statementOf, behind, runOf, linksOf, programsOf}
@@ -22,9 +23,9 @@ use Rattle.graph.specs.Unfolding.{inside, occurrences, pairs, unfoldings, nodes
 use Rattle.graph.specs.Edge.{W, R, T, holds, sameRelation, leads, binds, guarded, shielded, forward, back, placesFrom, placesOf, letterOf}
 use Rattle.graph.specs.Edge.{shared, edgeOf, edgesBetween, edgesOf, placeAt, graphOf}
 use Rattle.graph.specs.Walk.{Step, isEdge, dangerousPair, isDangerous}
-use Rattle.report.specs.State.{Counts, countsOf, statementsIn, tooMany, summaryGraph, StateRefusal}
+use Rattle.report.specs.State.{Counts, counted, countsOf, statementsIn, tooMany, summaryGraph, Robust, StateRefusal, refusalOf}
 use Rattle.report.specs.State.{shortForUnfoldings, shortForEdges, shortForWalk}
-use Rattle.report.specs.State.StateRefusal.{not-given}
+use Rattle.report.specs.State.StateRefusal.{not-given, too-many, too-short, taken}
 use Rattle.report.specs.Report.{verdictNames, robustWord, dangerWord, stepNames, refusedNames, decimal, verdictLine, stepLine, stepLines}
 use Rattle.report.specs.Report.{refusalReport, robustReport, dangerReport, Report}
 use Rattle.report.specs.Report.Report.{refusal, unfolding-refusal, robust, danger}
@@ -125,16 +126,41 @@ refusal-bytes = refl
 
 -- ---- S20 for edges, S21
 
-edgesShort : ℕ → Bool
+-- two programs and four nodes: a loop around a read and a write of one tuple, and an empty program
+abbrev lostUpdates : List Line
+lostUpdates =
+    line Pr
+    ∷ line Lo
+    ∷ record { kind = St Ks; id = 0; rel = 0; to = 0; reads = 1; writes = 0; tests = 0 }
+    ∷ record { kind = St Ku; id = 1; rel = 0; to = 0; reads = 0; writes = 1; tests = 0 }
+    ∷ line En
+    ∷ line Pr ∷ []
+
+edgesShort : List Line → ℕ → Bool
 unfolding
     many shortForEdges W R T holds sameRelation leads binds guarded shielded forward back placesFrom placesOf letterOf shared edgeOf edgesBetween
     edgesOf onesIn trailingZeros
-edgesShort area = shortForEdges (line Pr ∷ line (St Ku) ∷ []) area
+edgesShort lines area = shortForEdges lines area
 
 -- S20: an update of nothing has no edge, so an empty area is long enough
-edges-enough : edgesShort 0 ≡ false
+edges-enough : edgesShort (line Pr ∷ line (St Ku) ∷ []) 0 ≡ false
 unfolding edgesShort
 edges-enough = refl
+
+-- S20: an area for edges as long as the edges of both flows is long enough, a shorter one is not
+edges-short : map (edgesShort lostUpdates) (0 ∷ 35 ∷ 36 ∷ 37 ∷ []) ≡ true ∷ true ∷ false ∷ false ∷ []
+unfolding edgesShort
+edges-short = refl
+
+-- P1: programs, nodes, edges of both flows, back edges
+counts-of : countsOf lostUpdates ≡ counted 2 4 36 9
+unfolding edgesShort countsOf
+counts-of = refl
+
+-- N3: a refusal's number, 0 for none
+refusal-numbers : map refusalOf (0 ∷ 1 ∷ 20 ∷ 22 ∷ []) ≡ none ∷ some 1 ∷ some 20 ∷ some 22 ∷ []
+unfolding refusalOf
+refusal-numbers = refl
 
 -- S21: a value without cells is given by no text
 not-a-workload : StateRefusal (record { count = 0; lines = [] }) true (some 21)
@@ -167,6 +193,19 @@ taken-lines : List ℕ → List Line
 unfolding readBytes
 taken-lines t = elim (readBytes t) [ refused number line ↦ [] | accepted lines ↦ lines ]
 
+-- S21, S22, S20: nothing is refused; the area is too short; too many unfoldings come first
+names-taken : StateRefusal (valueOf []) false none
+unfolding many text readBytes valueOf linesOf
+names-taken = taken (record { text = text (names ∷ []); lines = []; isRead = refl; value = refl }) refl refl
+
+names-short : StateRefusal (valueOf []) true (some 20)
+unfolding many text readBytes valueOf linesOf
+names-short = too-short (record { text = text (names ∷ []); lines = []; isRead = refl; value = refl }) refl refl
+
+many-before-short : StateRefusal (valueOf (taken-lines (text manyText))) true (some 22)
+unfolding many text taken-lines valueOf linesOf
+many-before-short = too-many (record { text = text manyText; lines = taken-lines (text manyText); isRead = refl; value = refl }) refl
+
 many-refused : Report (text manyText) (refusalReport 22 0)
 unfolding many text taken-lines
 many-refused = unfolding-refusal (taken-lines (text manyText)) refl refl
@@ -197,3 +236,16 @@ update-lines = taken-lines (text updateText)
 update-danger : Report (text updateText) (dangerReport (countsOf update-lines) updateWalk)
 unfolding update-lines edgesShort summaryGraph graphOf placeAt isDangerous isEdge dangerousPair
 update-danger = danger update-lines refl refl updateWalk refl (omega arith)
+
+-- W5: a walk of 65 steps may be shown
+abbrev longWalk : List Step
+longWalk = replicate 63 (record { node = 0; leaves = 1; enters = 1; flow = Flow.forward }) ++ updateWalk
+
+longest-danger : Report (text updateText) (dangerReport (countsOf update-lines) longWalk)
+unfolding update-lines edgesShort summaryGraph graphOf placeAt isDangerous isEdge dangerousPair
+longest-danger = danger update-lines refl refl longWalk refl (omega arith)
+
+-- N1, demand 2: so that text is not robust, and a robust text has no dangerous walk
+update-not-robust : Robust update-lines → ⊥
+unfolding update-lines edgesShort summaryGraph graphOf placeAt isDangerous isEdge dangerousPair
+update-not-robust none-dangerous = none-dangerous (updateWalk, refl)

@@ -1,21 +1,21 @@
 -- What a report says: its word is the verdict's, and no refusal is a verdict.
 use mathlib.Core.List.{List}
-use mathlib.Core.Path.{_≡_, refl, sym, ap, _∙_}
-use Prim.Native.Nat.{ℕ}
+use mathlib.Core.Path.{_≡_, refl, sym, ap, _∙_, transport}
+use Prim.Native.Nat.{ℕ, _≤_}
 use native.Mathlib.Omega.{arith}
-use lib.ListN.{getD}
+use lib.ListN.{length, getD}
 use Rattle.text.specs.declared.Line.{Line}
 use Rattle.text.specs.declared.Workload.{Workload}
 use Rattle.text.specs.Reading.{read}
-use Rattle.text.specs.Reading.Outcome.{accepted}
-use Rattle.graph.specs.Walk.{Step}
-use Rattle.report.specs.State.{Counts, Robust, tooMany, StateRefusal}
+use Rattle.text.specs.Reading.Outcome.{refused, accepted}
+use Rattle.graph.specs.Walk.{Step, isDangerous}
+use Rattle.report.specs.State.{Counts, countsOf, summaryGraph, Danger, Robust, tooMany, StateRefusal}
 use Rattle.report.specs.State.StateRefusal.{not-given, too-many, too-short, taken}
 use Rattle.report.specs.Report.{verdictNames, robustWord, dangerWord, refusedNames, verdictLine}
 use Rattle.report.specs.Report.{refusalReport, robustReport, dangerReport, Report}
 use Rattle.report.specs.Report.Report.{refusal, unfolding-refusal, robust, danger}
 use mathlib.Core.Option.{Option}
-use mathlib.Core.Bool.{Bool, false, false≢true}
+use mathlib.Core.Bool.{Bool, true, false, false≢true}
 
 -- the first byte of a report, and the first of its word
 first-of-refusal : (number line : ℕ) → getD (refusalReport number line) 0 0 ≡ 0x72
@@ -47,6 +47,43 @@ reported-robust (unfolding-refusal lines r many) c e =
 reported-robust (robust lines r few none-dangerous) c e = (lines, r, few, none-dangerous)
 reported-robust (danger lines r few walk d short) c e =
     let wrong = differs 34 _ _ e (word-of-danger _ walk) (word-of-robust c) in absurd (omega arith)
+
+-- what a text is read as is one outcome
+refused-accepted : {m n : ℕ} {lines : List Line} → refused m n ≡ accepted lines → ⊥
+refused-accepted e = let wrong : _≡_ {A = ℕ} 0 1 = cc in omega arith
+
+-- P3: the report of a text that is refused
+pub reported-refused : {text bytes : List ℕ} {number line : ℕ} → Report text bytes → read text ≡ refused number line → bytes ≡ refusalReport number line
+reported-refused (refusal number line r) e = cc
+reported-refused (unfolding-refusal lines r many) e = absurd (refused-accepted (sym e ∙ r))
+reported-refused (robust lines r few none-dangerous) e = absurd (refused-accepted (sym e ∙ r))
+reported-refused (danger lines r few walk d short) e = absurd (refused-accepted (sym e ∙ r))
+
+-- S22, P3: the report of an accepted text with too many unfoldings
+pub reported-many : {text bytes : List ℕ} {lines : List Line} → Report text bytes → read text ≡ accepted lines → tooMany lines ≡ true
+    → bytes ≡ refusalReport 22 0
+reported-many (refusal number line r) e t = absurd (refused-accepted (sym r ∙ e))
+reported-many (unfolding-refusal lines r many) e t = refl
+reported-many (robust lines r few none-dangerous) e t = absurd (false≢true cc)
+reported-many (danger lines r few walk d short) e t = absurd (false≢true cc)
+
+-- what a report of an accepted text that is not too large says: robust where it is, else a dangerous walk of at most 65 steps
+pub data Told (lines : List Line) (bytes : List ℕ) : Type 0 where
+  robust-told : Robust lines → bytes ≡ robustReport (countsOf lines) → Told lines bytes
+  danger-told : (walk : List Step) → isDangerous (summaryGraph lines) walk ≡ true → length walk ≤ 65
+      → bytes ≡ dangerReport (countsOf lines) walk → Told lines bytes
+
+-- P1, P2, W5: the report of any other text
+pub reported-taken : {text bytes : List ℕ} {lines : List Line} → Report text bytes → read text ≡ accepted lines → tooMany lines ≡ false
+    → Told lines bytes
+reported-taken (refusal number line r) e t = absurd (refused-accepted (sym r ∙ e))
+reported-taken (unfolding-refusal lines r many) e t = absurd (false≢true cc)
+reported-taken {lines = own} (robust lines r few none-dangerous) e t =
+    let same : lines ≡ own = cc in
+    robust-told (λ d. none-dangerous (transport (ap Danger (sym same)) d)) (ap (λ l. robustReport (countsOf l)) same)
+reported-taken {lines = own} (danger lines r few walk d short) e t =
+    let same : lines ≡ own = cc in
+    danger-told walk (ap (λ l. isDangerous (summaryGraph l) walk) (sym same) ∙ d) short (ap (λ l. dangerReport (countsOf l) walk) same)
 
 -- S: of each value and areas there is at most one refusal
 pub refused-once : {w : Workload} {short : Bool} {a b : Option ℕ} → StateRefusal w short a → StateRefusal w short b → a ≡ b

@@ -13,11 +13,12 @@ use Rattle.text.specs.declared.LineKind.{LineKind}
 use Rattle.text.specs.declared.LineKind.the-variants.{Rl, Fk, Pr, St, Lo, Br, El, En, Li}
 use Rattle.text.specs.declared.StatementKind.the-variants.{Is, Ks, Ps, Ku, Pu, Kd, Pd}
 use Rattle.text.specs.declared.Workload.{Workload}
-use Rattle.text.specs.Text.{namesLine, lineWith, numberOf, setOf, unusedLine, lineOf}
+use Rattle.text.specs.Text.{isHexadecimal, linesIn, fieldsIn, namesLine, lineWith, numberOf, setOf, digit, digitsOf, kinds, unusedLine, lineOf}
+use Rattle.text.specs.Reading.{sort, isStatementOf, program, relation, key, statement, Block, blocksAfter, openBlocks, blocksAround}
 use Rattle.text.specs.Reading.{Outcome, isAllowed, otherByte, fault, readLines, read}
 use Rattle.text.specs.Reading.Outcome.{refused, accepted}
-use Rattle.text.specs.Value.{valueOf, Given, written}
-use Rattle.text.specs.Quoted.{bytes, text, readBytes, given, rereads}
+use Rattle.text.specs.Value.{linesOf, valueOf, Given}
+use Rattle.text.specs.Quoted.{bytes, text, readBytes, given}
 
 -- two relations, a key from relation 1 to relation 0, one from relation 0 to itself, and a program
 base : List String
@@ -39,10 +40,13 @@ behind : List String → Outcome
 unfolding given baseLines
 behind lines = readLines baseLines (map bytes lines)
 
+abbrev isAccepted : Outcome → Bool
+isAccepted o = elim o [ refused number line ↦ false | accepted lines ↦ true ]
+
 -- lines behind `base` are accepted
 taken : List String → Bool
 unfolding behind
-taken lines = elim (behind lines) [ refused number line ↦ false | accepted lines′ ↦ true ]
+taken lines = isAccepted (behind lines)
 
 -- lines of flow, and two inserts into relation 0
 abbrev lo : String
@@ -93,6 +97,10 @@ no-last-newline : readBytes (bytes "kind id rel to reads writes tests") ≡ refu
 unfolding readBytes bytes
 no-last-newline = refl
 
+no-newline-after-lines : readBytes (text ("kind id rel to reads writes tests" ∷ []) ++ bytes "rl 0 - - 3 - -") ≡ refused 2 0
+unfolding readBytes text bytes
+no-newline-after-lines = refl
+
 -- R2: another byte in the first line, before the first line is compared
 byte-in-names : readBytes (text ("Kind id rel to reads writes tests" ∷ [])) ≡ refused 2 1
 unfolding readBytes text
@@ -117,26 +125,52 @@ names-longer : readBytes (text ("kind id rel to reads writes tests " ∷ [])) �
 unfolding readBytes text
 names-longer = refl
 
+names-second : readBytes (text ("rl 0 - - 3 - -" ∷ "kind id rel to reads writes tests" ∷ [])) ≡ refused 3 1
+unfolding readBytes text
+names-second = refl
+
+-- T1: lines end with 0A, fields are parted by one space; what stands between may be empty
+lines-parted : linesIn (bytes "a b\n\n c\nd") ≡ map bytes ("a b" ∷ "" ∷ " c" ∷ "d" ∷ [])
+unfolding readBytes bytes
+lines-parted = refl
+
+fields-parted : map fieldsIn (map bytes ("a b\nc" ∷ " a  b " ∷ "" ∷ [])) ≡ map (map bytes) (("a" ∷ "b\nc" ∷ []) ∷ ("" ∷ "a" ∷ "" ∷ "b" ∷ "" ∷ []) ∷ ("" ∷ []) ∷ [])
+unfolding readBytes bytes
+fields-parted = refl
+
 -- T3: numbers
 number-forms
-    : map numberOf (map bytes ("0" ∷ "7" ∷ "10" ∷ "255" ∷ "256" ∷ "999" ∷ "1000" ∷ "00" ∷ "01" ∷ "" ∷ "a" ∷ "-" ∷ []))
-    ≡ some 0 ∷ some 7 ∷ some 10 ∷ some 255 ∷ none ∷ none ∷ none ∷ none ∷ none ∷ none ∷ none ∷ none ∷ []
+    : map numberOf (map bytes ("0" ∷ "7" ∷ "10" ∷ "255" ∷ "256" ∷ "999" ∷ "1000" ∷ "00" ∷ "01" ∷ "" ∷ "a" ∷ "-" ∷ "1a" ∷ "12-" ∷ []))
+    ≡ some 0 ∷ some 7 ∷ some 10 ∷ some 255 ∷ none ∷ none ∷ none ∷ none ∷ none ∷ none ∷ none ∷ none ∷ none ∷ none ∷ []
 unfolding readBytes bytes
 number-forms = refl
 
 -- T4: sets
 set-forms
-    : map setOf (map bytes ("0" ∷ "9" ∷ "a" ∷ "f" ∷ "1f" ∷ "ffffffffffffffff" ∷ "10000000000000000" ∷ "0f" ∷ "g" ∷ "" ∷ "-" ∷ []))
-    ≡ some 0 ∷ some 9 ∷ some 10 ∷ some 15 ∷ some 31 ∷ some (2 ^ 64 - 1) ∷ none ∷ none ∷ none ∷ none ∷ none ∷ []
+    : map setOf (map bytes ("0" ∷ "9" ∷ "a" ∷ "f" ∷ "1f" ∷ "ffffffffffffffff" ∷ "10000000000000000" ∷ "0f" ∷ "g" ∷ "" ∷ "-" ∷ "1g" ∷ "f-" ∷ []))
+    ≡ some 0 ∷ some 9 ∷ some 10 ∷ some 15 ∷ some 31 ∷ some (2 ^ 64 - 1) ∷ none ∷ none ∷ none ∷ none ∷ none ∷ none ∷ none ∷ []
 unfolding readBytes bytes
 set-forms = refl
+
+-- T3, T4: the digits, all of them
+hexadecimal-bytes : keep isHexadecimal (numbers 256) ≡ bytes "0123456789abcdef"
+unfolding bytes
+hexadecimal-bytes = refl
+
+-- T3, T4: the digits of numbers and sets, as many as are asked for
+digits
+    : (map (digitsOf 10 20) (0 ∷ 7 ∷ 10 ∷ 255 ∷ 524288 ∷ []) ≡ map bytes ("0" ∷ "7" ∷ "10" ∷ "255" ∷ "524288" ∷ []))
+    × (map (digitsOf 16 16) (0 ∷ 9 ∷ 10 ∷ 31 ∷ (2 ^ 64 - 1) ∷ []) ≡ map bytes ("0" ∷ "9" ∷ "a" ∷ "1f" ∷ "ffffffffffffffff" ∷ []))
+    × (map (digitsOf 10 2) (7 ∷ 89 ∷ 789 ∷ []) ≡ map bytes ("7" ∷ "89" ∷ "89" ∷ []))
+unfolding bytes digit digitsOf
+digits = (refl, refl, refl)
 
 -- T4: bit k stands for attribute k
 set-attributes : map (has 0x5) (numbers 4) ≡ true ∷ false ∷ true ∷ false ∷ []
 set-attributes = refl
 
 -- T5: a text with a line of each kind, and its lines
-each-kind : List String
+unfoldable pub each-kind : List String
 each-kind =
     "rl 0 - - ffffffffffffffff - -" ∷ "rl 1 - - 3 - -"
     ∷ "fk 0 1 0 - - -"
@@ -147,7 +181,7 @@ each-kind =
     ∷ "pd 6 1 - - 3 0"
     ∷ "li 0 0 1 - - -" ∷ []
 
-each-kind-lines : List Line
+unfoldable pub each-kind-lines : List Line
 unfolding lineWith
 each-kind-lines =
     lineWith Rl (0 ∷ 0 ∷ 0 ∷ (2 ^ 64 - 1) ∷ 0 ∷ 0 ∷ []) ∷ lineWith Rl (1 ∷ 0 ∷ 0 ∷ 3 ∷ 0 ∷ 0 ∷ [])
@@ -170,11 +204,6 @@ each-kind-lines =
 each-kind-read : given each-kind ≡ accepted each-kind-lines
 unfolding given each-kind each-kind-lines
 each-kind-read = refl
-
--- T1: these lines, written out, are the text
-each-kind-written : written each-kind-lines ≡ text ("kind id rel to reads writes tests" ∷ each-kind)
-unfolding rereads text each-kind each-kind-lines
-each-kind-written = refl
 
 -- R4: field count
 six-fields : given ("rl 0 - - 3 -" ∷ []) ≡ refused 4 2
@@ -277,6 +306,48 @@ unfolding readBytes
 faults before [] = []
 faults before (l ∷ lines) = fault before l ∷ faults (before ++ (l ∷ [])) lines
 
+-- T6: the sorts of the kinds, and the kinds that are statements
+sorts : map sort kinds ≡ 0 ∷ 1 ∷ 2 ∷ 3 ∷ 3 ∷ 3 ∷ 3 ∷ 3 ∷ 3 ∷ 3 ∷ 3 ∷ 3 ∷ 3 ∷ 3 ∷ 4 ∷ []
+unfolding readBytes
+sorts = refl
+
+statement-kinds : keep (isStatementOf (λ k. true)) kinds ≡ St Is ∷ St Ks ∷ St Ps ∷ St Ku ∷ St Pu ∷ St Kd ∷ St Pd ∷ []
+unfolding readBytes
+statement-kinds = refl
+
+-- T6: the lines of the program at hand: none before the first `pr`
+programs-lines
+    : map program (relations 0 2 ∷ (relations 0 2 ++ programs 0 1 ++ statements 0 2) ∷ (programs 0 1 ++ statements 0 2 ++ programs 1 1 ++ statements 0 1) ∷ [])
+    ≡ [] ∷ statements 0 2 ∷ statements 0 1 ∷ []
+unfolding readBytes relations programs statements
+programs-lines = refl
+
+-- T7: the relation, the key and the statement of a number, each counted among its own sort
+of-number
+    : let lines = statements 7 2 ++ keys 0 2 ++ relations 0 2 ++ loops 1 ++ statements 9 1 in
+    (relation lines 1 ∷ key lines 1 ∷ map (statement lines) (1 ∷ 2 ∷ []) ≡ relations 1 1 ++ keys 1 1 ++ statements 8 2)
+    × (relation lines 2 ∷ key lines 2 ∷ statement lines 3 ∷ [] ≡ replicate 3 unusedLine)
+unfolding readBytes relations keys statements loops
+of-number = (refl, refl)
+
+-- T8: the blocks around what follows a line of each kind at place 9, in a first arm in a loop; as places and parts
+shown : List Block → List (ℕ × ℕ)
+shown blocks = map (λ b. (b .place, b .part)) blocks
+
+blocks-after
+    : map (λ k. shown (blocksAfter k 9 (record { place = 3; part = 1 } ∷ record { place = 1; part = 0 } ∷ []))) kinds
+    ≡ let same = (3, 1) ∷ (1, 0) ∷ [] in
+    replicate 10 same ++ (((9, 0) ∷ same) ∷ ((9, 1) ∷ same) ∷ ((3, 2) ∷ (1, 0) ∷ []) ∷ ((1, 0) ∷ []) ∷ same ∷ [])
+unfolding readBytes shown
+blocks-after = refl
+
+-- T8: the blocks open behind lines, and those around a statement
+blocks-open : let lines = flow Lo ∷ statements 0 1 ++ (flow Br ∷ flow El ∷ statements 1 1) in
+    (shown (openBlocks lines) ≡ (2, 2) ∷ (0, 0) ∷ [])
+    × (map (λ s. shown (blocksAround lines s)) (0 ∷ 1 ∷ []) ≡ ((0, 0) ∷ []) ∷ ((2, 2) ∷ (0, 0) ∷ []) ∷ [])
+unfolding readBytes shown flow statements
+blocks-open = (refl, refl)
+
 -- R9: 32 relations
 relations-most : faults (relations 0 31) (relations 31 1) ≡ none ∷ []
 unfolding faults relations
@@ -356,6 +427,10 @@ rl-after-pr : behind ("rl 2 - - 3 - -" ∷ []) ≡ refused 7 7
 unfolding behind
 rl-after-pr = refl
 
+rl-after-pr-alone : given ("pr 0 - - - - -" ∷ "rl 0 - - 3 - -" ∷ []) ≡ refused 7 3
+unfolding given
+rl-after-pr-alone = refl
+
 fk-after-pr : behind ("fk 2 0 0 - - -" ∷ []) ≡ refused 7 7
 unfolding behind
 fk-after-pr = refl
@@ -368,6 +443,10 @@ flow-before-pr : given (lo ∷ []) ≡ refused 7 2
 unfolding given
 flow-before-pr = refl
 
+branch-before-pr : given (br ∷ el ∷ en ∷ []) ≡ refused 7 2
+unfolding given
+branch-before-pr = refl
+
 li-before-pr : given ("rl 0 - - 3 - -" ∷ "fk 0 0 0 - - -" ∷ "li 0 0 0 - - -" ∷ []) ≡ refused 7 4
 unfolding given
 li-before-pr = refl
@@ -376,11 +455,11 @@ statement-after-li : behind (is0 ∷ "li 1 0 0 - - -" ∷ is1 ∷ []) ≡ refuse
 unfolding behind
 statement-after-li = refl
 
-flow-after-li : behind (is0 ∷ "li 1 0 0 - - -" ∷ lo ∷ []) ≡ refused 7 9
+flow-after-li : behind (is0 ∷ "li 1 0 0 - - -" ∷ lo ∷ en ∷ []) ≡ refused 7 9
 unfolding behind
 flow-after-li = refl
 
-branch-after-li : behind (is0 ∷ "li 1 0 0 - - -" ∷ br ∷ []) ≡ refused 7 9
+branch-after-li : behind (is0 ∷ "li 1 0 0 - - -" ∷ br ∷ el ∷ en ∷ []) ≡ refused 7 9
 unfolding behind
 branch-after-li = refl
 
@@ -410,6 +489,11 @@ en-in-next-program = refl
 el-in-loop : behind (lo ∷ el ∷ en ∷ []) ≡ refused 7 8
 unfolding behind
 el-in-loop = refl
+
+-- R7: the opener is the innermost block's: no el in a loop in a first arm, no en in a first arm in a loop
+inner-opener : map behind ((br ∷ lo ∷ el ∷ en ∷ el ∷ en ∷ []) ∷ (lo ∷ br ∷ en ∷ en ∷ []) ∷ []) ≡ refused 7 9 ∷ refused 7 9 ∷ []
+unfolding behind
+inner-opener = refl
 
 el-twice : behind (br ∷ el ∷ el ∷ en ∷ []) ≡ refused 7 9
 unfolding behind
@@ -449,6 +533,17 @@ id-of-statement : behind (is0 ∷ is0 ∷ []) ≡ refused 6 8
 unfolding behind
 id-of-statement = refl
 
+-- R6, T7: no id comes again, and none is passed over
+id-again : map given
+    (("rl 0 - - 3 - -" ∷ "rl 0 - - 3 - -" ∷ []) ∷ ("rl 0 - - 3 - -" ∷ "fk 0 0 0 - - -" ∷ "fk 0 0 0 - - -" ∷ []) ∷ [])
+    ≡ refused 6 3 ∷ refused 6 4 ∷ []
+unfolding given
+id-again = refl
+
+id-passed-over : map behind (("pr 2 - - - - -" ∷ []) ∷ (is1 ∷ []) ∷ []) ≡ refused 6 7 ∷ refused 6 7 ∷ []
+unfolding behind
+id-passed-over = refl
+
 -- R6, T7: statements in their program
 id-in-program : taken (is0 ∷ "pr 1 - - - - -" ∷ is0 ∷ is1 ∷ []) ≡ true
 unfolding taken
@@ -475,6 +570,11 @@ key-of-li : behind (is0 ∷ "li 2 0 0 - - -" ∷ []) ≡ refused 6 8
 unfolding behind
 key-of-li = refl
 
+key-of-li-in-keys
+    : given ("rl 0 - - 3 - -" ∷ "rl 1 - - 3 - -" ∷ "fk 0 0 0 - - -" ∷ "pr 0 - - - - -" ∷ is0 ∷ "li 1 0 0 - - -" ∷ []) ≡ refused 6 7
+unfolding given
+key-of-li-in-keys = refl
+
 child-of-li : behind (is0 ∷ "li 1 1 0 - - -" ∷ []) ≡ refused 6 8
 unfolding behind
 child-of-li = refl
@@ -482,6 +582,20 @@ child-of-li = refl
 parent-of-li : behind (is0 ∷ "li 1 0 1 - - -" ∷ []) ≡ refused 6 8
 unfolding behind
 parent-of-li = refl
+
+-- R6: a link's child and parent are statements of its program, whatever other programs have
+child-of-other-program : behind (is0 ∷ is1 ∷ "pr 1 - - - - -" ∷ is0 ∷ "li 1 1 0 - - -" ∷ []) ≡ refused 6 11
+unfolding behind
+child-of-other-program = refl
+
+parent-of-other-program : behind (is0 ∷ is1 ∷ "pr 1 - - - - -" ∷ is0 ∷ "li 1 0 1 - - -" ∷ []) ≡ refused 6 11
+unfolding behind
+parent-of-other-program = refl
+
+-- R6: a line of flow is no statement
+flow-no-statement : map behind ((is0 ∷ lo ∷ en ∷ "li 1 1 0 - - -" ∷ []) ∷ (is0 ∷ lo ∷ en ∷ "li 1 0 1 - - -" ∷ []) ∷ []) ≡ refused 6 10 ∷ refused 6 10 ∷ []
+unfolding behind
+flow-no-statement = refl
 
 -- R7 comes before R6, R6 before R5
 order-before-id : behind ("rl 9 - - 3 - -" ∷ []) ≡ refused 7 7
@@ -625,10 +739,37 @@ parent-in-other-branch : behind (br ∷ is0 ∷ el ∷ en ∷ br ∷ is1 ∷ el 
 unfolding behind
 parent-in-other-branch = refl
 
+parent-in-other-second-arm : behind (br ∷ el ∷ is0 ∷ en ∷ br ∷ el ∷ is1 ∷ en ∷ "li 1 1 0 - - -" ∷ []) ≡ refused 8 15
+unfolding behind
+parent-in-other-second-arm = refl
+
 -- R8: a link's statements are those of its own program
 link-in-program : taken (is0 ∷ "ps 1 0 - 1 - 1" ∷ "pr 1 - - - - -" ∷ is0 ∷ is1 ∷ "li 1 0 1 - - -" ∷ []) ≡ true
 unfolding taken
 link-in-program = refl
+
+-- R8: its child, and the blocks around both, are those of its own program, too; its key is the one that it names
+links-in-program
+    : map taken
+    (("is 0 1 - - 3 -" ∷ "pr 1 - - - - -" ∷ is0 ∷ "li 1 0 0 - - -" ∷ [])
+    ∷ (lo ∷ is0 ∷ en ∷ is1 ∷ "pr 1 - - - - -" ∷ is0 ∷ is1 ∷ "li 1 1 0 - - -" ∷ [])
+    ∷ (is0 ∷ "is 1 1 - - 3 -" ∷ "li 0 1 0 - - -" ∷ [])
+    ∷ [])
+    ≡ true ∷ true ∷ true ∷ []
+unfolding taken
+links-in-program = refl
+
+link-by-second-key
+    : isAccepted
+    (given
+    ("rl 0 - - 3 - -"
+    ∷ "rl 1 - - 3 - -"
+    ∷ "fk 0 0 0 - - -"
+    ∷ "fk 1 0 1 - - -"
+    ∷ "pr 0 - - - - -" ∷ "is 0 1 - - 3 -" ∷ is1 ∷ "li 1 1 0 - - -" ∷ []))
+    ≡ true
+unfolding given
+link-by-second-key = refl
 
 -- Each line is tested before the next one: the first refused line counts
 first-line-first : behind ("is 0 0 - - 1 -" ∷ "is 9 9 - - 9 -" ∷ []) ≡ refused 5 7
@@ -644,6 +785,11 @@ form-before-bound = refl
 nothing-given : Given (record { count = 0; lines = replicate 1616 unusedLine })
 unfolding readBytes valueOf text
 nothing-given = record { text = text ("kind id rel to reads writes tests" ∷ []); lines = []; isRead = refl; value = refl }
+
+-- S21: the first cells of a value hold its lines, the others the unused line; the lines of the value are those again
+value-of-lines : (linesOf (valueOf baseLines) ≡ baseLines) × (valueOf baseLines .lines ≡ baseLines ++ replicate 1611 unusedLine)
+unfolding valueOf linesOf baseLines
+value-of-lines = (refl, refl)
 
 -- S21: a cell past `count` that holds another line
 other-kind : _≡_ {A = LineKind} Lo En → ⊥
@@ -720,6 +866,32 @@ number-fields
     ≡ false
 unfolding formed
 number-fields = refl
+
+-- R4: an empty field, two dashes, letters or a dash behind a word or a digit, a kind cut short or drawn out
+not-formed
+    : any formed
+    (" 0 - - 1 - -"
+    ∷ " rl 0 - - 1 - -"
+    ∷ "rl 0 - - 1 - - "
+    ∷ "rl 0 - - 1 -"
+    ∷ "rl  - - 1 - -"
+    ∷ "rl 0 -- - 1 - -"
+    ∷ "rl 0  - 1 - -"
+    ∷ "rl 0 - - 1- - -"
+    ∷ "rl 0 - - 1g - -"
+    ∷ "rl 1a - - 1 - -"
+    ∷ "r 0 - - 1 - -"
+    ∷ "rll 0 - - 1 - -"
+    ∷ "rl 0 - - 1 0 -"
+    ∷ [])
+    ≡ false
+unfolding formed
+not-formed = refl
+
+-- S21: the unused line
+unused-line : unusedLine ≡ lineWith En (0 ∷ 0 ∷ 0 ∷ 0 ∷ 0 ∷ 0 ∷ [])
+unfolding unusedLine lineWith
+unused-line = refl
 
 -- R7: a fault of the last line comes before the block that it leaves open at the end
 fault-before-end : given ("pr 0 - - - - -" ∷ lo ∷ "is 0 0 - - 1 -" ∷ []) ≡ refused 6 4
