@@ -28,9 +28,10 @@ use Rattle.choosing.specs.WritingLaws.{Tables}
 use Rattle.choosing.specs.Pieces.{Piece, flat, totalsBefore}
 use Rattle.choosing.specs.PiecesLaws.{PiecesFor, length-words, total-count, total-statements, all-pieces, over-alike, length-pieces, flat-length, piece-programs, piece-lengths}
 use Rattle.choosing.specs.PlacesLaws.{IdWord, noMark, id-tables, id-words, LineWord, place-tables, words-for}
-use Rattle.choosing.specs.Table.{starts, table}
 use Rattle.unfolder.specs.declared.Unfolded.{Unfolded}
-use Rattle.unfolder.specs.Result.{refusedWith, idsIn, startsIn, nodesTold, tableTold, overMany, tooShort, piecesOver, Ready, Tabled}
+use Rattle.unfolder.specs.Result.{refusedWith, placeIds, idsIn, startsIn, nodesTold}
+use Rattle.unfolder.specs.Table.{starts, table}
+use Rattle.unfolder.specs.Steps.{tableTold, overMany, tooShort, piecesOver, Ready, Tabled}
 use Rattle.unfolder.specs.Settled.{Settled, PlacesStand, PlacesSettled}
 use Rattle.linetables.specs.declared.IdTables.{IdTables}
 use Rattle.linetables.specs.declared.PlaceTables.{PlaceTables}

@@ -1,3 +1,6 @@
 pub mod Facts
 pub mod Result
+pub mod Table
+pub mod TableLaws
+pub mod Steps
 pub mod Settled

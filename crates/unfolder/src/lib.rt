@@ -13,10 +13,11 @@ ghost use mathlib.Core.Path.{_≡_};
 ghost use Prim.Native.Nat.{_+_, _-_, _<_};
 ghost use lib.ListN.{length};
 ghost use Rattle.choosing.specs.Pieces.{row, tabulate, linePieces, linePrograms, piecesBefore};
-ghost use Rattle.choosing.specs.Table.{added, table};
 ghost use Rattle.unfolder.specs.Facts.{Rows, Rowed, LineFits, Lined, AllFit};
-ghost use Rattle.unfolder.specs.Result.{refusedWith, tableTold, Ready, Tabled};
+ghost use Rattle.unfolder.specs.Result.{refusedWith};
 ghost use Rattle.unfolder.specs.Settled.{Settled, PlacesSettled};
+ghost use Rattle.unfolder.specs.Steps.{tableTold, Ready, Tabled};
+ghost use Rattle.unfolder.specs.Table.{added, table};
 
 // The unfoldings of a workload: the number of the refusal, or 0 and how many there are, with each one's program, start and length.
 pub struct Unfolded {

@@ -1,4 +1,4 @@
-use Rattle.choosing.specs.Table.{added}
+use Rattle.unfolder.specs.Table.{added}
 use native.Mathlib.Omega.{arith}
 use mathlib.Core.Path.{_≡_, refl, ap, sym, _∙_}
 use Prim.Native.Nat.{ℕ, _+_, _-_, _*_, _≤_, _<_}
