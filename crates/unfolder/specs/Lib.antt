@@ -3,4 +3,6 @@ pub mod Result
 pub mod Table
 pub mod TableLaws
 pub mod Steps
+pub mod OwnLaws
+pub mod Stand
 pub mod Settled
