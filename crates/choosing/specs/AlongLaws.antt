@@ -1,6 +1,7 @@
 -- What holds along a run, and that the run of a program is read off the program's lines alone.
 use mathlib.Core.List.{List, [], _∷_, _++_, tail, append-assoc}
 use mathlib.Core.Bool.{true, false, false≢true}
+use mathlib.Core.Logic.{_⊎_, inl, inr, ⊎-elim}
 use mathlib.Core.Path.{_≡_, refl, sym, ap, subst, _∙_}
 use Prim.Native.Nat.{ℕ, zero, suc, _+_, _≤_, _<_}
 use native.Mathlib.Omega.{arith}
@@ -140,7 +141,8 @@ module _ (body : List Line) where
   loop-passed parts l lines e h =
       other-passed parts (loop ∷ parts) l lines h (λ q. let z : false ≡ true = rw e at q in absurd (false≢true z)) (rw (e, Body) at (h .onward))
 
-  branch-passed : (parts : List ℕ) (l : Line) (lines : List Line) → l .kind ≡ Br → Inside body parts (l ∷ lines) → Inside body (firstArm ∷ parts) lines
+  branch-passed : (parts : List ℕ) (l : Line) (lines : List Line) → l .kind ≡ Br → Inside body parts (l ∷ lines)
+      → Inside body (firstArm ∷ parts) lines
   unfolding Body isStatementOf
   branch-passed parts l lines e h =
       other-passed parts (firstArm ∷ parts) l lines h (λ q. let z : false ≡ true = rw e at q in absurd (false≢true z)) (rw (e, Body) at (h .onward))
@@ -155,23 +157,28 @@ module _ (body : List Line) where
   same-around : {a b : ℕ} {l r : List ℕ} → _≡_ {A = List ℕ} (a ∷ l) (b ∷ r) → l ≡ r
   same-around e = cc
 
-  -- where a run in a loop or a second arm ends, its `en` stands; where one in a first arm ends, its `el`
-  closed : (part : ℕ) (parts : List ℕ) (lines : List Line) → (part ≡ firstArm → ⊥) → Ended lines → Inside body (part ∷ parts) lines
-      → Inside body parts (tail lines)
+  -- where a run in a block ends, the first arm's `el` stands, or the `en` of a loop or a second arm
+  block-ends : (part : ℕ) (parts : List ℕ) (lines : List Line) → Ended lines → Inside body (part ∷ parts) lines
+      → ((part ≡ firstArm) × Inside body (secondArm ∷ parts) (tail lines)) ⊎ ((part ≡ firstArm → ⊥) × Inside body parts (tail lines))
   unfolding Body codeOf isStatementOf
-  closed part parts [] f e h = absurd (none-open (h .onward))
-  closed part parts (l ∷ lines) f e h = go (l .kind) refl
+  block-ends part parts [] e h = absurd (none-open (h .onward))
+  block-ends part parts (l ∷ lines) e h = go (l .kind) refl
     where
-      go : (c : LineKind) → l .kind ≡ c → Inside body parts lines
-      go En d =
-          let t : (p : ℕ) × (around : List ℕ) × (part ∷ parts ≡ p ∷ around) × (p ≡ firstArm → ⊥) × Body around (h .count) lines =
-          rw (d, Body) at (h .onward) in
-          other-passed (part ∷ parts) parts l lines h (λ q. let z : false ≡ true = rw d at q in absurd (false≢true z))
-          (rw (same-around (t .2)) (t .4))
+      go : (c : LineKind) → l .kind ≡ c
+          → ((part ≡ firstArm) × Inside body (secondArm ∷ parts) lines) ⊎ ((part ≡ firstArm → ⊥) × Inside body parts lines)
       go El d =
           let t : (around : List ℕ) × (part ∷ parts ≡ firstArm ∷ around) × Body (secondArm ∷ around) (h .count) lines =
           rw (d, Body) at (h .onward) in
-          absurd (f (same-part (t .1)))
+          let onward : Body (secondArm ∷ parts) (h .count) lines = rw (same-around (t .1)) (t .2) in
+          inl (same-part (t .1), other-passed (part ∷ parts) (secondArm ∷ parts) l lines h (λ q. absurd (false≢true (rw d at q))) onward)
+      go En d =
+          let t : (p : ℕ) × (around : List ℕ) × (part ∷ parts ≡ p ∷ around) × (p ≡ firstArm → ⊥) × Body around (h .count) lines =
+          rw (d, Body) at (h .onward) in
+          let onward : Body parts (h .count) lines = rw (same-around (t .2)) (t .4) in
+          inr (
+            (λ z. t .3 (sym (same-part (t .2)) ∙ z)),
+            other-passed (part ∷ parts) parts l lines h (λ q. absurd (false≢true (rw d at q))) onward,
+          )
       go Rl d = absurd (none-open (rw (d, Body) at (h .onward)))
       go Fk d = absurd (none-open (rw (d, Body) at (h .onward)))
       go Pr d = absurd (none-open (rw (d, Body) at (h .onward)))
@@ -180,33 +187,16 @@ module _ (body : List Line) where
       go Lo d = let z : 2 < 1 = rw d at e in absurd (omega arith)
       go Br d = let z : 2 < 2 = rw d at e in absurd (omega arith)
 
-  second : (parts : List ℕ) (lines : List Line) → Ended lines → Inside body (firstArm ∷ parts) lines
-      → Inside body (secondArm ∷ parts) (tail lines)
-  unfolding Body codeOf isStatementOf
-  second parts [] e h = absurd (none-open (h .onward))
-  second parts (l ∷ lines) e h = go (l .kind) refl
-    where
-      go : (c : LineKind) → l .kind ≡ c → Inside body (secondArm ∷ parts) lines
-      go El d =
-          let t : (around : List ℕ) × (firstArm ∷ parts ≡ firstArm ∷ around) × Body (secondArm ∷ around) (h .count) lines =
-          rw (d, Body) at (h .onward) in
-          other-passed (firstArm ∷ parts) (secondArm ∷ parts) l lines h (λ q. let z : false ≡ true = rw d at q in absurd (false≢true z))
-          (rw (same-around (t .1)) (t .2))
-      go En d =
-          let t : (p : ℕ) × (around : List ℕ) × (firstArm ∷ parts ≡ p ∷ around) × (p ≡ firstArm → ⊥) × Body around (h .count) lines =
-          rw (d, Body) at (h .onward) in
-          absurd (t .3 (sym (same-part (t .2))))
-      go Rl d = absurd (none-open (rw (d, Body) at (h .onward)))
-      go Fk d = absurd (none-open (rw (d, Body) at (h .onward)))
-      go Pr d = absurd (none-open (rw (d, Body) at (h .onward)))
-      go Li d = absurd (none-open (rw (d, Body) at (h .onward)))
-      go (St k) d = let z : 2 < 0 = rw d at e in absurd (omega arith)
-      go Lo d = let z : 2 < 1 = rw d at e in absurd (omega arith)
-      go Br d = let z : 2 < 2 = rw d at e in absurd (omega arith)
+  closed : (part : ℕ) (parts : List ℕ) (lines : List Line) → (part ≡ firstArm → ⊥) → Ended lines → Inside body (part ∷ parts) lines
+      → Inside body parts (tail lines)
+  closed part parts lines f e h = ⊎-elim (λ t. absurd (f (t .0))) (λ t. t .1) (block-ends part parts lines e h)
+
+  second : (parts : List ℕ) (lines : List Line) → Ended lines → Inside body (firstArm ∷ parts) lines → Inside body (secondArm ∷ parts) (tail lines)
+  second parts lines e h = ⊎-elim (λ t. t .1) (λ t. absurd (t .0 refl)) (block-ends firstArm parts lines e h)
 
   module _ (P : List Line → Type 0)
-      (here : (passed : List Line) (l : Line) (lines : List Line) (k : StatementKind) → body ≡ passed ++ (l ∷ lines) → Below (l .id) passed → l .kind ≡ St k
-      → P (l ∷ lines)) where
+      (here : (passed : List Line) (l : Line) (lines : List Line) (k : StatementKind) → body ≡ passed ++ (l ∷ lines) → Below (l .id) passed
+      → l .kind ≡ St k → P (l ∷ lines)) where
     -- a run that is read off lines of a body: it holds along it, and it ends in the body with the same blocks open
     record Stays (n : ℕ) (parts : List ℕ) (lines : List Line) : Type 0 where
       along : Along P n lines

@@ -112,7 +112,11 @@ module _ (P : List Line → Type 0) (Word : ℕ → Statement → ℕ → Type 0
           let c = chosen run-here j (omega (arith, many)) in (
             nodeHere (c .execution),
             getElem?-map-some nodeHere (unfoldings run-here) j (c .member),
-            record { program = refl; words = rw (c .places 0, zero-add) (written-whole P (Word number) mark lines words marks fit left at j along small (omega (arith, many))) },
+            record {
+              program = refl;
+              words = rw (c .places 0, zero-add)
+                  (written-whole P (Word number) mark lines words marks fit left at j along small (omega (arith, many)));
+            },
           )
 
 -- nodes one behind the other

@@ -174,7 +174,8 @@ unfolding PlaceWords nodeWords placeWord
 own-words lines number before [] [] h = refl
 own-words lines number before [] (w ∷ words) h = absurd h
 own-words lines number before (o ∷ places) [] h = absurd h
-own-words lines number before (o ∷ places) (w ∷ words) h = ap₂ (λ (x : ℕ) (l : List ℕ). x ∷ l) word (own-words lines number (before ++ (o ∷ [])) places words (h .1))
+own-words lines number before (o ∷ places) (w ∷ words) h =
+    ap₂ (λ (x : ℕ) (l : List ℕ). x ∷ l) word (own-words lines number (before ++ (o ∷ [])) places words (h .1))
   where
     word : w ≡ ownLine lines number (o .statement .id) + seenAt before o * 2048
     word = h .0 .whole ∙ rw (shown-seen before o, or-zero-l (seenAt before o)) (ap (λ (x : ℕ). x + seenAt before o * 2048) (h .0 .fits .same))

@@ -33,7 +33,8 @@ use Rattle.choosing.specs.AlongLaws.{along-statement, along-loop, along-
 use Rattle.choosing.specs.Writing.{writeLoop, writeBranch, writeBlock, writeAt}
 
 -- the lines' tables: at a statement's line where P holds of the lines its own word, and its mark, at every other line no mark
-pub record Tables (P : List Line → Type 0) (Word : Statement → ℕ → Type 0) (mark : Statement → ℕ) (lines : List Line) (words marks : List ℕ) : Type 0 where
+pub record Tables (P : List Line → Type 0) (Word : Statement → ℕ → Type 0) (mark : Statement → ℕ) (lines : List Line) (words marks : List ℕ)
+    : Type 0 where
   pub word : (at : ℕ) (l : Line) (k : StatementKind) → getElem? lines at ≡ some l → l .kind ≡ St k → P (drop at lines)
       → Word (statementOf k l) (getD words at 0)
   pub marked : (at : ℕ) (l : Line) (k : StatementKind) → getElem? lines at ≡ some l → l .kind ≡ St k → getD marks at 0 ≡ mark (statementOf k l)
@@ -359,9 +360,11 @@ module _ (P : List Line → Type 0) (Word : Statement → ℕ → Type 0) (mark 
       go false h onward =
           let inner : at < length lines = leb-false (length lines) at h in
           let l = first-line lines at inner in
-          line-written n at i k seen all before (l .0) (l .0 .kind) refl (l .1) (l .2) (omega (arith, length-codes lines)) along small less sees onward
+          line-written n at i k seen all before (l .0) (l .0 .kind) refl (l .1) (l .2) (omega (arith, length-codes lines)) along small less
+          sees onward
 
   -- words for the places of unfolding number k of the run at a place, where nothing is around it
-  pub written-whole : (n at k : ℕ) → Along P n (drop at lines) → countRun (runOf n (drop at lines) .run) ≤ 512 → k < countRun (runOf n (drop at lines) .run)
+  pub written-whole : (n at k : ℕ) → Along P n (drop at lines) → countRun (runOf n (drop at lines) .run) ≤ 512
+      → k < countRun (runOf n (drop at lines) .run)
       → PlaceWords Word mark 0 [] (choose (runOf n (drop at lines) .run) 0 k) (writeAt n (codesOf lines) words marks 0 at k)
   written-whole n at k along small less = written-run n at 0 k 0 0 [] along small less (sees-start 0)

@@ -23,7 +23,8 @@ use Rattle.choosing.specs.CodesLaws.{length-codes}
 use Rattle.choosing.specs.Seen.{markOf}
 use Rattle.choosing.specs.WritingLaws.{Tables}
 use Rattle.choosing.specs.Pieces.{Piece, flat, totalsBefore}
-use Rattle.choosing.specs.PiecesLaws.{PiecesFor, AlongPrograms, length-words, total-count, total-statements, all-pieces, over-alike, length-pieces, flat-length, piece-programs, piece-lengths}
+use Rattle.choosing.specs.PiecesLaws.{PiecesFor, AlongPrograms, length-words, total-count, total-statements, all-pieces, over-alike}
+use Rattle.choosing.specs.PiecesLaws.{length-pieces, flat-length, piece-programs, piece-lengths}
 use Rattle.choosing.specs.Along.{OwnHere}
 use Rattle.choosing.specs.Places.{placeWords}
 use Rattle.choosing.specs.PlacesLaws.{IdWord, noMark, AnyLines, any-along, id-tables, id-words, OwnWord, own-tables, flat-own}
@@ -113,7 +114,8 @@ module _ (P : ℕ → List Line → Type 0) (Word : ℕ → Statement → ℕ �
 
 -- a given workload value: over its tables the promise holds
 module _ (P : ℕ → List Line → Type 0) (Word : ℕ → Statement → ℕ → Type 0) (mark : Statement → ℕ) (w : Workload) (g : Given w) (words marks : List ℕ)
-    (fit : (number : ℕ) → Tables (P number) (Word number) mark (linesOf w) words marks) (along : AlongPrograms P (linesOf w)) (before : List ℕ) (Full : List ℕ → Type 0)
+    (fit : (number : ℕ) → Tables (P number) (Word number) mark (linesOf w) words marks) (along : AlongPrograms P (linesOf w))
+    (before : List ℕ) (Full : List ℕ → Type 0)
     (full : (pieces : List Piece) → PiecesFor Word mark (nodesOf (linesOf w)) pieces → Full (flat pieces ++ drop (length (flat pieces)) before)) where
   settled-tables : (r : Unfolded) (area : List ℕ) → Tabled (codesOf (linesOf w)) words marks before r area → SettledAs Full w before r area
   unfolding tooShort shortForUnfoldings
@@ -239,14 +241,16 @@ module _ (w : Workload) (g : Given w) where
 
     pub ready-ids : Ready (take (w .count) codes) (take (w .count) ids) (take 1 (replicate 1 0))
     unfolding zeros
-    ready-ids = rw (part-codes codes c) (ready (λ number. AnyLines) (λ number. IdWord) noMark (linesOf w) (take (w .count) ids) zeros (λ number. id-fit)
-        (λ i begins. any-along _ _))
+    ready-ids =
+        rw (part-codes codes c) (ready (λ number. AnyLines) (λ number. IdWord) noMark (linesOf w) (take (w .count) ids) zeros
+        (λ number. id-fit) (λ i begins. any-along _ _))
 
     pub settled-ids : (before : List ℕ) (r : Unfolded) (area : List ℕ)
         → Tabled (take (w .count) codes) (take (w .count) ids) (take 1 (replicate 1 0)) before r area → Settled w before r area
     unfolding zeros
     settled-ids before r area u =
-        let s = settled-tables (λ number. AnyLines) (λ number. IdWord) noMark w g (take (w .count) ids) zeros (λ number. id-fit) (λ i begins. any-along _ _) before
+        let s = settled-tables (λ number. AnyLines) (λ number. IdWord) noMark w g (take (w .count) ids) zeros
+        (λ number. id-fit) (λ i begins. any-along _ _) before
         (λ end. end ≡ idsIn (nodesOf (linesOf w)) ++ drop (length (idsIn (nodesOf (linesOf w)))) before)
         (λ pieces h. rw (flat-ids (nodesOf (linesOf w)) pieces h) refl) r area (rw (part-codes codes c) at u) in
         record { refusal = s .refusal; refused = s .refused; unfolded = s .unfolded }
@@ -256,7 +260,8 @@ module _ (w : Workload) (g : Given w) where
     own-number : (i : ℕ) → i < length (linesOf w) → getD (take (w .count) words) i 0 ≡ i
     own-number i h = getD-take (w .count) words i 0 (omega (arith, lines-length)) ∙ rw n (sym (number-at 1616 i (omega (arith, lines-length, given-fits g))))
 
-    place-fit : (number : ℕ) → Tables (OwnHere (linesOf w) number) (OwnWord (linesOf w) number) markOf (linesOf w) (take (w .count) words) (take (w .count) marks)
+    place-fit : (number : ℕ)
+        → Tables (OwnHere (linesOf w) number) (OwnWord (linesOf w) number) markOf (linesOf w) (take (w .count) words) (take (w .count) marks)
     place-fit number =
         rw (part-marks marks m) (own-tables (linesOf w) (take (w .count) words) (omega (arith, lines-length, given-fits g)) own-number number)
 
@@ -264,13 +269,15 @@ module _ (w : Workload) (g : Given w) where
     place-along = own-along (g .text) (linesOf w) (given-read g)
 
     pub ready-places : Ready (take (w .count) codes) (take (w .count) words) (take (w .count) marks)
-    ready-places = rw (part-codes codes c) (ready (OwnHere (linesOf w)) (OwnWord (linesOf w)) markOf (linesOf w) (take (w .count) words) (take (w .count) marks) place-fit
-        place-along)
+    ready-places =
+        rw (part-codes codes c) (ready (OwnHere (linesOf w)) (OwnWord (linesOf w)) markOf (linesOf w)
+        (take (w .count) words) (take (w .count) marks) place-fit place-along)
 
     pub settled-places : (before : List ℕ) (r : Unfolded) (area : List ℕ)
         → Tabled (take (w .count) codes) (take (w .count) words) (take (w .count) marks) before r area → PlacesSettled w before r area
     settled-places before r area u =
-        let s = settled-tables (OwnHere (linesOf w)) (OwnWord (linesOf w)) markOf w g (take (w .count) words) (take (w .count) marks) place-fit place-along before
+        let s = settled-tables (OwnHere (linesOf w)) (OwnWord (linesOf w)) markOf w g
+        (take (w .count) words) (take (w .count) marks) place-fit place-along before
         (λ end. end ≡ placeWords (linesOf w) (nodesOf (linesOf w)) ++ drop (length (placeWords (linesOf w) (nodesOf (linesOf w)))) before)
         (λ pieces h. rw (flat-own (linesOf w) (nodesOf (linesOf w)) pieces h) refl) r area (rw (part-codes codes c) at u) in
         record { refusal = s .refusal; refused = s .refused; unfolded = s .unfolded }

@@ -141,7 +141,8 @@ last-part (b ∷ blocks) c lines h body = (b .part, parts blocks, refl, other (o
     other (inr e) z = omega (arith, eqb-true (b .part) secondArm e)
 
 -- after a `pr` no relation and no key comes
-begun-not : (before : List Line) (p : Line → Bool) → any isProgram before ≡ true → all p before ≡ true → ((x : Line) → isProgram x ≡ true → p x ≡ false) → ⊥
+begun-not : (before : List Line) (p : Line → Bool) → any isProgram before ≡ true → all p before ≡ true
+    → ((x : Line) → isProgram x ≡ true → p x ≡ false) → ⊥
 begun-not before p begun h never =
     let found = any-true isProgram before begun in
     true-false (all-true p h (found .1)) (never (found .0) (found .2))
@@ -185,13 +186,15 @@ taken-body before (l ∷ lines) t end begun =
         → Body (parts (openBlocks own)) (count isStatement own) (l ∷ lines)
     go (St k) e h =
         rw (e, Body) (
-          eqb-true (l .id) (count isStatement own) (and-true (eqb (l .id) (count isStatement own)) (ltb (l .rel) (count isRelation before)) (rw (e, named) at (passes .names)) .0),
+          eqb-true (l .id) (count isStatement own)
+              (and-true (eqb (l .id) (count isStatement own)) (ltb (l .rel) (count isRelation before)) (rw (e, named) at (passes .names)) .0),
           rw add-one at (step (St k) e refl 1 (rw e refl) h),
         )
     go Lo e h = rw (e, Body) (rw add-zero at (step Lo e refl 0 (rw e refl) h))
     go Br e h = rw (e, Body) (rw add-zero at (step Br e refl 0 (rw e refl) h))
     go El e h =
-        rw (e, Body) (first-arm (openBlocks own) (count isStatement own) lines (and-true (inBody before) (innermost before firstArm) (rw (e, ordered) at (passes .order)) .1)
+        rw (e, Body) (first-arm (openBlocks own) (count isStatement own) lines
+        (and-true (inBody before) (innermost before firstArm) (rw (e, ordered) at (passes .order)) .1)
         (rw add-zero at (step El e refl 0 (rw e refl) h)))
     go En e h =
         rw (e, Body) (last-part (openBlocks own) (count isStatement own) lines
@@ -214,8 +217,9 @@ module _ (text : List ℕ) (lines : List Line) (taken : read text ≡ accepted l
   body-there i begins = there (leb (length lines) i) refl
     where
       there : (b : Bool) → leb (length lines) i ≡ b → Body [] 0 (drop (i + 1) lines)
-      there true h = 
-          let z = List·getD-eq-default (codesOf lines) 0 {n = i} (omega (arith, length-codes lines, leb-true (length lines) i h)) in absurd (omega arith)
+      there true h =
+          let z = List·getD-eq-default (codesOf lines) 0 {n = i} (omega (arith, length-codes lines, leb-true (length lines) i h)) in
+          absurd (omega arith)
       there false h =
           let f = first-line lines i (leb-false (length lines) i h) in
           let l = f .0 in
@@ -225,7 +229,8 @@ module _ (text : List ℕ) (lines : List Line) (taken : read text ≡ accepted l
           let whole : front ++ (l ∷ back) ≡ lines = ap (λ (r : List Line). front ++ r) (sym (f .1)) ∙ take-append-drop i lines in
           let split : (front ++ (l ∷ [])) ++ back ≡ lines = append-assoc front (l ∷ []) back ∙ whole in
           let t = taken-behind [] (front ++ (l ∷ [])) back (rw split (read-taken text lines taken)) in
-          let begun : any isProgram (front ++ (l ∷ [])) ≡ true = any-append isProgram front (l ∷ []) ∙ or-right (any isProgram front) (or-left false pr) in
+          let begun : any isProgram (front ++ (l ∷ [])) ≡ true =
+          any-append isProgram front (l ∷ []) ∙ or-right (any isProgram front) (or-left false pr) in
           rw (add-one i) (rw (program-begins front l pr) at (taken-body (front ++ (l ∷ [])) back t (rw split (read-closed text lines taken)) begun))
 
   -- along the run of each program its statements stand on their own lines

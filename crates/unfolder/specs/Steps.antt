@@ -32,7 +32,10 @@ pub record Ready (codes words marks : List ℕ) : Type 0 where
 
 -- S22, S20 in this order with the area as it was, else the pieces told and written from the area's start on, and past them as it was
 pub record Tabled (codes words marks before : List ℕ) (r : Unfolded) (area : List ℕ) : Type 0 where
-  pub tells : r ≡ cond (overMany codes) (refusedWith 22) (cond (tooShort codes (length before)) (refusedWith 20) (tableTold (table (piecesOver codes words marks))))
+  pub tells : r
+      ≡ cond (overMany codes) (refusedWith 22)
+      (cond (tooShort codes (length before)) (refusedWith 20) (tableTold (table (piecesOver codes words marks))))
   pub stands : area
       ≡ cond (overMany codes) before
-      (cond (tooShort codes (length before)) before (flat (piecesOver codes words marks) ++ drop (length (flat (piecesOver codes words marks))) before))
+      (cond (tooShort codes (length before)) before
+      (flat (piecesOver codes words marks) ++ drop (length (flat (piecesOver codes words marks))) before))
