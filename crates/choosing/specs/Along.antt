@@ -31,6 +31,6 @@ module _ (P : List Line → Type 0) where
       let more = tail (runOf n lines .rest) in
       asks (l .kind) (P (l ∷ lines)) (Along n lines) (Along n more) (Along n (tail (runOf n more .rest)))
 
--- these are the lines from a place on, and the line there is its statement's own line in the program
+-- where these are the lines from a place on, that place is the own line, in the program, of the statement there
 unfoldable pub OwnHere : List Line → ℕ → List Line → Type 0
 OwnHere lines number here = (at : ℕ) (l : Line) → drop at lines ≡ here → getElem? lines at ≡ some l → ownLine lines number (l .id) ≡ at

@@ -15,3 +15,4 @@ pub mod AlongLaws
 pub mod Shown
 pub mod ShownLaws
 pub mod PlacesLaws
+pub mod PlacesExample

@@ -17,7 +17,7 @@ firstLine k (l ∷ lines) =
       | false ↦ firstLine k lines
     ])
 
--- T7: the own line of the statement with this id in program k: as many lines after the program's first as stand there before the statement
+-- T7: the own line of the statement with this id in program k: the program's first line, and as many further as stand there before the statement
 unfoldable pub ownLine : List Line → ℕ → ℕ → ℕ
 ownLine lines k id = firstLine k lines + length (beforeStatement id (drop (firstLine k lines) lines))
 

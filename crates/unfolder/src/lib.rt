@@ -217,7 +217,7 @@ pub fn unfold(w: Workload, area: &mut [u64]) -> Unfolded
     unfold_tables(&codes[..n], &words[..n], &marks[..1], area)
 }
 
-// The same as words that tell each place's line and which parents that shield are seen there.
+// The same as words that tell the own line of each place's statement and which parents that shield are seen there.
 pub fn unfold_places(w: Workload, area: &mut [u64]) -> Unfolded
     ensures { λ r. ⌜ PlacesSettled w (now (area .entry)) r (now (area .exit)) ⌝ }
 {
