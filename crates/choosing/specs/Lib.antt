@@ -8,9 +8,11 @@ pub mod Writing
 pub mod WritingLaws
 pub mod Pieces
 pub mod PiecesLaws
-pub mod Table
-pub mod TableLaws
 pub mod Seen
+pub mod Places
+pub mod Along
+pub mod AlongLaws
 pub mod Shown
 pub mod ShownLaws
 pub mod PlacesLaws
+pub mod PlacesExample

@@ -10,7 +10,7 @@ use native.Mathlib.Omega.{arith}
 use lib.ListN.{length, getD, getElem?, drop, length-map, length-append, length-drop}
 use lib.Seq.{drop-length}
 use lib.Dec.{eqb, ltb}
-use borrow.Author.Tests.{eq-eqb, ne-eqb, ltb-true, lt-ltb}
+use borrow.Author.Tests.{eq-eqb, ne-eqb, eqb-true, ltb-true, lt-ltb}
 use Rattle.base.specs.BoolLaws.{same-test}
 use Rattle.base.specs.ListLaws.{getElem?-map-some, some-injective}
 use Rattle.text.specs.declared.Line.{Line}
@@ -26,16 +26,17 @@ use Rattle.choosing.specs.Choosing.{countRun, statementsRun}
 use Rattle.choosing.specs.ChoosingLaws.{length-unfoldings, chosen, statements-run}
 use Rattle.choosing.specs.Codes.{codeOf, codesOf, countAt}
 use Rattle.choosing.specs.CodesLaws.{counts-run, length-codes, first-line}
+use Rattle.choosing.specs.Along.{Along}
 use Rattle.choosing.specs.Shown.{PlaceWords}
 use Rattle.choosing.specs.ShownLaws.{words-length}
 use Rattle.choosing.specs.WritingLaws.{Tables, written-whole}
 use Rattle.choosing.specs.Pieces.{Piece, flat, tabulate, row, countedBehind, lineTotals, linePrograms, linePieces, totalsBefore, programsBefore, piecesBefore}
 
--- the piece of a node: its program, and words for its places
-module _ (Word : Statement → ℕ → Type 0) (mark : Statement → ℕ) where
+-- the piece of a node: its program, and words for its places; `Word` may ask for the program too
+module _ (Word : ℕ → Statement → ℕ → Type 0) (mark : Statement → ℕ) where
   pub record PieceFor (n : Node) (p : Piece) : Type 0 where
     pub program : p .program ≡ n .program
-    pub words : PlaceWords Word mark 0 [] (n .places) (p .words)
+    pub words : PlaceWords (Word (n .program)) mark 0 [] (n .places) (p .words)
 
   -- a piece for each node
   unfoldable pub PiecesFor : List Node → List Piece → Type 0
@@ -84,8 +85,8 @@ module _ (lines : List Line) (number at left : ℕ) (links : List Link) where
       summed (e ∷ es) = omega (arith, summed es)
 
 -- their pieces, by number
-module _ (Word : Statement → ℕ → Type 0) (mark : Statement → ℕ) (lines : List Line) (words marks : List ℕ) (fit : Tables Word mark lines words marks)
-    (number at left : ℕ) (links : List Link) where
+module _ (P : List Line → Type 0) (Word : ℕ → Statement → ℕ → Type 0) (mark : Statement → ℕ) (lines : List Line) (words marks : List ℕ)
+    (number at left : ℕ) (links : List Link) (fit : Tables P (Word number) mark lines words marks) (along : Along P left (drop at lines)) where
   abbrev run-here : Run
   run-here = runOf left (drop at lines) .run
 
@@ -111,7 +112,11 @@ module _ (Word : Statement → ℕ → Type 0) (mark : Statement → ℕ) (lines
           let c = chosen run-here j (omega (arith, many)) in (
             nodeHere (c .execution),
             getElem?-map-some nodeHere (unfoldings run-here) j (c .member),
-            record { program = refl; words = rw (c .places 0, zero-add) (written-whole Word mark lines words marks fit left at j small (omega (arith, many))) },
+            record {
+              program = refl;
+              words = rw (c .places 0, zero-add)
+                  (written-whole P (Word number) mark lines words marks fit left at j along small (omega (arith, many)));
+            },
           )
 
 -- nodes one behind the other
@@ -285,11 +290,17 @@ module _ (lines : List Line) where
   pub total-statements : Alike (totalsBefore (codesOf lines) (length lines) .statements) (statementsIn (nodesOf lines))
   total-statements = rw nodes-whole (states-before (length lines))
 
-module _ (Word : Statement → ℕ → Type 0) (mark : Statement → ℕ) (lines : List Line) (words marks : List ℕ) (fit : Tables Word mark lines words marks) where
+-- what is so, for each program, along the run that is read off after its `pr` line
+abbrev pub AlongPrograms : (ℕ → List Line → Type 0) → List Line → Type 0
+AlongPrograms P lines = (i : ℕ) → getD (codesOf lines) i 0 ≡ 3
+    → Along (P (programsBefore (codesOf lines) i)) (length (codesOf lines) - (i + 1)) (drop (i + 1) lines)
+
+module _ (P : ℕ → List Line → Type 0) (Word : ℕ → Statement → ℕ → Type 0) (mark : Statement → ℕ) (lines : List Line) (words marks : List ℕ)
+    (fit : (number : ℕ) → Tables (P number) (Word number) mark lines words marks) (along : AlongPrograms P lines) where
   new-pieces : (i : ℕ) → length (newNodes lines i) ≤ 512
       → PiecesFor Word mark (newNodes lines i) (linePieces (codesOf lines) words marks i (programsBefore (codesOf lines) i))
   unfolding newNodes linePieces countedBehind programBehind PiecesFor
-  new-pieces i = go (eqb (getD (codesOf lines) i 0) 3)
+  new-pieces i = go (eqb (getD (codesOf lines) i 0) 3) refl
     where
       number : ℕ
       number = programsBefore (codesOf lines) i
@@ -306,16 +317,17 @@ module _ (Word : Statement → ℕ → Type 0) (mark : Statement → ℕ) (lines
       rows : List Piece
       rows = tabulate (row number (codesOf lines) words marks (i + 1) left) 0 (countAt left (codesOf lines) (i + 1) .count)
 
-      for-rows : length program ≤ 512 → PiecesFor Word mark program rows
-      for-rows small =
+      for-rows : getD (codesOf lines) i 0 ≡ 3 → length program ≤ 512 → PiecesFor Word mark program rows
+      for-rows begins small =
           let few : countRun (runOf left (drop (i + 1) lines) .run) ≤ 512 = omega (arith, program-counts lines number (i + 1) left links) in
           let exact : countAt left (codesOf lines) (i + 1) .count ≡ countRun (runOf left (drop (i + 1) lines) .run) =
           counts-run lines left (i + 1) .counts ∙ cap-small (omega arith) in
-          rw exact (program-pieces Word mark lines words marks fit number (i + 1) left links few)
+          rw exact (program-pieces (P number) Word mark lines words marks number (i + 1) left links (fit number) (along i begins) few)
 
-      go : (b : Bool) → length (cond b program []) ≤ 512 → PiecesFor Word mark (cond b program []) (cond b rows [])
-      go true small = for-rows small
-      go false small = _
+      go : (b : Bool) → eqb (getD (codesOf lines) i 0) 3 ≡ b → length (cond b program []) ≤ 512
+          → PiecesFor Word mark (cond b program []) (cond b rows [])
+      go true e small = for-rows (eqb-true (getD (codesOf lines) i 0) 3 e) small
+      go false e small = _
 
   pieces-before : (i : ℕ) → length (nodesBefore lines i) ≤ 512 → PiecesFor Word mark (nodesBefore lines i) (piecesBefore (codesOf lines) words marks i)
   unfolding nodesBefore piecesBefore PiecesFor
@@ -340,9 +352,9 @@ over-alike a b limit h p =
     (λ e. lt-ltb limit a (over-too b a limit h (sym (p .same)) (ltb-true limit b e)))
 
 -- as many pieces as nodes, as many words as statements; the programs, starts and lengths
-module _ (Word : Statement → ℕ → Type 0) (mark : Statement → ℕ) where
+module _ (Word : ℕ → Statement → ℕ → Type 0) (mark : Statement → ℕ) where
   pub length-words : (n : Node) (p : Piece) → PieceFor Word mark n p → length (p .words) ≡ length (n .places)
-  length-words n p h = words-length Word mark 0 [] (n .places) (p .words) (h .words)
+  length-words n p h = words-length (Word (n .program)) mark 0 [] (n .places) (p .words) (h .words)
 
   pub length-pieces : (nodes : List Node) (pieces : List Piece) → PiecesFor Word mark nodes pieces → length pieces ≡ length nodes
   unfolding PiecesFor

@@ -2,11 +2,11 @@
 use mathlib.Core.Bool.{Bool, true, false, cond}
 use mathlib.Core.List.{List, [], _∷_, _++_, map}
 use mathlib.Core.Option.{Option, none, some}
-use mathlib.Core.Path.{_≡_, refl, ap, _∙_}
+use mathlib.Core.Path.{_≡_, refl, sym, ap, ap₂, _∙_}
 use Prim.Native.Nat.{ℕ, zero, suc, _+_, _*_, _<_, _≤_}
 use native.Mathlib.Omega.{arith}
 use lib.Bits.{bitOr, or-zero-l}
-use lib.ListN.{length, getD, getElem?}
+use lib.ListN.{length, getD, getElem?, drop}
 use lib.Seq.{take-at, drop-at}
 use Rattle.base.specs.ListLaws.{getElem?-lt}
 use Rattle.text.specs.declared.Line.{Line}
@@ -20,7 +20,9 @@ use Rattle.choosing.specs.Codes.{codeOf, idsOf, markIn, bitIn, marksOf}
 use Rattle.choosing.specs.Seen.{markOf, seenAt, statementIn, statementOn, NodeWords, WordsFor}
 use Rattle.choosing.specs.Shown.{shown, PlaceWords}
 use Rattle.choosing.specs.ShownLaws.{words-length}
-use Rattle.choosing.specs.Writing.{placeIds}
+use Rattle.choosing.specs.Places.{ownLine, placeWord, nodeWords, placeWords}
+use Rattle.choosing.specs.Along.{Along, OwnHere}
+use Rattle.choosing.specs.AlongLaws.{along-all}
 use Rattle.choosing.specs.WritingLaws.{Tables}
 use Rattle.choosing.specs.Pieces.{Piece, flat}
 use Rattle.choosing.specs.PiecesLaws.{PiecesFor}
@@ -38,11 +40,19 @@ IdWord s own = own ≡ s .id
 abbrev pub noMark : Statement → ℕ
 noMark s = 0
 
-pub id-tables : (lines : List Line) (marks : List ℕ) → ((i : ℕ) → getD marks i 0 ≡ 0) → Tables IdWord noMark lines (idsOf lines) marks
+-- nothing is asked of the lines
+abbrev pub AnyLines : List Line → Type 0
+AnyLines lines = Unit {0}
+
+pub any-along : (n : ℕ) (lines : List Line) → Along AnyLines n lines
+any-along n lines = along-all AnyLines (λ l. _) n lines
+
+pub id-tables : (lines : List Line) (marks : List ℕ) → ((i : ℕ) → getD marks i 0 ≡ 0)
+    → Tables AnyLines IdWord noMark lines (idsOf lines) marks
 unfolding idsOf statementOf
 id-tables lines marks h =
     record {
-      word = λ at l k there e. map-there (λ x. x .id) lines at there;
+      word = λ at l k there e any. map-there (λ x. x .id) lines at there;
       marked = λ at l k there e. h at;
       unmarked = λ at l there e. h at;
     }
@@ -56,8 +66,9 @@ none-shown (p ∷ before) path = rw (none-shown before path) (go (leads (p .path
     go true = or-zero-l 0
     go false = or-zero-l 0
 
-pub id-words : (before places : List Occurrence) (words : List ℕ) → PlaceWords IdWord noMark 0 before places words → words ≡ placeIds places
-unfolding PlaceWords placeIds
+pub id-words : (before places : List Occurrence) (words : List ℕ) → PlaceWords IdWord noMark 0 before places words
+    → words ≡ map (λ o. o .statement .id) places
+unfolding PlaceWords
 id-words before [] [] h = refl
 id-words before [] (w ∷ words) h = absurd h
 id-words before (o ∷ places) [] h = absurd h
@@ -93,11 +104,11 @@ no-mark En id h = refl
 no-mark Li id h = refl
 
 pub place-tables : (lines : List Line) (words : List ℕ) → length lines ≤ 2048 → ((i : ℕ) → i < length lines → getD words i 0 ≡ i)
-    → Tables (LineWord lines) markOf lines words (marksOf lines)
+    → Tables AnyLines (LineWord lines) markOf lines words (marksOf lines)
 unfolding marksOf
 place-tables lines words few h =
     record {
-      word = λ at l k there e.
+      word = λ at l k there e any.
           let inner : at < length lines = getElem?-lt lines at there in
           rw (h at inner) (record { small = omega arith; there = statement-there lines at l k there e });
       marked = λ at l k there e. map-there (λ x. markIn (x .kind) (x .id)) lines at there ∙ mark-there k l e;
@@ -126,14 +137,68 @@ place-words lines before (o ∷ places) (w ∷ words) h = (
     whole : w ≡ h .0 .own + seenAt before o * 2048
     whole = h .0 .whole ∙ rw (shown-seen before o, or-zero-l)
 
-pub words-for : (lines : List Line) (nodes : List Node) (pieces : List Piece) → PiecesFor (LineWord lines) markOf nodes pieces
+-- a statement's own line in a program is its word
+pub record OwnWord (lines : List Line) (number : ℕ) (s : Statement) (own : ℕ) : Type 0 where
+  pub line : LineWord lines s own
+  pub same : own ≡ ownLine lines number (s .id)
+
+pub own-tables : (lines : List Line) (words : List ℕ) → length lines ≤ 2048 → ((i : ℕ) → i < length lines → getD words i 0 ≡ i) → (number : ℕ)
+    → Tables (OwnHere lines number) (OwnWord lines number) markOf lines words (marksOf lines)
+unfolding OwnHere statementOf
+own-tables lines words few h number =
+    let fit = place-tables lines words few h in
+    record {
+      word = λ at l k there e own.
+          record { line = fit .word at l k there e _; same = h at (getElem?-lt lines at there) ∙ sym (own at l refl there) };
+      marked = fit .marked;
+      unmarked = fit .unmarked;
+    }
+
+-- words of one sort are words of another
+words-as : (Given Word : Statement → ℕ → Type 0) (mark : Statement → ℕ) → ((s : Statement) (own : ℕ) → Given s own → Word s own)
+    → (seen : ℕ) (before places : List Occurrence) (words : List ℕ) → PlaceWords Given mark seen before places words
+    → PlaceWords Word mark seen before places words
+unfolding PlaceWords
+words-as Given Word mark f seen before [] [] h = h
+words-as Given Word mark f seen before [] (w ∷ words) h = absurd h
+words-as Given Word mark f seen before (o ∷ places) [] h = absurd h
+words-as Given Word mark f seen before (o ∷ places) (w ∷ words) h = (
+  record { own = h .0 .own; fits = f (o .statement) (h .0 .own) (h .0 .fits); whole = h .0 .whole },
+  words-as Given Word mark f seen (before ++ (o ∷ [])) places words (h .1),
+)
+
+-- they are the words of the places
+pub own-words : (lines : List Line) (number : ℕ) (before places : List Occurrence) (words : List ℕ)
+    → PlaceWords (OwnWord lines number) markOf 0 before places words → words ≡ nodeWords lines number before places
+unfolding PlaceWords nodeWords placeWord
+own-words lines number before [] [] h = refl
+own-words lines number before [] (w ∷ words) h = absurd h
+own-words lines number before (o ∷ places) [] h = absurd h
+own-words lines number before (o ∷ places) (w ∷ words) h =
+    ap₂ (λ (x : ℕ) (l : List ℕ). x ∷ l) word (own-words lines number (before ++ (o ∷ [])) places words (h .1))
+  where
+    word : w ≡ ownLine lines number (o .statement .id) + seenAt before o * 2048
+    word = h .0 .whole ∙ rw (shown-seen before o, or-zero-l (seenAt before o)) (ap (λ (x : ℕ). x + seenAt before o * 2048) (h .0 .fits .same))
+
+pub flat-own : (lines : List Line) (nodes : List Node) (pieces : List Piece) → PiecesFor (OwnWord lines) markOf nodes pieces
+    → flat pieces ≡ placeWords lines nodes
+unfolding PiecesFor placeWords flat
+flat-own lines [] [] h = refl
+flat-own lines [] (p ∷ pieces) h = absurd h
+flat-own lines (n ∷ nodes) [] h = absurd h
+flat-own lines (n ∷ nodes) (p ∷ pieces) h =
+    ap₂ (λ (a b : List ℕ). a ++ b) (own-words lines (n .program) [] (n .places) (p .words) (h .0 .words)) (flat-own lines nodes pieces (h .1))
+
+-- and each stands for its place
+pub words-for : (lines : List Line) (nodes : List Node) (pieces : List Piece) → PiecesFor (OwnWord lines) markOf nodes pieces
     → WordsFor lines nodes (flat pieces)
 unfolding PiecesFor WordsFor flat
 words-for lines [] [] h = _
 words-for lines [] (p ∷ pieces) h = absurd h
 words-for lines (n ∷ nodes) [] h = absurd h
 words-for lines (n ∷ nodes) (p ∷ pieces) h =
-    let long = words-length (LineWord lines) markOf 0 [] (n .places) (p .words) (h .0 .words) in (
-      rw (take-at (p .words) (flat pieces) (length (n .places)) long) (place-words lines [] (n .places) (p .words) (h .0 .words)),
+    let plain = words-as (OwnWord lines (n .program)) (LineWord lines) markOf (λ s own w. w .line) 0 [] (n .places) (p .words) (h .0 .words) in
+    let long = words-length (LineWord lines) markOf 0 [] (n .places) (p .words) plain in (
+      rw (take-at (p .words) (flat pieces) (length (n .places)) long) (place-words lines [] (n .places) (p .words) plain),
       rw (drop-at (p .words) (flat pieces) (length (n .places)) long) (words-for lines nodes pieces (h .1)),
     )

@@ -1,4 +1,5 @@
 -- What is seen at a place of an unfolding (E3, E4): the statements before it that can be the parent of a link that shields, as bits of one word.
+-- `markOf` and `seenAt` are believed. After them: how a word stands for a place, as laws say it.
 use mathlib.Core.Bool.{cond, _&&_}
 use mathlib.Core.List.{List, [], _∷_, _++_}
 use mathlib.Core.Option.{Option, none, some}
@@ -39,9 +40,8 @@ statementIn Li l = none
 unfoldable pub statementOn : List Line → ℕ → Option Statement
 statementOn lines i = elim (getElem? lines i) [ none ↦ none | some l ↦ statementIn (l .kind) l ]
 
--- a word stands for a place, with the occurrences before it: its line holds the place's statement, and it has what is seen there
--- Which line that is, where several hold an equal statement (two programs may), is left free: a line is used only for what its statement says,
--- and the program of a place is its node's.
+-- a word stands for a place, with the occurrences before it: its line holds the place's statement, and it has what is seen there.
+-- This is a law of the words that are written (`placeWords`), for those who use a line only for what its statement says.
 pub record StandsFor (lines : List Line) (before : List Occurrence) (o : Occurrence) (word : ℕ) : Type 0 where
   pub line : statementOn lines (word % 2048) ≡ some (o .statement)
   pub seen : word / 2048 ≡ seenAt before o

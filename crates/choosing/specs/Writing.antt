@@ -1,18 +1,13 @@
 -- The words of unfolding number k of a run of lines, over the numbers of the lines and two tables: each line's word and each line's mark.
 -- A statement's place gets its line's word and, from 2048 on, what is seen there: the marks of the statements before it in its run and in the runs around.
 use mathlib.Core.Bool.{cond}
-use mathlib.Core.List.{List, [], _∷_, _++_, map}
+use mathlib.Core.List.{List, [], _∷_, _++_}
 use Prim.Native.Nat.{ℕ, zero, suc, _+_, _*_, _-_, _/_, _%_}
 use lib.Bits.{bitOr}
 use lib.Dec.{eqb, leb, ltb}
 use lib.ListN.{length, getD}
-use Rattle.graph.specs.Unfolding.{Occurrence}
 use Rattle.choosing.specs.declared.Counted.{Counted}
 use Rattle.choosing.specs.Codes.{after, itemAt, countAt}
-
--- the statement ids of occurrences
-unfoldable pub placeIds : List Occurrence → List ℕ
-placeIds places = map (λ o. o .statement .id) places
 
 -- a loop's: no turn, one turn of each, two turns of each
 unfoldable pub writeLoop : (ℕ → List ℕ) → ℕ → ℕ → List ℕ

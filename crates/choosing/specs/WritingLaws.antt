@@ -28,16 +28,20 @@ use Rattle.choosing.specs.CodesLaws.{Counts, counts-run, length-codes, i
 use Rattle.choosing.specs.CodesLaws.{run-ends, run-statement, run-loop, run-branch}
 use Rattle.choosing.specs.Shown.{shown, PlaceWords, Later}
 use Rattle.choosing.specs.ShownLaws.{or-assoc, around, apart-later, apart-turn, later-less, shown-append, shown-apart, behind-apart, words-append, words-inside}
+use Rattle.choosing.specs.Along.{Along}
+use Rattle.choosing.specs.AlongLaws.{along-statement, along-loop, along-branch}
 use Rattle.choosing.specs.Writing.{writeLoop, writeBranch, writeBlock, writeAt}
 
--- the lines' tables: at a statement's line its own word and its mark, at every other line no mark
-pub record Tables (Word : Statement → ℕ → Type 0) (mark : Statement → ℕ) (lines : List Line) (words marks : List ℕ) : Type 0 where
-  pub word : (at : ℕ) (l : Line) (k : StatementKind) → getElem? lines at ≡ some l → l .kind ≡ St k → Word (statementOf k l) (getD words at 0)
+-- the lines' tables: at a statement's line where P holds of the lines its own word, and its mark, at every other line no mark
+pub record Tables (P : List Line → Type 0) (Word : Statement → ℕ → Type 0) (mark : Statement → ℕ) (lines : List Line) (words marks : List ℕ)
+    : Type 0 where
+  pub word : (at : ℕ) (l : Line) (k : StatementKind) → getElem? lines at ≡ some l → l .kind ≡ St k → P (drop at lines)
+      → Word (statementOf k l) (getD words at 0)
   pub marked : (at : ℕ) (l : Line) (k : StatementKind) → getElem? lines at ≡ some l → l .kind ≡ St k → getD marks at 0 ≡ mark (statementOf k l)
   pub unmarked : (at : ℕ) (l : Line) → getElem? lines at ≡ some l → (codeOf (l .kind) ≡ 0 → ⊥) → getD marks at 0 ≡ 0
 
 -- a list at a place
-line-there : (lines : List Line) (at : ℕ) {l : Line} {rest : List Line} → drop at lines ≡ l ∷ rest → getElem? lines at ≡ some l
+pub line-there : (lines : List Line) (at : ℕ) {l : Line} {rest : List Line} → drop at lines ≡ l ∷ rest → getElem? lines at ≡ some l
 line-there [] zero {l} {rest} e = let z : _≡_ {A = List Line} [] (l ∷ rest) = e in absurd (omega (arith, ap length z))
 line-there [] (suc at) {l} {rest} e = let z : _≡_ {A = List Line} [] (l ∷ rest) = e in absurd (omega (arith, ap length z))
 line-there (x ∷ lines) zero e = ap some (cc)
@@ -202,10 +206,11 @@ two-small : (a b : Run) → countItem (branch a b) ≤ 512 → countRun b ≤ 51
 unfolding countRun
 two-small a b h = omega arith
 
-module _ (Word : Statement → ℕ → Type 0) (mark : Statement → ℕ) (lines : List Line) (words marks : List ℕ) (fit : Tables Word mark lines words marks) where
-  -- the run from a place on is written whole, wherever it has at most 512 unfoldings
+module _ (P : List Line → Type 0) (Word : Statement → ℕ → Type 0) (mark : Statement → ℕ) (lines : List Line) (words marks : List ℕ)
+    (fit : Tables P Word mark lines words marks) where
+  -- the run from a place on is written whole, wherever P holds along it and it has at most 512 unfoldings
   abbrev Written : ℕ → ℕ → Type 0
-  Written n at = (i k seen all : ℕ) (before : List Occurrence) → countRun (runOf n (drop at lines) .run) ≤ 512
+  Written n at = (i k seen all : ℕ) (before : List Occurrence) → Along P n (drop at lines) → countRun (runOf n (drop at lines) .run) ≤ 512
       → k < countRun (runOf n (drop at lines) .run) → Sees Word mark seen before i all
       → PlaceWords Word mark seen before (choose (runOf n (drop at lines) .run) i k) (writeAt n (codesOf lines) words marks all at k)
 
@@ -219,10 +224,10 @@ module _ (Word : Statement → ℕ → Type 0) (mark : Statement → ℕ) (lines
   unfolding shown
   sees-start all path h = or-zero-r all
 
-  body-written : (n at all : ℕ) → Written n at → countRun (runOf n (drop at lines) .run) ≤ 512 → (j : ℕ)
+  body-written : (n at all : ℕ) → Written n at → Along P n (drop at lines) → countRun (runOf n (drop at lines) .run) ≤ 512 → (j : ℕ)
       → j < countRun (runOf n (drop at lines) .run)
       → PlaceWords Word mark all [] (choose (runOf n (drop at lines) .run) 0 j) (writeAt n (codesOf lines) words marks all at j)
-  body-written n at all onward small j less = onward 0 j all all [] small less (sees-start all)
+  body-written n at all onward along small j less = onward 0 j all all [] along small less (sees-start all)
 
   ends-written : (n at i k seen all : ℕ) (before : List Occurrence) (l : Line) (c : LineKind) → l .kind ≡ c → drop at lines ≡ l ∷ drop (suc at) lines
       → getD (codesOf lines) at 0 ≡ codeOf c → at < length (codesOf lines) → 2 < codeOf c
@@ -234,19 +239,19 @@ module _ (Word : Statement → ℕ → Type 0) (mark : Statement → ℕ) (lines
   -- a statement and the run behind it
   statement-next : (n at i k seen all : ℕ) (before : List Occurrence) (s : Statement) → at < length (codesOf lines)
       → getD (codesOf lines) at 0 ≡ 0 → runOf (suc n) (drop at lines) ≡ behind (statement s) (runOf n (drop (at + 1) lines))
-      → Word s (getD words at 0) → getD marks at 0 ≡ mark s
+      → Word s (getD words at 0) → getD marks at 0 ≡ mark s → Along P n (drop (at + 1) lines)
       → countRun (runOf (suc n) (drop at lines) .run) ≤ 512 → k < countRun (runOf (suc n) (drop at lines) .run)
       → Sees Word mark seen before i all → ((e : ℕ) → Written n e)
       → PlaceWords Word mark seen before (choose (runOf (suc n) (drop at lines) .run) i k) (writeAt (suc n) (codesOf lines) words marks all at k)
   unfolding behind choose countRun
-  statement-next n at i k seen all before s p c run word marked small less sees onward =
+  statement-next n at i k seen all before s p c run word marked along small less sees onward =
       let codes = codesOf lines in
       let r = runOf n (drop (at + 1) lines) .run in
       let whole : 1 * countRun r ≤ 512 = rw run at small in
       let inside : k < 1 * countRun r = rw run at less in
       let same : k % countRun r ≡ k = mod-eq-of-lt (omega (arith, one-mul (countRun r))) in
       let first = statement-written Word mark s i (k / countRun r) seen all before (getD words at 0) word sees in
-      let then = onward (at + 1) (suc i) k seen (bitOr all (getD marks at 0)) (before ++ chooseItem (statement s) i (k / countRun r))
+      let then = onward (at + 1) (suc i) k seen (bitOr all (getD marks at 0)) (before ++ chooseItem (statement s) i (k / countRun r)) along
       (omega (arith, one-mul (countRun r))) (omega (arith, one-mul (countRun r)))
       (sees-behind Word mark seen all i (getD marks at 0) before (chooseItem (statement s) i (k / countRun r)) sees
       (λ path later. statement-seen Word mark s i (k / countRun r) path ∙ sym marked)) in
@@ -256,7 +261,7 @@ module _ (Word : Statement → ℕ → Type 0) (mark : Statement → ℕ) (lines
   -- a block and the run behind it
   block-next : (n at i k seen all : ℕ) (before : List Occurrence) (x : Item) (rest : List Line) → at < length (codesOf lines)
       → getD (codesOf lines) at 0 ≤ 2 → (getD (codesOf lines) at 0 ≡ 0 → ⊥) → runOf (suc n) (drop at lines) ≡ behind x (runOf n rest)
-      → rest ≡ drop (itemAt (countAt n (codesOf lines)) (codesOf lines) at .end) lines
+      → rest ≡ drop (itemAt (countAt n (codesOf lines)) (codesOf lines) at .end) lines → Along P n rest
       → countRun (runOf (suc n) (drop at lines) .run) ≤ 512 → k < countRun (runOf (suc n) (drop at lines) .run) → Sees Word mark seen before i all
       → ((j : ℕ) (path : List Around) → Later (suc i) path → shown mark (chooseItem x i j) path ≡ 0)
       → ((j : ℕ) → countItem x ≤ 512 → j < countItem x → PlaceWords Word mark seen before (chooseItem x i j)
@@ -264,7 +269,7 @@ module _ (Word : Statement → ℕ → Type 0) (mark : Statement → ℕ) (lines
       → ((e : ℕ) → Written n e)
       → PlaceWords Word mark seen before (choose (runOf (suc n) (drop at lines) .run) i k) (writeAt (suc n) (codesOf lines) words marks all at k)
   unfolding behind choose countRun
-  block-next n at i k seen all before x rest p c b run d small less sees unseen item onward =
+  block-next n at i k seen all before x rest p c b run d along small less sees unseen item onward =
       let codes = codesOf lines in
       let more = itemAt (countAt n codes) codes at .end in
       let r = runOf n rest .run in
@@ -275,7 +280,7 @@ module _ (Word : Statement → ℕ → Type 0) (mark : Statement → ℕ) (lines
       rw same (right-small (countItem x) (countRun r) (item-counts x) whole) in
       let c-exact : countAt n codes more .count ≡ countRun r = exact n more r-small ∙ ap countRun same in
       let first = item (k / countRun r) (left-small (countItem x) (countRun r) (run-counts r) whole) (div-lt-iff-lt-mul (run-counts r) .1 inside) in
-      let then = onward more (suc i) (k % countRun r) seen all (before ++ chooseItem x i (k / countRun r)) r-small
+      let then = onward more (suc i) (k % countRun r) seen all (before ++ chooseItem x i (k / countRun r)) (rw (← d) along) r-small
       (rw same (mod-lt k (run-counts r)))
       (rw or-zero-r at (sees-behind Word mark seen all i 0 before (chooseItem x i (k / countRun r)) sees (unseen (k / countRun r)))) in
       rw (write-block codes words marks all at k n p c b, c-exact, run)
@@ -283,31 +288,33 @@ module _ (Word : Statement → ℕ → Type 0) (mark : Statement → ℕ) (lines
 
   -- one line more
   line-written : (n at i k seen all : ℕ) (before : List Occurrence) (l : Line) (c : LineKind) → l .kind ≡ c → drop at lines ≡ l ∷ drop (suc at) lines
-      → getD (codesOf lines) at 0 ≡ codeOf c → at < length (codesOf lines)
+      → getD (codesOf lines) at 0 ≡ codeOf c → at < length (codesOf lines) → Along P (suc n) (drop at lines)
       → countRun (runOf (suc n) (drop at lines) .run) ≤ 512 → k < countRun (runOf (suc n) (drop at lines) .run)
       → Sees Word mark seen before i all → ((e : ℕ) → Written n e)
       → PlaceWords Word mark seen before (choose (runOf (suc n) (drop at lines) .run) i k) (writeAt (suc n) (codesOf lines) words marks all at k)
   unfolding codeOf
-  line-written n at i k seen all before l (St s) e d g p small less sees onward =
+  line-written n at i k seen all before l (St s) e d g p along small less sees onward =
       let run : drop at lines ≡ l ∷ drop (at + 1) lines = rw add-one d in
       let there = line-there lines at d in
+      let holds = along-statement P n l (drop (at + 1) lines) s e (rw run at along) in
       statement-next n at i k seen all before (statementOf s l) p g (rw run (run-statement n l (drop (at + 1) lines) s e))
-      (fit .word at l s there e) (fit .marked at l s there e) small less sees onward
-  line-written n at i k seen all before l Lo e d g p small less sees onward =
+      (fit .word at l s there e (rw run (holds .0))) (fit .marked at l s there e) (holds .1) small less sees onward
+  line-written n at i k seen all before l Lo e d g p along small less sees onward =
       let codes = codesOf lines in
       let run : drop at lines ≡ l ∷ drop (at + 1) lines = rw add-one d in
       let body = runOf n (drop (at + 1) lines) in
       let item : itemAt (countAt n codes) codes at ≡ loopCounted (length lines) (countAt n codes (at + 1)) =
       item-loop codes at (countAt n codes) g ∙ rw length-codes in
+      let holds = along-loop P n l (drop (at + 1) lines) e (rw run at along) in
       block-next n at i k seen all before (loop (body .run)) (tail (body .rest)) p (omega arith) (λ z. omega arith)
       (rw run (run-loop n l (drop (at + 1) lines) e))
-      (rw item (counts-loop lines body (countAt n codes (at + 1)) (counts-run lines n (at + 1)) .leaves)) small less sees
+      (rw item (counts-loop lines body (countAt n codes (at + 1)) (counts-run lines n (at + 1)) .leaves)) (holds .1) small less sees
       (loop-unseen Word mark (body .run) i)
       (λ j q m. let b = loop-small (body .run) q in
       rw (write-loop codes at j (writeAt n codes words marks all) (countAt n codes) g, exact n (at + 1) b)
       (loop-written Word mark (body .run) i j seen all before (writeAt n codes words marks all (at + 1)) sees
-      (body-written n (at + 1) all (onward (at + 1)) b) m)) onward
-  line-written n at i k seen all before l Br e d g p small less sees onward =
+      (body-written n (at + 1) all (onward (at + 1)) (holds .0) b) m)) onward
+  line-written n at i k seen all before l Br e d g p along small less sees onward =
       let codes = codesOf lines in
       let run : drop at lines ≡ l ∷ drop (at + 1) lines = rw add-one d in
       let one = runOf n (drop (at + 1) lines) in
@@ -320,28 +327,29 @@ module _ (Word : Statement → ℕ → Type 0) (mark : Statement → ℕ) (lines
       let not-one : getD codes at 0 ≡ 1 → ⊥ = λ z. omega arith in
       let item : itemAt (countAt n codes) codes at ≡ branchCounted (length lines) first (countAt n codes other) =
       item-branch codes at (countAt n codes) not-zero not-one ∙ rw length-codes in
+      let holds = along-branch P n l (drop (at + 1) lines) e (rw run at along) in
       block-next n at i k seen all before (branch (one .run) (two .run)) (tail (two .rest)) p (omega arith) not-zero
       (rw run (run-branch n l (drop (at + 1) lines) e))
-      (rw item (counts-branch lines one two first (countAt n codes other) (counts-run lines n (at + 1)) second .leaves)) small less sees
+      (rw item (counts-branch lines one two first (countAt n codes other) (counts-run lines n (at + 1)) second .leaves)) (holds .2) small less sees
       (branch-unseen Word mark (one .run) (two .run) i)
       (λ j q m. let a = one-small (one .run) (two .run) q in
       let b : countRun (runOf n (drop other lines) .run) ≤ 512 = rw (← rest) (two-small (one .run) (two .run) q) in
       rw (write-branch codes at j (writeAt n codes words marks all) (countAt n codes) not-one, exact n (at + 1) a, length-codes)
       (branch-written Word mark (one .run) (two .run) i j seen all before (writeAt n codes words marks all (at + 1)) (writeAt n codes words marks all other)
-      sees (body-written n (at + 1) all (onward (at + 1)) a)
-      (λ t u. rw (← rest) at (body-written n other all (onward other) b t (rw (← rest) u))) m)) onward
-  line-written n at i k seen all before l Pr e d g p small less sees onward = ends-written n at i k seen all before l Pr e d g p (omega arith)
-  line-written n at i k seen all before l Rl e d g p small less sees onward = ends-written n at i k seen all before l Rl e d g p (omega arith)
-  line-written n at i k seen all before l Fk e d g p small less sees onward = ends-written n at i k seen all before l Fk e d g p (omega arith)
-  line-written n at i k seen all before l El e d g p small less sees onward = ends-written n at i k seen all before l El e d g p (omega arith)
-  line-written n at i k seen all before l En e d g p small less sees onward = ends-written n at i k seen all before l En e d g p (omega arith)
-  line-written n at i k seen all before l Li e d g p small less sees onward = ends-written n at i k seen all before l Li e d g p (omega arith)
+      sees (body-written n (at + 1) all (onward (at + 1)) (holds .0) a)
+      (λ t u. rw (← rest) at (body-written n other all (onward other) (rw (← rest) (holds .1)) b t (rw (← rest) u))) m)) onward
+  line-written n at i k seen all before l Pr e d g p along small less sees onward = ends-written n at i k seen all before l Pr e d g p (omega arith)
+  line-written n at i k seen all before l Rl e d g p along small less sees onward = ends-written n at i k seen all before l Rl e d g p (omega arith)
+  line-written n at i k seen all before l Fk e d g p along small less sees onward = ends-written n at i k seen all before l Fk e d g p (omega arith)
+  line-written n at i k seen all before l El e d g p along small less sees onward = ends-written n at i k seen all before l El e d g p (omega arith)
+  line-written n at i k seen all before l En e d g p along small less sees onward = ends-written n at i k seen all before l En e d g p (omega arith)
+  line-written n at i k seen all before l Li e d g p along small less sees onward = ends-written n at i k seen all before l Li e d g p (omega arith)
 
   -- what is written from a place on for number k are words for the places of unfolding number k of the run read off there
   pub written-run : (n at : ℕ) → Written n at
   unfolding runOf writeAt PlaceWords choose
-  written-run zero at i k seen all before small less sees = _
-  written-run (suc n) at i k seen all before small less sees = go (leb (length lines) at) refl (λ e. written-run n e)
+  written-run zero at i k seen all before along small less sees = _
+  written-run (suc n) at i k seen all before along small less sees = go (leb (length lines) at) refl (λ e. written-run n e)
     where
       go : (t : Bool) → leb (length lines) at ≡ t → ((e : ℕ) → Written n e)
           → PlaceWords Word mark seen before (choose (runOf (suc n) (drop at lines) .run) i k) (writeAt (suc n) (codesOf lines) words marks all at k)
@@ -352,9 +360,11 @@ module _ (Word : Statement → ℕ → Type 0) (mark : Statement → ℕ) (lines
       go false h onward =
           let inner : at < length lines = leb-false (length lines) at h in
           let l = first-line lines at inner in
-          line-written n at i k seen all before (l .0) (l .0 .kind) refl (l .1) (l .2) (omega (arith, length-codes lines)) small less sees onward
+          line-written n at i k seen all before (l .0) (l .0 .kind) refl (l .1) (l .2) (omega (arith, length-codes lines)) along small less
+          sees onward
 
   -- words for the places of unfolding number k of the run at a place, where nothing is around it
-  pub written-whole : (n at k : ℕ) → countRun (runOf n (drop at lines) .run) ≤ 512 → k < countRun (runOf n (drop at lines) .run)
+  pub written-whole : (n at k : ℕ) → Along P n (drop at lines) → countRun (runOf n (drop at lines) .run) ≤ 512
+      → k < countRun (runOf n (drop at lines) .run)
       → PlaceWords Word mark 0 [] (choose (runOf n (drop at lines) .run) 0 k) (writeAt n (codesOf lines) words marks 0 at k)
-  written-whole n at k small less = written-run n at 0 k 0 0 [] small less (sees-start 0)
+  written-whole n at k along small less = written-run n at 0 k 0 0 [] along small less (sees-start 0)

@@ -17,10 +17,10 @@ use Rattle.graph.specs.Unfolding.{Node, nodesOf}
 use Rattle.report.specs.State.{StateRefusal, statementsIn, tooMany, shortForUnfoldings, refusalOf}
 use Rattle.report.specs.State.StateRefusal.{too-short, taken}
 use Rattle.tables.specs.Table.{rowsOf, tableOf}
-use Rattle.choosing.specs.Table.{cells}
 use Rattle.unfolder.specs.declared.Unfolded.{Unfolded}
-use Rattle.unfolder.specs.Result.{nodesTold}
-use Rattle.unfolder.specs.Settled.{PlacesStand, PlacesSettled}
+use Rattle.unfolder.specs.Result.{cells, nodesTold}
+use Rattle.unfolder.specs.Settled.{PlacesSettled}
+use Rattle.unfolder.specs.Stand.{PlacesStand, places-stand}
 use Rattle.report.specs.Refusals.{refusal-some, refusal-none, same-number, not-both, places-few, taken-given, other-area}
 use Rattle.rows.specs.declared.Begun.{Begun}
 use Rattle.rows.specs.declared.Rows.{Rows}
@@ -91,7 +91,7 @@ module _ (w : Workload) (zeros : List ℕ) (size : length zeros ≡ 512) (told :
     is-told = settled .unfolded (refusal-none (told .refusal) none-told) .0
 
     stand : PlacesStand lines zeros area
-    stand = settled .unfolded (refusal-none (told .refusal) none-told) .1
+    stand = places-stand w (both .0) (both .1) zeros area (settled .unfolded (refusal-none (told .refusal) none-told) .1)
 
     -- a cell of a table of nodes
     cell-of : (f : Node → ℕ) (j : ℕ) (n : Node) → getElem? nodes j ≡ some n → getD (cells (map f nodes)) j 0 ≡ f n

@@ -15,8 +15,8 @@ use Rattle.choosing.specs.declared.Counted.{Counted}
 use Rattle.choosing.specs.declared.UnfoldingTable.{UnfoldingTable}
 use Rattle.choosing.specs.CodesLaws.{count-positive}
 use Rattle.choosing.specs.Pieces.{Piece, flat, tabulate, row, countedBehind, linePrograms, linePieces, programsBefore, piecesBefore}
-use Rattle.choosing.specs.Table.{addAll, table}
-use Rattle.choosing.specs.TableLaws.{addAll-append, flat-append, from-nothing}
+use Rattle.unfolder.specs.Table.{addAll, table}
+use Rattle.unfolder.specs.TableLaws.{addAll-append, flat-append, from-nothing}
 use Rattle.counting.specs.Facts.{RunCounted}
 use Rattle.unfolder.specs.Facts.{Wrote, Rows, Rowed, LineFits, Lined, AllFit}
 

@@ -7,7 +7,7 @@ use lib.ListN.{length, take, drop, length-append, length-take, length-drop}
 use borrow.Rule.Slice.PartMut.{putMid}
 use Rattle.choosing.specs.declared.UnfoldingTable.{UnfoldingTable}
 use Rattle.choosing.specs.Pieces.{Piece, flat, tabulate}
-use Rattle.choosing.specs.Table.{added, addAll}
+use Rattle.unfolder.specs.Table.{added, addAll}
 use Rattle.wording.specs.Laid.{Laid}
 use Rattle.unfolder.specs.Facts.{Wrote, Rows, Rowed}
 use Rattle.unfolder.proofs.WriteLaws.{wrote-nothing, wrote-laid, room-left, room-right, wrote-both}

@@ -7,15 +7,12 @@ use Prim.Native.Nat.{ℕ, zero, suc, _+_, _≤_, _<_}
 use native.Mathlib.Omega.{arith}
 use lib.ListN.{length, getD, take, drop, replicate, length-map, length-take}
 use lib.Seq.{getD-take}
-use lib.Dec.{ltb}
-use borrow.Author.Tests.{ltb-false}
 use Rattle.base.specs.Basic.{numbers}
-use Rattle.base.specs.BoolLaws.{or-false}
 use Rattle.base.specs.ListLaws.{length-numbersFrom}
 use Rattle.text.specs.declared.Line.{Line}
 use Rattle.text.specs.declared.Workload.{Workload}
 use Rattle.text.specs.Value.{Given, linesOf}
-use Rattle.reading.specs.ValueLaws.{given-fits, given-cells}
+use Rattle.reading.specs.ValueLaws.{given-read, given-fits, given-cells}
 use Rattle.graph.specs.Program.{Statement}
 use Rattle.graph.specs.Unfolding.{Node, nodesOf}
 use Rattle.report.specs.State.{StateRefusal, statementsIn, tooMany, shortForUnfoldings, refusalOf}
@@ -26,12 +23,18 @@ use Rattle.choosing.specs.CodesLaws.{length-codes}
 use Rattle.choosing.specs.Seen.{markOf}
 use Rattle.choosing.specs.WritingLaws.{Tables}
 use Rattle.choosing.specs.Pieces.{Piece, flat, totalsBefore}
-use Rattle.choosing.specs.PiecesLaws.{PiecesFor, length-words, total-count, total-statements, all-pieces, over-alike, length-pieces, flat-length, piece-programs, piece-lengths}
-use Rattle.choosing.specs.PlacesLaws.{IdWord, noMark, id-tables, id-words, LineWord, place-tables, words-for}
-use Rattle.choosing.specs.Table.{starts, table}
+use Rattle.choosing.specs.PiecesLaws.{PiecesFor, AlongPrograms, length-words, total-count, total-statements, all-pieces, over-alike}
+use Rattle.choosing.specs.PiecesLaws.{length-pieces, flat-length, piece-programs, piece-lengths}
+use Rattle.choosing.specs.Along.{OwnHere}
+use Rattle.choosing.specs.Places.{placeWords}
+use Rattle.choosing.specs.PlacesLaws.{IdWord, noMark, AnyLines, any-along, id-tables, id-words, OwnWord, own-tables, flat-own}
 use Rattle.unfolder.specs.declared.Unfolded.{Unfolded}
-use Rattle.unfolder.specs.Result.{refusedWith, idsIn, startsIn, nodesTold, tableTold, overMany, tooShort, piecesOver, Ready, Tabled}
-use Rattle.unfolder.specs.Settled.{Settled, PlacesStand, PlacesSettled}
+use Rattle.unfolder.specs.Result.{refusedWith, placeIds, idsIn, startsIn, nodesTold}
+use Rattle.unfolder.specs.Table.{starts, table}
+use Rattle.unfolder.specs.Steps.{tableTold, overMany, tooShort, piecesOver, Ready, Tabled}
+use Rattle.unfolder.specs.Settled.{Settled, PlacesSettled}
+use Rattle.unfolder.specs.OwnLaws.{own-along}
+use Rattle.unfolder.specs.Stand.{few-nodes}
 use Rattle.linetables.specs.declared.IdTables.{IdTables}
 use Rattle.linetables.specs.declared.PlaceTables.{PlaceTables}
 use Rattle.linetables.specs.Tables.{idTables, placeTables}
@@ -70,7 +73,7 @@ module _ (Full : List ℕ → Type 0) (w : Workload) (before : List ℕ) where
       })
 
 -- where each piece starts, and the table of the nodes' pieces
-module _ (Word : Statement → ℕ → Type 0) (mark : Statement → ℕ) where
+module _ (Word : ℕ → Statement → ℕ → Type 0) (mark : Statement → ℕ) where
   starts-nodes : (s : ℕ) (nodes : List Node) (pieces : List Piece) → PiecesFor Word mark nodes pieces → starts s pieces ≡ startsIn s nodes
   unfolding PiecesFor starts startsIn
   starts-nodes s [] [] h = refl
@@ -84,37 +87,35 @@ module _ (Word : Statement → ℕ → Type 0) (mark : Statement → ℕ) where
   table-nodes nodes pieces h =
       rw (length-pieces Word mark nodes pieces h, starts-nodes 0 nodes pieces h, piece-programs Word mark nodes pieces h, piece-lengths Word mark nodes pieces h)
 
-module _ (Word : Statement → ℕ → Type 0) (mark : Statement → ℕ) (lines : List Line) (words marks : List ℕ) (fit : Tables Word mark lines words marks) where
+-- the lines count as many nodes and statements as they have
+module _ (lines : List Line) where
   over-nodes : overMany (codesOf lines) ≡ tooMany lines
   unfolding overMany tooMany
   over-nodes =
       rw (length-codes lines, over-alike _ _ 64 (omega arith) (total-count lines), over-alike _ _ 512 (omega arith) (total-statements lines))
 
-  few-nodes : tooMany lines ≡ false → (length (nodesOf lines) ≤ 64) × (statementsIn (nodesOf lines) ≤ 512)
-  unfolding tooMany
-  few-nodes h =
-      let both = or-false (ltb 64 (length (nodesOf lines))) (ltb 512 (statementsIn (nodesOf lines))) h in
-      (ltb-false 64 (length (nodesOf lines)) (both .0), ltb-false 512 (statementsIn (nodesOf lines)) (both .1))
-
   exact-statements : tooMany lines ≡ false → totalsBefore (codesOf lines) (length (codesOf lines)) .statements ≡ statementsIn (nodesOf lines)
   unfolding cap
-  exact-statements h = rw (length-codes lines) (omega (arith, total-statements lines .same, few-nodes h .1))
+  exact-statements h = rw (length-codes lines) (omega (arith, total-statements lines .same, few-nodes lines h .1))
 
+module _ (P : ℕ → List Line → Type 0) (Word : ℕ → Statement → ℕ → Type 0) (mark : Statement → ℕ) (lines : List Line) (words marks : List ℕ)
+    (fit : (number : ℕ) → Tables (P number) (Word number) mark lines words marks) (along : AlongPrograms P lines) where
   pieces-for : tooMany lines ≡ false → PiecesFor Word mark (nodesOf lines) (piecesOver (codesOf lines) words marks)
-  pieces-for h = rw (length-codes lines) (all-pieces Word mark lines words marks fit (omega (arith, few-nodes h .0)))
+  pieces-for h = rw (length-codes lines) (all-pieces P Word mark lines words marks fit along (omega (arith, few-nodes lines h .0)))
 
   ready : Ready (codesOf lines) words marks
   ready =
       record {
-        few = λ o. let u : tooMany lines ≡ false = sym over-nodes ∙ o in
-            omega (arith, length-pieces Word mark (nodesOf lines) _ (pieces-for u), few-nodes u .0);
-        short = λ o. let u : tooMany lines ≡ false = sym over-nodes ∙ o in
-            omega (arith, flat-length Word mark (nodesOf lines) _ (pieces-for u), exact-statements u);
+        few = λ o. let u : tooMany lines ≡ false = sym (over-nodes lines) ∙ o in
+            omega (arith, length-pieces Word mark (nodesOf lines) _ (pieces-for u), few-nodes lines u .0);
+        short = λ o. let u : tooMany lines ≡ false = sym (over-nodes lines) ∙ o in
+            omega (arith, flat-length Word mark (nodesOf lines) _ (pieces-for u), exact-statements lines u);
       }
 
 -- a given workload value: over its tables the promise holds
-module _ (Word : Statement → ℕ → Type 0) (mark : Statement → ℕ) (w : Workload) (g : Given w) (words marks : List ℕ)
-    (fit : Tables Word mark (linesOf w) words marks) (before : List ℕ) (Full : List ℕ → Type 0)
+module _ (P : ℕ → List Line → Type 0) (Word : ℕ → Statement → ℕ → Type 0) (mark : Statement → ℕ) (w : Workload) (g : Given w) (words marks : List ℕ)
+    (fit : (number : ℕ) → Tables (P number) (Word number) mark (linesOf w) words marks) (along : AlongPrograms P (linesOf w))
+    (before : List ℕ) (Full : List ℕ → Type 0)
     (full : (pieces : List Piece) → PiecesFor Word mark (nodesOf (linesOf w)) pieces → Full (flat pieces ++ drop (length (flat pieces)) before)) where
   settled-tables : (r : Unfolded) (area : List ℕ) → Tabled (codesOf (linesOf w)) words marks before r area → SettledAs Full w before r area
   unfolding tooShort shortForUnfoldings
@@ -124,10 +125,10 @@ module _ (Word : Statement → ℕ → Type 0) (mark : Statement → ℕ) (w : W
       lines = linesOf w
 
       over : overMany (codesOf (linesOf w)) ≡ tooMany (linesOf w)
-      over = over-nodes Word mark (linesOf w) words marks fit
+      over = over-nodes (linesOf w)
 
       short : tooMany (linesOf w) ≡ false → tooShort (codesOf (linesOf w)) (length before) ≡ shortForUnfoldings (linesOf w) (length before)
-      short h = rw (exact-statements Word mark (linesOf w) words marks fit h)
+      short h = rw (exact-statements (linesOf w) h)
 
       go : (a : Bool) → tooMany (linesOf w) ≡ a → (b : Bool) → shortForUnfoldings (linesOf w) (length before) ≡ b → SettledAs Full w before r area
       go true p b q = settled-refused Full w before r area 21 (too-many g p) (u .tells ∙ rw (over, p)) (u .stands ∙ rw (over, p))
@@ -135,7 +136,7 @@ module _ (Word : Statement → ℕ → Type 0) (mark : Statement → ℕ) (w : W
           settled-refused Full w before r area 19 (too-short g p q) (u .tells ∙ rw (over, p, short p, q)) (u .stands ∙ rw (over, p, short p, q))
       go false p false q =
           let pieces = piecesOver (codesOf (linesOf w)) words marks in
-          let for = pieces-for Word mark (linesOf w) words marks fit p in
+          let for = pieces-for P Word mark (linesOf w) words marks fit along p in
           let written : area ≡ flat pieces ++ drop (length (flat pieces)) before = u .stands ∙ rw (over, p, short p, q) in
           settled-taken Full w before r area (taken g p q)
           (u .tells ∙ rw (over, p, short p, q) (table-nodes Word mark (nodesOf (linesOf w)) pieces for)) (rw written (full pieces for))
@@ -148,8 +149,8 @@ not-given-ids w before r h e =
 
 pub not-given-places : (w : Workload) (before : List ℕ) (r : Unfolded) → (Given w → ⊥) → r ≡ refusedWith 21 → PlacesSettled w before r before
 not-given-places w before r h e =
-    let s = settled-refused (PlacesStand (linesOf w) before) w before r before 20 (not-given h) e refl in
-    record { refusal = s .refusal; refused = s .refused; unfolded = s .unfolded }
+    let s = settled-refused (λ area. ⊥) w before r before 20 (not-given h) e refl in
+    record { refusal = s .refusal; refused = s .refused; unfolded = λ p. absurd (s .unfolded p .1) }
 
 -- a part of what a function makes of a list
 take-map : {A : Type 0} (f : A → ℕ) (n : ℕ) (l : List A) → take n (map f l) ≡ map f (take n l)
@@ -163,8 +164,8 @@ no-marks (suc n) zero i = refl
 no-marks (suc n) (suc m) zero = refl
 no-marks (suc n) (suc m) (suc i) = no-marks n m i
 
-flat-ids : (nodes : List Node) (pieces : List Piece) → PiecesFor IdWord noMark nodes pieces → flat pieces ≡ idsIn nodes
-unfolding PiecesFor flat idsIn
+flat-ids : (nodes : List Node) (pieces : List Piece) → PiecesFor (λ number. IdWord) noMark nodes pieces → flat pieces ≡ idsIn nodes
+unfolding PiecesFor flat idsIn placeIds
 flat-ids [] [] h = refl
 flat-ids [] (p ∷ pieces) h = absurd h
 flat-ids (n ∷ nodes) [] h = absurd h
@@ -234,19 +235,22 @@ module _ (w : Workload) (g : Given w) where
     zeros : List ℕ
     zeros = take 1 (replicate 1 0)
 
-    id-fit : Tables IdWord noMark (linesOf w) (take (w .count) ids) zeros
+    id-fit : Tables AnyLines IdWord noMark (linesOf w) (take (w .count) ids) zeros
     unfolding zeros
     id-fit = rw (part-ids ids i) (id-tables (linesOf w) zeros (no-marks 1 1))
 
     pub ready-ids : Ready (take (w .count) codes) (take (w .count) ids) (take 1 (replicate 1 0))
     unfolding zeros
-    ready-ids = rw (part-codes codes c) (ready IdWord noMark (linesOf w) (take (w .count) ids) zeros id-fit)
+    ready-ids =
+        rw (part-codes codes c) (ready (λ number. AnyLines) (λ number. IdWord) noMark (linesOf w) (take (w .count) ids) zeros
+        (λ number. id-fit) (λ i begins. any-along _ _))
 
     pub settled-ids : (before : List ℕ) (r : Unfolded) (area : List ℕ)
         → Tabled (take (w .count) codes) (take (w .count) ids) (take 1 (replicate 1 0)) before r area → Settled w before r area
     unfolding zeros
     settled-ids before r area u =
-        let s = settled-tables IdWord noMark w g (take (w .count) ids) zeros id-fit before
+        let s = settled-tables (λ number. AnyLines) (λ number. IdWord) noMark w g (take (w .count) ids) zeros
+        (λ number. id-fit) (λ i begins. any-along _ _) before
         (λ end. end ≡ idsIn (nodesOf (linesOf w)) ++ drop (length (idsIn (nodesOf (linesOf w)))) before)
         (λ pieces h. rw (flat-ids (nodesOf (linesOf w)) pieces h) refl) r area (rw (part-codes codes c) at u) in
         record { refusal = s .refusal; refused = s .refused; unfolded = s .unfolded }
@@ -256,20 +260,24 @@ module _ (w : Workload) (g : Given w) where
     own-number : (i : ℕ) → i < length (linesOf w) → getD (take (w .count) words) i 0 ≡ i
     own-number i h = getD-take (w .count) words i 0 (omega (arith, lines-length)) ∙ rw n (sym (number-at 1616 i (omega (arith, lines-length, given-fits g))))
 
-    place-fit : Tables (LineWord (linesOf w)) markOf (linesOf w) (take (w .count) words) (take (w .count) marks)
-    place-fit = rw (part-marks marks m) (place-tables (linesOf w) (take (w .count) words) (omega (arith, lines-length, given-fits g)) own-number)
+    place-fit : (number : ℕ)
+        → Tables (OwnHere (linesOf w) number) (OwnWord (linesOf w) number) markOf (linesOf w) (take (w .count) words) (take (w .count) marks)
+    place-fit number =
+        rw (part-marks marks m) (own-tables (linesOf w) (take (w .count) words) (omega (arith, lines-length, given-fits g)) own-number number)
+
+    place-along : AlongPrograms (OwnHere (linesOf w)) (linesOf w)
+    place-along = own-along (g .text) (linesOf w) (given-read g)
 
     pub ready-places : Ready (take (w .count) codes) (take (w .count) words) (take (w .count) marks)
-    ready-places = rw (part-codes codes c) (ready (LineWord (linesOf w)) markOf (linesOf w) (take (w .count) words) (take (w .count) marks) place-fit)
+    ready-places =
+        rw (part-codes codes c) (ready (OwnHere (linesOf w)) (OwnWord (linesOf w)) markOf (linesOf w)
+        (take (w .count) words) (take (w .count) marks) place-fit place-along)
 
     pub settled-places : (before : List ℕ) (r : Unfolded) (area : List ℕ)
         → Tabled (take (w .count) codes) (take (w .count) words) (take (w .count) marks) before r area → PlacesSettled w before r area
     settled-places before r area u =
-        let s = settled-tables (LineWord (linesOf w)) markOf w g (take (w .count) words) (take (w .count) marks) place-fit before (PlacesStand (linesOf w) before)
-        (λ pieces h. record {
-          words = flat pieces;
-          many = flat-length (LineWord (linesOf w)) markOf (nodesOf (linesOf w)) pieces h;
-          fits = words-for (linesOf w) (nodesOf (linesOf w)) pieces h;
-          stands = refl;
-        }) r area (rw (part-codes codes c) at u) in
+        let s = settled-tables (OwnHere (linesOf w)) (OwnWord (linesOf w)) markOf w g
+        (take (w .count) words) (take (w .count) marks) place-fit place-along before
+        (λ end. end ≡ placeWords (linesOf w) (nodesOf (linesOf w)) ++ drop (length (placeWords (linesOf w) (nodesOf (linesOf w)))) before)
+        (λ pieces h. rw (flat-own (linesOf w) (nodesOf (linesOf w)) pieces h) refl) r area (rw (part-codes codes c) at u) in
         record { refusal = s .refusal; refused = s .refused; unfolded = s .unfolded }

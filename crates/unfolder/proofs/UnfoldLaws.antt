@@ -11,12 +11,13 @@ use Rattle.base.specs.BoolLaws.{or-left, or-right, or-of}
 use Rattle.choosing.specs.declared.UnfoldingTable.{UnfoldingTable}
 use Rattle.choosing.specs.declared.Totals.{Totals}
 use Rattle.choosing.specs.Pieces.{totalsBefore}
-use Rattle.choosing.specs.Table.{table}
-use Rattle.choosing.specs.TableLaws.{from-nothing}
+use Rattle.unfolder.specs.Table.{table}
+use Rattle.unfolder.specs.TableLaws.{from-nothing}
 use Rattle.unfolder.specs.declared.Unfolded.{Unfolded}
 use Rattle.counting.specs.Facts.{Totalled, AllCounted}
 use Rattle.unfolder.specs.Facts.{Rowed, AllFit}
-use Rattle.unfolder.specs.Result.{refusedWith, tableTold, overMany, tooShort, piecesOver, Ready, Tabled}
+use Rattle.unfolder.specs.Result.{refusedWith}
+use Rattle.unfolder.specs.Steps.{tableTold, overMany, tooShort, piecesOver, Ready, Tabled}
 
 module _ (codes words marks before : List ℕ) (t : Totals) (all : AllCounted codes t) where
   h : Totalled (totalsBefore codes (length codes)) t

@@ -5,7 +5,7 @@ use Prim.Native.Nat.{ℕ, _+_, _≤_, _<_}
 use lib.ListN.{length, take, drop}
 use Rattle.choosing.specs.declared.UnfoldingTable.{UnfoldingTable}
 use Rattle.choosing.specs.Pieces.{Piece, flat}
-use Rattle.choosing.specs.Table.{addAll}
+use Rattle.unfolder.specs.Table.{addAll}
 
 -- numbers stand at the start of an area, which is otherwise as it was; the result is how many
 pub record Wrote (written before : List ℕ) (r : ℕ) (area : List ℕ) : Type 0 where

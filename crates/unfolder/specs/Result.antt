@@ -1,33 +1,30 @@
--- What the unfolding of a workload tells, and what then stands in the lent area.
-use mathlib.Core.Bool.{Bool, false, cond, _||_}
+-- What the unfolding of a workload tells and writes (document 01, "Unfoldings"): each node's statement ids into the lent area, one node after
+-- the other (U5), and each node's program, start and length; past what is written the area keeps its contents (U6, `Settled`). Believed.
 use mathlib.Core.List.{List, [], _∷_, _++_, map}
-use mathlib.Core.Path.{_≡_}
-use Prim.Native.Nat.{ℕ, _+_, _≤_}
-use lib.Dec.{ltb}
-use lib.ListN.{length, drop, replicate}
-use Rattle.graph.specs.Unfolding.{Node}
-use Rattle.choosing.specs.declared.UnfoldingTable.{UnfoldingTable}
-use Rattle.choosing.specs.Table.{cells, table}
-use Rattle.choosing.specs.Pieces.{Piece, flat, totalsBefore, piecesBefore}
-use Rattle.choosing.specs.Writing.{placeIds}
+use Prim.Native.Nat.{ℕ, _+_, _-_}
+use lib.ListN.{length, replicate}
+use Rattle.graph.specs.Unfolding.{Occurrence, Node}
 use Rattle.unfolder.specs.declared.Unfolded.{Unfolded}
 
--- a refusal gives its number alone
-unfoldable pub refusedWith : ℕ → Unfolded
-refusedWith number =
-    record { refusal = number; count = 0; program = replicate 64 0; start = replicate 64 0; length = replicate 64 0 }
+-- U5: the statement ids of an unfolding
+unfoldable pub placeIds : List Occurrence → List ℕ
+placeIds places = map (λ o. o .statement .id) places
 
--- the statement ids of nodes, one node behind the other
+-- U5: the statement ids of nodes, one node after the other
 unfoldable pub idsIn : List Node → List ℕ
 idsIn [] = []
 idsIn (n ∷ nodes) = placeIds (n .places) ++ idsIn nodes
 
--- where each node's statements start
+-- U5: where each node's statements start
 unfoldable pub startsIn : ℕ → List Node → List ℕ
 startsIn s [] = []
 startsIn s (n ∷ nodes) = s ∷ startsIn (s + length (n .places)) nodes
 
--- each node's program, start and length
+-- 64 cells: a list, and 0 in those past it
+unfoldable pub cells : List ℕ → List ℕ
+cells l = l ++ replicate (64 - length l) 0
+
+-- U5: each node's program, start and length
 unfoldable pub nodesTold : List Node → Unfolded
 nodesTold nodes =
     record {
@@ -38,28 +35,7 @@ nodesTold nodes =
       length = cells (map (λ n. length (n .places)) nodes);
     }
 
--- a table told
-unfoldable pub tableTold : UnfoldingTable → Unfolded
-tableTold f = record { refusal = 0; count = f .count; program = f .program; start = f .start; length = f .length }
-
--- over the lines' numbers: S22, S20, and the pieces that are written
-unfoldable pub overMany : List ℕ → Bool
-overMany codes = ltb 64 (totalsBefore codes (length codes) .count) || ltb 512 (totalsBefore codes (length codes) .statements)
-
-unfoldable pub tooShort : List ℕ → ℕ → Bool
-tooShort codes room = ltb room (totalsBefore codes (length codes) .statements)
-
-abbrev pub piecesOver : List ℕ → List ℕ → List ℕ → List Piece
-piecesOver codes words marks = piecesBefore codes words marks (length codes)
-
--- where S22 lets them pass, the pieces are no more than 64 and no longer than counted
-pub record Ready (codes words marks : List ℕ) : Type 0 where
-  pub few : overMany codes ≡ false → length (piecesOver codes words marks) ≤ 64
-  pub short : overMany codes ≡ false → length (flat (piecesOver codes words marks)) ≤ totalsBefore codes (length codes) .statements
-
--- S22, S20 in this order with the area as it was, else the pieces told and written from the area's start on, and past them as it was
-pub record Tabled (codes words marks before : List ℕ) (r : Unfolded) (area : List ℕ) : Type 0 where
-  pub tells : r ≡ cond (overMany codes) (refusedWith 22) (cond (tooShort codes (length before)) (refusedWith 20) (tableTold (table (piecesOver codes words marks))))
-  pub stands : area
-      ≡ cond (overMany codes) before
-      (cond (tooShort codes (length before)) before (flat (piecesOver codes words marks) ++ drop (length (flat (piecesOver codes words marks))) before))
+-- S: a refusal gives its number alone
+unfoldable pub refusedWith : ℕ → Unfolded
+refusedWith number =
+    record { refusal = number; count = 0; program = replicate 64 0; start = replicate 64 0; length = replicate 64 0 }

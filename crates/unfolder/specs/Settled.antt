@@ -4,12 +4,11 @@ use mathlib.Core.Option.{none, some}
 use mathlib.Core.Path.{_≡_}
 use Prim.Native.Nat.{ℕ}
 use lib.ListN.{length, drop}
-use Rattle.text.specs.declared.Line.{Line}
 use Rattle.text.specs.declared.Workload.{Workload}
 use Rattle.text.specs.Value.{linesOf}
 use Rattle.graph.specs.Unfolding.{nodesOf}
-use Rattle.report.specs.State.{StateRefusal, statementsIn, shortForUnfoldings, refusalOf}
-use Rattle.choosing.specs.Seen.{WordsFor}
+use Rattle.report.specs.State.{StateRefusal, shortForUnfoldings, refusalOf}
+use Rattle.choosing.specs.Places.{placeWords}
 use Rattle.unfolder.specs.declared.Unfolded.{Unfolded}
 use Rattle.unfolder.specs.Result.{refusedWith, idsIn, nodesTold}
 
@@ -20,15 +19,10 @@ pub record Settled (w : Workload) (before : List ℕ) (r : Unfolded) (area : Lis
   pub unfolded : refusalOf (r .refusal) ≡ none
       → (r ≡ nodesTold (nodesOf (linesOf w))) × (area ≡ idsIn (nodesOf (linesOf w)) ++ drop (length (idsIn (nodesOf (linesOf w)))) before)
 
--- words for all places of the nodes stand from an area's start on, and past them it is as it was
-pub record PlacesStand (lines : List Line) (before area : List ℕ) : Type 0 where
-  pub words : List ℕ
-  pub many : length words ≡ statementsIn (nodesOf lines)
-  pub fits : WordsFor lines (nodesOf lines) words
-  pub stands : area ≡ words ++ drop (length words) before
-
--- the same refusals; else the nodes are told, and words for their places stand from the area's start on
+-- the same refusals; else the nodes are told, and the words of their places stand from the area's start on
 pub record PlacesSettled (w : Workload) (before : List ℕ) (r : Unfolded) (area : List ℕ) : Type 0 where
   pub refusal : StateRefusal w (shortForUnfoldings (linesOf w) (length before)) (refusalOf (r .refusal))
   pub refused : (n : ℕ) → refusalOf (r .refusal) ≡ some n → (r ≡ refusedWith n) × (area ≡ before)
-  pub unfolded : refusalOf (r .refusal) ≡ none → (r ≡ nodesTold (nodesOf (linesOf w))) × PlacesStand (linesOf w) before area
+  pub unfolded : refusalOf (r .refusal) ≡ none
+      → (r ≡ nodesTold (nodesOf (linesOf w)))
+      × (area ≡ placeWords (linesOf w) (nodesOf (linesOf w)) ++ drop (length (placeWords (linesOf w) (nodesOf (linesOf w)))) before)

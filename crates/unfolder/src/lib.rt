@@ -13,10 +13,11 @@ ghost use mathlib.Core.Path.{_≡_};
 ghost use Prim.Native.Nat.{_+_, _-_, _<_};
 ghost use lib.ListN.{length};
 ghost use Rattle.choosing.specs.Pieces.{row, tabulate, linePieces, linePrograms, piecesBefore};
-ghost use Rattle.choosing.specs.Table.{added, table};
 ghost use Rattle.unfolder.specs.Facts.{Rows, Rowed, LineFits, Lined, AllFit};
-ghost use Rattle.unfolder.specs.Result.{refusedWith, tableTold, Ready, Tabled};
+ghost use Rattle.unfolder.specs.Result.{refusedWith};
 ghost use Rattle.unfolder.specs.Settled.{Settled, PlacesSettled};
+ghost use Rattle.unfolder.specs.Steps.{tableTold, Ready, Tabled};
+ghost use Rattle.unfolder.specs.Table.{added, table};
 
 // The unfoldings of a workload: the number of the refusal, or 0 and how many there are, with each one's program, start and length.
 pub struct Unfolded {
@@ -216,7 +217,7 @@ pub fn unfold(w: Workload, area: &mut [u64]) -> Unfolded
     unfold_tables(&codes[..n], &words[..n], &marks[..1], area)
 }
 
-// The same as words that tell each place's line and which parents that shield are seen there.
+// The same as words that tell the own line of each place's statement and which parents that shield are seen there.
 pub fn unfold_places(w: Workload, area: &mut [u64]) -> Unfolded
     ensures { λ r. ⌜ PlacesSettled w (now (area .entry)) r (now (area .exit)) ⌝ }
 {

@@ -10,7 +10,9 @@ use borrow.Author.Tests.{lt-ltb, le-ltb, eq-eqb, ne-eqb, le-leb, lt-leb}
 use borrow.Rule.Slice.PartMut.{putMid}
 use Rattle.choosing.specs.declared.Counted.{Counted}
 use Rattle.choosing.specs.Codes.{idsOf, marksOf, after, itemAt, countAt}
-use Rattle.choosing.specs.PlacesLaws.{IdWord, noMark, id-tables, id-words, LineWord, place-tables, place-words}
+use Rattle.choosing.specs.Along.{OwnHere}
+use Rattle.choosing.specs.PlacesLaws.{IdWord, noMark, AnyLines, any-along, id-tables, id-words, LineWord, place-tables, place-words}
+use Rattle.choosing.specs.PlacesLaws.{OwnWord, own-tables, own-words}
 use Rattle.choosing.specs.Seen.{markOf}
 use Rattle.choosing.specs.Writing.{writeLoop, writeBranch, writeBlock, writeAt}
 use Rattle.choosing.specs.WritingLaws.{written-whole, write-past, write-stop, write-statement, write-block, write-loop, write-branch}
@@ -27,15 +29,23 @@ module _ (codes words marks : List ℕ) (seen at k : ℕ) (before : List ℕ) wh
         lays = h;
         ids = λ lines c w none.
             let fit = id-tables lines marks none in
-            let all = written-whole IdWord noMark lines (idsOf lines) marks fit left at k (c .few) (c .below) in
+            let along = any-along left (drop at lines) in
+            let all = written-whole AnyLines IdWord noMark lines (idsOf lines) marks fit left at k along (c .few) (c .below) in
             lays-as _ (writeAt left codes words marks seen at k) before r area (sym (rw (c .coded, w, c .fresh) (id-words [] _ _ all))) h;
         places = λ lines c short numbered m.
             let fit = place-tables lines words short numbered in
-            let all = written-whole (LineWord lines) markOf lines words (marksOf lines) fit left at k (c .few) (c .below) in (
+            let along = any-along left (drop at lines) in
+            let all = written-whole AnyLines (LineWord lines) markOf lines words (marksOf lines) fit left at k along (c .few) (c .below) in (
               writeAt left codes words marks seen at k,
               rw (c .coded, m, c .fresh) (place-words lines [] _ _ all),
               h,
             );
+        own = λ lines number c short numbered m along.
+            let fit = own-tables lines words short numbered number in
+            let all = written-whole (OwnHere lines number) (OwnWord lines number) markOf lines words (marksOf lines) fit left at k along
+            (c .few) (c .below) in
+            lays-as _ (writeAt left codes words marks seen at k) before r area
+            (sym (rw (c .coded, m, c .fresh) (own-words lines number [] _ _ all))) h;
       }
 
   pub run-none : (left : ℕ) → left ≡ 0 → RunLaid left codes words marks seen at k before 0 before

@@ -1,5 +1,5 @@
 -- Words laid over a lent area, as far as it reaches.
-use mathlib.Core.List.{List, [], _∷_}
+use mathlib.Core.List.{List, [], _∷_, map}
 use mathlib.Core.Path.{_≡_}
 use Prim.Native.Nat.{ℕ, _≤_, _<_, min}
 use lib.ListN.{length, getD, drop}
@@ -8,7 +8,9 @@ use Rattle.graph.specs.Program.{runOf}
 use Rattle.choosing.specs.Choosing.{countRun, choose}
 use Rattle.choosing.specs.Codes.{codesOf, idsOf, marksOf}
 use Rattle.choosing.specs.Seen.{NodeWords}
-use Rattle.choosing.specs.Writing.{placeIds, writeAt}
+use Rattle.choosing.specs.Places.{nodeWords}
+use Rattle.choosing.specs.Along.{Along, OwnHere}
+use Rattle.choosing.specs.Writing.{writeAt}
 
 -- words over an area from its start on; past them it is as it was
 unfoldable pub laid : List ℕ → List ℕ → List ℕ
@@ -30,11 +32,16 @@ pub record Chosen (left : ℕ) (codes : List ℕ) (seen at k : ℕ) (lines : Lis
   pub below : k < countRun (runOf left (drop at lines) .run)
 
 -- unfolding number k of the run at a place is laid over an area: of ids and no marks its statement ids;
--- of line numbers and the lines' marks one word for each of its places, which tells the line and what is seen there
+-- of line numbers and the lines' marks one word for each of its places, which tells a line that holds its statement and what is seen there;
+-- where the run is read off the statements' own lines in a program, these are the words of the places in that program, nothing left free
 pub record RunLaid (left : ℕ) (codes words marks : List ℕ) (seen at k : ℕ) (before : List ℕ) (r : ℕ) (area : List ℕ) : Type 0 where
   pub lays : Laid (writeAt left codes words marks seen at k) before r area
   pub ids : (lines : List Line) → Chosen left codes seen at k lines → words ≡ idsOf lines → ((i : ℕ) → getD marks i 0 ≡ 0)
-      → Laid (placeIds (choose (runOf left (drop at lines) .run) 0 k)) before r area
+      → Laid (map (λ o. o .statement .id) (choose (runOf left (drop at lines) .run) 0 k)) before r area
   pub places : (lines : List Line) → Chosen left codes seen at k lines
       → length lines ≤ 2048 → ((i : ℕ) → i < length lines → getD words i 0 ≡ i) → marks ≡ marksOf lines
       → (told : List ℕ) × NodeWords lines [] (choose (runOf left (drop at lines) .run) 0 k) told × Laid told before r area
+  pub own : (lines : List Line) (number : ℕ) → Chosen left codes seen at k lines
+      → length lines ≤ 2048 → ((i : ℕ) → i < length lines → getD words i 0 ≡ i) → marks ≡ marksOf lines
+      → Along (OwnHere lines number) left (drop at lines)
+      → Laid (nodeWords lines number [] (choose (runOf left (drop at lines) .run) 0 k)) before r area

@@ -1,5 +1,4 @@
--- The cells of program, start and length at the count are set, and count and used places go up, as `added` says.
-use Rattle.choosing.specs.Table.{added}
+use Rattle.unfolder.specs.Table.{added}
 use native.Mathlib.Omega.{arith}
 use mathlib.Core.Path.{_≡_, refl, ap, sym, _∙_}
 use Prim.Native.Nat.{ℕ, _+_, _-_, _*_, _≤_, _<_}

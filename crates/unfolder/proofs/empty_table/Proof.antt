@@ -1,5 +1,5 @@
--- No unfolding and cells of zeros are the table of no pieces, by computation.
-use Rattle.choosing.specs.Table.{table, cells, starts}
+use Rattle.unfolder.specs.Result.{cells}
+use Rattle.unfolder.specs.Table.{table, starts}
 use Rattle.choosing.specs.Pieces.{flat}
 use borrow.Author.Needs.{needs}
 use native.Mathlib.Omega.{arith}

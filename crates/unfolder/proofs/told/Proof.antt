@@ -1,5 +1,4 @@
--- The fields of the table with refusal 0 are `tableTold`, by computation.
-use Rattle.unfolder.specs.Result.{tableTold}
+use Rattle.unfolder.specs.Steps.{tableTold}
 use borrow.Author.Needs.{needs}
 use native.Mathlib.Omega.{arith}
 use mathlib.Core.Path.{_≡_, refl, ap, sym, _∙_}

@@ -1,9 +1,10 @@
 -- The table of what is written: each piece's program, start and length.
-use mathlib.Core.List.{List, [], _∷_, _++_, map}
-use Prim.Native.Nat.{ℕ, _+_, _-_}
-use lib.ListN.{length, set, replicate}
+use mathlib.Core.List.{List, [], _∷_, map}
+use Prim.Native.Nat.{ℕ, _+_}
+use lib.ListN.{length, set}
 use Rattle.choosing.specs.declared.UnfoldingTable.{UnfoldingTable}
 use Rattle.choosing.specs.Pieces.{Piece, flat}
+use Rattle.unfolder.specs.Result.{cells}
 
 -- one row more
 unfoldable pub added : UnfoldingTable → ℕ → ℕ → UnfoldingTable
@@ -24,10 +25,6 @@ addAll t (p ∷ ps) = addAll (added t (p .program) (length (p .words))) ps
 unfoldable pub starts : ℕ → List Piece → List ℕ
 starts s [] = []
 starts s (p ∷ ps) = s ∷ starts (s + length (p .words)) ps
-
--- 64 cells: a list, and 0 in those past it
-unfoldable pub cells : List ℕ → List ℕ
-cells l = l ++ replicate (64 - length l) 0
 
 unfoldable pub table : List Piece → UnfoldingTable
 table ps =

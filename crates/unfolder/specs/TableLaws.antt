@@ -6,9 +6,10 @@ use native.Mathlib.Nat.{zero-add, add-zero}
 use native.Mathlib.Omega.{arith}
 use lib.ListN.{length, set, replicate, length-append, length-map}
 use lib.Seq.{set-append-seam}
 use Rattle.choosing.specs.declared.UnfoldingTable.{UnfoldingTable}
 use Rattle.choosing.specs.Pieces.{Piece, flat}
-use Rattle.choosing.specs.Table.{added, addAll, starts, cells, table}
+use Rattle.unfolder.specs.Result.{cells}
+use Rattle.unfolder.specs.Table.{added, addAll, starts, table}
 
 -- rows behind rows
 pub addAll-append : (t : UnfoldingTable) (ps qs : List Piece) → addAll t (ps ++ qs) ≡ addAll (addAll t ps) qs
