@@ -100,11 +100,6 @@ walk-short : (ahead behind rows : List ℕ) (u x : ℕ) → length (walkOn ahead
 unfolding walkOn
 walk-short ahead behind rows u x = let h = way-short ahead rows (layersTo rows u) 63 (x % 64) in suc-le-suc (suc-le-suc h)
 
--- an empty walk leaves the area as it is
-pub shown-empty : (area : List ℕ) → shownIn [] area ≡ area
-unfolding shownIn flatMap
-shown-empty area = refl
-
 -- S20: whether an area has room for 65 steps
 room-none : (n : ℕ) → n < 260 → shortForWalk (n / 4) ≡ true
 unfolding shortForWalk

@@ -1,5 +1,5 @@
 -- What the verdict promises for every workload value and every lent area (document 01, "Refused because of the state", "The dangerous walk";
--- demands 2 and 3).
+-- demands 2 and 3). Believed.
 use mathlib.Core.Bool.{true}
 use mathlib.Core.List.{List}
 use mathlib.Core.Option.{none, some}

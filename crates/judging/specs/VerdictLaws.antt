@@ -1,5 +1,5 @@
 -- From what the parts promise to what the verdict promises.
-use mathlib.Core.Bool.{true, false, false≢true}
+use mathlib.Core.Bool.{true, false≢true}
 use mathlib.Core.List.{List, []}
 use mathlib.Core.Logic.{_⊎_, inl, inr}
 use mathlib.Core.Option.{Option, none, some}
@@ -9,12 +9,13 @@ use native.Mathlib.Omega.{arith}
 use lib.ListN.{length, take}
 use Rattle.text.specs.declared.Workload.{Workload}
 use Rattle.text.specs.Value.{Given, linesOf}
-use Rattle.graph.specs.Graph.{Graph}
 use Rattle.graph.specs.Walk.{Step, isDangerous}
+use Rattle.schedule.specs.Schedule.{Schedule}
+use Rattle.schedule.specs.Serial.{Serialisable}
 use Rattle.soundness.specs.Theorem.{demand-3}
 use Rattle.report.specs.State.{StateRefusal, shortForWalk, Counts, counted, countsOf, summaryGraph, Robust}
 use Rattle.report.specs.State.StateRefusal.{not-given, too-many, too-short, taken}
-use Rattle.report.specs.Area.{shownIn}
+use Rattle.report.specs.Refusals.{taken-given}
 use Rattle.detector.specs.declared.WalkFound.{WalkFound}
 use Rattle.detector.specs.Table.{tableWalk, refusalIn, stepsIn, Answered}
 use Rattle.detector.specs.Table.Answered.{no-room, no-walk, shown}
@@ -120,3 +121,16 @@ judged-not-given {w} {before} h (judged s answer after word) = absurd (go s refl
     go (too-many g many) e = h g
     go (too-short g few short) e = h g
     go (taken g few room) e = h g
+
+-- ---- what the word robust is worth
+
+-- N1: a text gives the value, the counts are its own, each of its schedules has a serial order, and the area stays as it was
+pub judged-robust : {w : Workload} {before : List ℕ} {answer : Told} {after : List ℕ} {c : Counts} → Judged w before answer after
+    → answer ≡ Told.robust c → Given w × (c ≡ countsOf (linesOf w)) × ((s : Schedule (linesOf w)) → Serialisable s) × (after ≡ before)
+judged-robust (refused number s) e = let z : _≡_ {A = ℕ} 0 1 = cc in absurd (omega arith)
+judged-robust {w} {before} {c = c} (judged s answer after word) e = go word e
+  where
+    go : {t : Told} {area : List ℕ} → Word (linesOf w) before t area → t ≡ Told.robust c
+        → Given w × (c ≡ countsOf (linesOf w)) × ((s : Schedule (linesOf w)) → Serialisable s) × (area ≡ before)
+    go (robust safe serial) f = let same : c ≡ countsOf (linesOf w) = cc in (taken-given s refl .0, same, serial, refl)
+    go (danger walk dangerous short) f = let z : _≡_ {A = ℕ} 0 1 = cc in absurd (omega arith)
