@@ -3,6 +3,7 @@
 // with and without room.
 
 use edges::Edge;
+use judging::Verdict;
 use libc::STDOUT_FILENO;
 use text::Line;
 use text::LineKind;
@@ -155,19 +156,33 @@ fn changed(area: &[u64; 264], from: u64) -> bool {
     false
 }
 
-// The verdict with so much of an area for the walk, and whether a cell behind the walk has changed.
+// The verdict's numbers, and whether a cell from a place on has changed.
+fn print_verdict(refusal: u64, danger: u64, edges: u64, back: u64, area: &[u64; 264], from: u64) {
+    print_next(refusal);
+    print_next(danger);
+    print_next(edges);
+    print_next(back);
+    print_next(changed(area, from) as u64);
+    print(b"\n");
+}
+
+// A verdict, and whether a cell behind its walk has changed.
+fn show_answer(v: Verdict, area: &[u64; 264]) {
+    match v {
+        Verdict::Robust(c) => print_verdict(0, 0, c.edges, c.back, area, 0),
+        Verdict::Danger(c, steps) => print_verdict(0, 1, c.edges, c.back, area, steps % 66 * 4),
+        Verdict::Refused(number) => print_verdict(number as u64, 0, 0, 0, area, 0),
+    }
+}
+
+// The verdict with so much of an area for the walk.
 fn show_verdict(w: Workload, room: u64) {
     let mut area = [77u64; 264];
     let n = room_in(room, &area);
     let v = judging::verdict_of(w, &mut area[..n]);
     print(b"verdict");
     print_next(room);
-    print_next(v.refusal as u64);
-    print_next(v.danger as u64);
-    print_next(v.edges);
-    print_next(v.back);
-    print_next(changed(&area, v.steps % 66 * 4) as u64);
-    print(b"\n");
+    show_answer(v, &area);
 }
 
 // Everything of one value; its unfoldings have so many places.

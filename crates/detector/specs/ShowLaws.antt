@@ -1,6 +1,8 @@
 -- Steps that are written one by one stand at the front of the area.
 use mathlib.Core.Path.{_≡_, refl, sym, ap, ap₂, subst, _∙_}
 use mathlib.Core.Bool.{Bool, true, false, cond, false≢true}
+use mathlib.Core.Logic.{_⊎_, inl, inr}
+use mathlib.Core.Option.{none, some}
 use mathlib.Core.List.{List, [], _∷_, _++_, flatMap, append-assoc}
 use Prim.Native.Nat.{ℕ, zero, suc, _+_, _-_, _*_, _/_, _%_, _≤_, _<_, zero-le, suc-le-suc}
 use native.Mathlib.Nat.{zero-add}
@@ -8,15 +10,15 @@ use native.Mathlib.Omega.{arith}
 use lib.Bits.{bitAnd}
 use lib.ListN.{length, getD, set, drop, length-append}
 use lib.Seq.{set-at}
-use borrow.Author.Tests.{lt-ltb, le-ltb, lt-leb, le-leb}
+use borrow.Author.Tests.{lt-ltb, le-ltb}
 use Rattle.base.specs.Basic.{has}
 use Rattle.graph.specs.Graph.{Graph}
-use Rattle.graph.specs.Walk.{Step}
-use Rattle.walks.specs.Reach.{Regular}
-use Rattle.detecting.specs.PickLaws.{Picked}
-use Rattle.detector.specs.Table.{entry, aheadIn, behindIn, joinedRows, layersTo, nodeIn, pairFor, lowest, aheadStep, behindStep}
-use Rattle.detector.specs.Table.{wayOn, walkOn, tableWalk, shownWalk}
-use Rattle.detector.specs.Table.{flowWord, stepWords, shownIn, putWords, putStep, putSteps, Written, Shown, Settles, Answered}
+use Rattle.graph.specs.Walk.{Step, isDangerous, DangerousWalk}
+use Rattle.report.specs.State.{shortForWalk}
+use Rattle.report.specs.Area.{flowWord, stepWords, shownIn}
+use Rattle.detector.specs.Table.{entry, joinedRows, layersTo, nodeIn, pairFor, lowest, aheadStep, behindStep}
+use Rattle.detector.specs.Table.{wayOn, walkOn, tableWalk, putWords, putStep, putSteps, Written, Answered}
+use Rattle.detector.specs.Table.Answered.{no-room, no-walk, shown}
 use Rattle.detector.specs.Paths.{put-cons}
 use Rattle.detector.specs.WalkLaws.{node-pair, table-none, table-written, table-verdict}
 
@@ -98,68 +100,62 @@ walk-short : (ahead behind rows : List ℕ) (u x : ℕ) → length (walkOn ahead
 unfolding walkOn
 walk-short ahead behind rows u x = let h = way-short ahead rows (layersTo rows u) 63 (x % 64) in suc-le-suc (suc-le-suc h)
 
--- an empty walk leaves the area as it is
-pub shown-empty : (area : List ℕ) → shownIn [] area ≡ area
-unfolding shownIn flatMap
-shown-empty area = refl
+-- S20: whether an area has room for 65 steps
+room-none : (n : ℕ) → n < 260 → shortForWalk (n / 4) ≡ true
+unfolding shortForWalk
+room-none n h = lt-ltb (n / 4) 65 (omega arith)
 
-nothing : {steps : List Step} (area : List ℕ) → steps ≡ [] → Shown steps area area 0
-nothing area e =
-    record {
-      area = sym (ap (λ (l : List Step). shownIn l area) e ∙ shown-empty area);
-      count = sym (ap (λ (l : List Step). length l) e);
-    }
+room-some : (n : ℕ) → 260 ≤ n → shortForWalk (n / 4) ≡ false
+unfolding shortForWalk
+room-some n h = le-ltb (n / 4) 65 (omega arith)
+
+-- a walk settles a graph: it is dangerous and has at most 65 steps, or it is empty and no walk is dangerous
+abbrev Settles : Graph → List Step → Type 0
+Settles g walk = ((isDangerous g walk ≡ true) × (length walk ≤ 65)) ⊎ ((walk ≡ []) × (DangerousWalk g → ⊥))
+
+settles-some : (g : Graph) (walk : List Step) → 0 < length walk → Settles g walk → isDangerous g walk ≡ true
+settles-some g walk some-step (inl (d, short)) = d
+settles-some g walk some-step (inr (e, safe)) = let z = ap length e in absurd (omega arith)
+
+settles-none : (g : Graph) (walk : List Step) → walk ≡ [] → Settles g walk → DangerousWalk g → ⊥
+unfolding isDangerous
+settles-none g walk e (inl (d, short)) = let wrong = sym (ap (isDangerous g) e) ∙ d in absurd (false≢true wrong)
+settles-none g walk e (inr (same, safe)) = safe
 
 module _ (ahead behind before : List ℕ) where
-  -- an area that is too short shows nothing
-  shown-short : length before < 260 → Shown (shownWalk ahead behind (length before)) before before 0
-  unfolding shownWalk
-  shown-short h = nothing before (ap (λ (b : Bool). cond b [] (tableWalk ahead behind)) (lt-ltb (length before) 260 h))
+  -- an area that is too short is left as it is
+  pub answer-short : length before < 260 → Answered ahead behind before (some 20) none before
+  answer-short h = no-room (room-none (length before) h)
 
-  long-enough : 260 ≤ length before → shownWalk ahead behind (length before) ≡ tableWalk ahead behind
-  unfolding shownWalk
-  long-enough h = ap (λ (b : Bool). cond b [] (tableWalk ahead behind)) (le-ltb (length before) 260 h)
-
-  -- where no node is found there is nothing to show
-  shown-none : 260 ≤ length before → {rows : List ℕ} {u : ℕ} → rows ≡ joinedRows ahead → u ≡ nodeIn ahead behind rows → 64 ≤ u
-      → Shown (shownWalk ahead behind (length before)) before before 0
-  shown-none h p q l =
-      let none : 64 ≤ nodeIn ahead behind (joinedRows ahead) = rw p at (rw q at l) in nothing before (long-enough h ∙ table-none ahead behind none)
+  -- where no node is found there is no walk
+  pub answer-none : 260 ≤ length before → {rows : List ℕ} {u : ℕ} → rows ≡ joinedRows ahead → u ≡ nodeIn ahead behind rows → 64 ≤ u
+      → Answered ahead behind before none none before
+  answer-none h p q l =
+      let empty : 64 ≤ nodeIn ahead behind (joinedRows ahead) = rw p at (rw q at l) in
+      let walk = table-none ahead behind empty in
+      no-walk (room-some (length before) h) walk
+      (λ g held. settles-none g (tableWalk ahead behind) walk (table-verdict ahead behind (held .isRegular) (held .small) (held .picks)))
 
   -- the walk that is found is shown
-  shown-found : 260 ≤ length before → {rows : List ℕ} {u x : ℕ} → rows ≡ joinedRows ahead → u ≡ nodeIn ahead behind rows → u < 64
+  pub answer-found : 260 ≤ length before → {rows : List ℕ} {u x : ℕ} → rows ≡ joinedRows ahead → u ≡ nodeIn ahead behind rows → u < 64
       → x ≡ pairFor ahead behind rows u → {after : List ℕ} {r : ℕ} → Written (walkOn ahead behind rows u x) 0 before after r
-      → Shown (shownWalk ahead behind (length before)) before after r
-  shown-found h {rows} {u} {x} p q l e {after} {r} t =
+      → Answered ahead behind before none (some r) after
+  unfolding walkOn
+  answer-found h {rows} {u} {x} p q l e {after} {r} t =
       let node : u ≡ nodeIn ahead behind (joinedRows ahead) = q ∙ ap (nodeIn ahead behind) p in
       let pair : x ≡ pairFor ahead behind (joinedRows ahead) (nodeIn ahead behind (joinedRows ahead)) = e ∙ ap₂ (pairFor ahead behind) p node in
       let same : walkOn ahead behind (joinedRows ahead) (nodeIn ahead behind (joinedRows ahead))
       (pairFor ahead behind (joinedRows ahead) (nodeIn ahead behind (joinedRows ahead))) ≡ walkOn ahead behind rows u x = cc in
-      let shown = long-enough h ∙ table-written ahead behind (rw node at l) ∙ same in
+      let found = table-written ahead behind (rw node at l) ∙ same in
       let few = walk-short ahead behind rows u x in
-      record {
-        area = t .area ∙ put-shown (walkOn ahead behind rows u x) before (omega arith) ∙ ap (λ (w : List Step). shownIn w before) (sym shown);
-        count = t .count ∙ zero-add _ ∙ ap (λ (w : List Step). length w) (sym shown);
-      }
-
-  -- with room, the walk that is shown settles the graph
-  settled : 260 ≤ length before → (g : Graph) → Regular g → g .size ≤ 64 → Picked g 64 (aheadIn ahead) (behindIn behind)
-      → Settles g (shownWalk ahead behind (length before))
-  settled h g regular small picks =
-      subst (λ (w : List Step). Settles g w) (sym (long-enough h)) (table-verdict ahead behind regular small picks)
-
-  -- the three answers
-  pub answer-short : length before < 260 → Answered ahead behind before before (record { room = false; steps = 0 })
-  answer-short h = record { room = sym (lt-leb 260 (length before) h); shown = shown-short h; settles = λ e. absurd (false≢true e) }
-
-  pub answer-none : 260 ≤ length before → {rows : List ℕ} {u : ℕ} → rows ≡ joinedRows ahead → u ≡ nodeIn ahead behind rows → 64 ≤ u
-      → Answered ahead behind before before (record { room = true; steps = 0 })
-  answer-none h p q l = record { room = sym (le-leb 260 (length before) h); shown = shown-none h p q l; settles = λ _. settled h }
-
-  pub answer-found : 260 ≤ length before → {rows : List ℕ} {u x : ℕ} → rows ≡ joinedRows ahead → u ≡ nodeIn ahead behind rows → u < 64
-      → x ≡ pairFor ahead behind rows u → {after : List ℕ} {r : ℕ} → Written (walkOn ahead behind rows u x) 0 before after r
-      → Answered ahead behind before after (record { room = true; steps = r })
-  answer-found h p q l e t = record { room = sym (le-leb 260 (length before) h); shown = shown-found h p q l e t; settles = λ _. settled h }
+      let many : r ≡ length (tableWalk ahead behind) = t .count ∙ zero-add _ ∙ ap length (sym found) in
+      let area : after ≡ shownIn (tableWalk ahead behind) before
+      = t .area ∙ put-shown (walkOn ahead behind rows u x) before (omega arith) ∙ ap (λ (w : List Step). shownIn w before) (sym found) in
+      let steps : length (tableWalk ahead behind) ≡ length (walkOn ahead behind rows u x) = ap length found in
+      let some-step : 0 < length (walkOn ahead behind rows u x) = omega arith in
+      rw (many, area)
+      (shown (room-some (length before) h)
+      (λ g held. settles-some g (tableWalk ahead behind) (omega arith) (table-verdict ahead behind (held .isRegular) (held .small) (held .picks))) (omega arith) (omega arith))
 
 -- a node found has a pair
 pub found-pair : (ahead behind rows : List ℕ) {u x : ℕ} → u ≡ nodeIn ahead behind rows → u < 64 → x ≡ pairFor ahead behind rows u → x < 4096

@@ -1,18 +1,19 @@
 -- Tables of edges between 64 nodes, and how a dangerous closed walk is found in them and written down.
-use mathlib.Core.Bool.{Bool, true, cond, not, _&&_, _||_}
-use mathlib.Core.List.{List, [], _∷_, _++_, flatMap}
+use mathlib.Core.Bool.{Bool, true, false, cond, not, _&&_, _||_}
+use mathlib.Core.List.{List, [], _∷_}
 use mathlib.Core.Path.{_≡_}
-use mathlib.Core.Logic.{_⊎_}
 use mathlib.Core.Option.{Option, none, some}
 use Prim.Native.Nat.{ℕ, zero, suc, _+_, _-_, _*_, _/_, _%_, _^_, _≤_, _<_}
 use lib.Bits.{bitAnd, bitOr}
 use lib.Count.{trailingZeros}
 use lib.Dec.{eqb, ltb, leb}
-use lib.ListN.{length, getD, set, drop, replicate}
+use lib.ListN.{length, getD, set, replicate}
 use Rattle.base.specs.Basic.{has, meets}
 use Rattle.graph.specs.Graph.{Flow, Graph}
 use Rattle.graph.specs.Walk.{Step, isDangerous, DangerousWalk}
 use Rattle.walks.specs.Reach.{Regular}
+use Rattle.report.specs.State.{shortForWalk}
+use Rattle.report.specs.Area.{flowWord, shownIn}
 use Rattle.detecting.specs.Pick.{Pick, Picks, dangerousPicks, walkAt}
 use Rattle.detecting.specs.PickLaws.{Picked}
 use Rattle.detector.specs.declared.WalkFound.{WalkFound}
@@ -147,22 +148,6 @@ tableWalk ahead behind =
     let x = pairFor ahead behind (joinedRows ahead) u in
     cond (ltb u 64) (walkAt (aheadIn ahead) (behindIn behind) 64 u (x / 64) (x % 64)) []
 
--- an area under 65 steps shows no walk
-unfoldable pub shownWalk : List ℕ → List ℕ → ℕ → List Step
-shownWalk ahead behind room = cond (ltb room 260) [] (tableWalk ahead behind)
-
-abbrev pub flowWord : Flow → ℕ
-flowWord Flow.forward = 0
-flowWord Flow.back = 1
-
--- a step as four words
-unfoldable pub stepWords : Step → List ℕ
-stepWords s = s .node ∷ s .leaves ∷ s .enters ∷ flowWord (s .flow) ∷ []
-
--- the steps at the front of the area, the rest as it was
-unfoldable pub shownIn : List Step → List ℕ → List ℕ
-shownIn steps area = flatMap stepWords steps ++ drop (length steps * 4) area
-
 -- ---- the area as it is written, step by step
 
 -- four words at place k
@@ -197,22 +182,35 @@ pub record Written (steps : List Step) (k : ℕ) (before after : List ℕ) (r : 
   pub area : after ≡ putSteps before k steps
   pub count : r ≡ k + length steps
 
--- the steps are shown at the front of the area, and are counted
-pub record Shown (steps : List Step) (before after : List ℕ) (r : ℕ) : Type 0 where
-  pub area : after ≡ shownIn steps before
-  pub count : r ≡ length steps
+-- a graph with at most 64 nodes, whose edges the tables hold
+pub record Held (ahead behind : List ℕ) (g : Graph) : Type 0 where
+  pub isRegular : Regular g
+  pub small : g .size ≤ 64
+  pub picks : Picked g 64 (aheadIn ahead) (behindIn behind)
 
--- a walk settles a graph: it is dangerous and has at most 65 steps, or it is empty and no walk is dangerous
-abbrev pub Settles : Graph → List Step → Type 0
-Settles g walk = ((isDangerous g walk ≡ true) × (length walk ≤ 65)) ⊎ ((walk ≡ []) × (DangerousWalk g → ⊥))
+-- N3: the refusal's number, where the answer is one
+abbrev pub refusalIn : WalkFound → Option ℕ
+refusalIn WalkFound.NoRoom = some 20
+refusalIn WalkFound.NoWalk = none
+refusalIn (WalkFound.Shown steps) = none
 
--- the answer: whether the area has room for 65 steps, and where it has, the walk of the tables is shown,
--- which settles each graph whose edges the tables hold
-pub record Answered (ahead behind before after : List ℕ) (r : WalkFound) : Type 0 where
-  pub room : r .room ≡ leb 260 (length before)
-  pub shown : Shown (shownWalk ahead behind (length before)) before after (r .steps)
-  pub settles : r .room ≡ true → (g : Graph) → Regular g → g .size ≤ 64 → Picked g 64 (aheadIn ahead) (behindIn behind)
-      → Settles g (shownWalk ahead behind (length before))
+-- N3: how many steps are shown, where a walk is shown
+abbrev pub stepsIn : WalkFound → Option ℕ
+stepsIn WalkFound.NoRoom = none
+stepsIn WalkFound.NoWalk = none
+stepsIn (WalkFound.Shown steps) = some steps
+
+-- what is answered, the refusal and the steps, and what the area holds afterwards. S20: under 65 steps it is too short, and stays as it was.
+-- Else it stays as it was where no graph whose edges the tables hold has a dangerous closed walk; or the walk of the tables stands in it, which is
+-- dangerous in each such graph and has at most 65 steps.
+pub data Answered (ahead behind before : List ℕ) : Option ℕ → Option ℕ → List ℕ → Type 0 where
+  no-room : shortForWalk (length before / 4) ≡ true → Answered ahead behind before (some 20) none before
+  no-walk : shortForWalk (length before / 4) ≡ false → tableWalk ahead behind ≡ []
+      → ((g : Graph) → Held ahead behind g → DangerousWalk g → ⊥) → Answered ahead behind before none none before
+  shown : shortForWalk (length before / 4) ≡ false
+      → ((g : Graph) → Held ahead behind g → isDangerous g (tableWalk ahead behind) ≡ true)
+      → 0 < length (tableWalk ahead behind) → length (tableWalk ahead behind) ≤ 65
+      → Answered ahead behind before none (some (length (tableWalk ahead behind))) (shownIn (tableWalk ahead behind) before)
 
 -- what holds in each turn of the writing of a way, behind two steps
 pub record WayTurn (ahead rows layers : List ℕ) (way : List Step) (before area : List ℕ) (node steps d : ℕ) : Type 0 where

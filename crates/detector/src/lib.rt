@@ -12,7 +12,7 @@ ghost use Rattle.base.specs.Basic.{has};
 ghost use Rattle.detecting.specs.Pick.{dangerousPicks};
 ghost use Rattle.detector.specs.Table.{aheadPick, behindPick, withBit, joinedRow, joinedRows, growsTo, grown, layersTo, closesAlong};
 ghost use Rattle.detector.specs.Table.{closingNode, pairIn, pairFor, nodeIn, lowest};
-ghost use Rattle.detector.specs.Table.{aheadStep, behindStep, wayOn, walkOn, putWords, putStep, writing, goOn, Written, Answered};
+ghost use Rattle.detector.specs.Table.{aheadStep, behindStep, wayOn, walkOn, putWords, putStep, writing, goOn, Written, refusalIn, stepsIn, Answered};
 
 // Whether node k is one of the nodes of a word.
 fn has_bit(word: u64, k: usize) -> bool
@@ -305,35 +305,26 @@ fn put_walk(
     put_way(ahead, rows, &layers, w, out)
 }
 
-// Whether the area has room for 65 steps, and how many steps are shown in it.
-pub struct WalkFound {
-    pub room: bool,
-    pub steps: usize,
+// What the search for a walk answers: the area is too short for 65 steps, there is no walk, or one of so many steps is shown.
+pub enum WalkFound {
+    NoRoom,
+    NoWalk,
+    Shown(usize),
 }
 
-// Shows a dangerous closed walk of the tables, four words to a step, in an area with room for 65 steps, and answers how many
-// steps it has: none where there is no such walk.
+// Shows a dangerous closed walk of the tables, four words to a step, in an area with room for 65 steps.
 pub fn find_walk(ahead: &[u64], behind: &[u64], out: &mut [u64]) -> WalkFound
-    ensures { λ r. ⌜ Answered (now (ahead .entry)) (now (behind .entry)) (now (out .entry)) (now (out .exit)) r ⌝ }
+    ensures { λ r. ⌜ Answered (now (ahead .entry)) (now (behind .entry)) (now (out .entry)) (refusalIn r) (stepsIn r) (now (out .exit)) ⌝ }
 {
     if out.len() < 260 {
-        return WalkFound {
-            room: false,
-            steps: 0,
-        };
+        return WalkFound::NoRoom;
     }
     let rows = joined_rows(ahead);
     let u = node_in(ahead, behind, &rows);
     if 64 <= u {
-        return WalkFound {
-            room: true,
-            steps: 0,
-        };
+        return WalkFound::NoWalk;
     }
     let x = pair_for(ahead, behind, &rows, u);
     let n = put_walk(ahead, behind, &rows, u, x, out);
-    WalkFound {
-        room: true,
-        steps: n,
-    }
+    WalkFound::Shown(n)
 }

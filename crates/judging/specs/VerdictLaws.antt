@@ -1,149 +1,136 @@
 -- From what the parts promise to what the verdict promises.
-use mathlib.Core.Bool.{true, false, not}
-use mathlib.Core.List.{List, [], _∷_}
+use mathlib.Core.Bool.{true, false≢true}
+use mathlib.Core.List.{List, []}
 use mathlib.Core.Logic.{_⊎_, inl, inr}
 use mathlib.Core.Option.{Option, none, some}
 use mathlib.Core.Path.{_≡_, refl, sym, ap, subst, _∙_}
 use Prim.Native.Nat.{ℕ, zero, suc, _*_, _/_, _≤_, _<_}
 use native.Mathlib.Omega.{arith}
-use lib.Dec.{eqb}
 use lib.ListN.{length, take}
-use borrow.Author.Tests.{ltb-false, lt-ltb, le-ltb, ne-eqb}
 use Rattle.text.specs.declared.Workload.{Workload}
 use Rattle.text.specs.Value.{Given, linesOf}
-use Rattle.graph.specs.Graph.{Graph}
 use Rattle.graph.specs.Walk.{Step, isDangerous}
+use Rattle.schedule.specs.Schedule.{Schedule}
+use Rattle.schedule.specs.Serial.{Serialisable}
 use Rattle.soundness.specs.Theorem.{demand-3}
-use Rattle.report.specs.State.{StateRefusal, shortForWalk, tooMany, Counts, countsOf, summaryGraph, Robust, refusalOf}
-use Rattle.report.specs.State.StateRefusal.{too-short, taken}
-use Rattle.detector.specs.Table.{tableWalk, shownWalk, shownIn, Shown, Answered}
-use Rattle.detector.specs.ShowLaws.{shown-empty}
+use Rattle.report.specs.State.{StateRefusal, shortForWalk, Counts, counted, countsOf, summaryGraph, Robust}
+use Rattle.report.specs.State.StateRefusal.{not-given, too-many, too-short, taken}
+use Rattle.report.specs.Refusals.{taken-given}
+use Rattle.detector.specs.declared.WalkFound.{WalkFound}
+use Rattle.detector.specs.Table.{tableWalk, refusalIn, stepsIn, Answered}
+use Rattle.detector.specs.Table.Answered.{no-room, no-walk, shown}
 use Rattle.rows.specs.declared.Rows.{Rows}
 use Rattle.rows.specs.Rows.{RowsSettled}
 use Rattle.rows.specs.Whole.{Whole, whole-refused, whole-filled}
 use Rattle.picking.specs.declared.PickedEdges.{PickedEdges}
 use Rattle.picking.specs.Picks.{picksOf}
 use Rattle.deciding.specs.Verdict.{PickedVerdict, given-picked}
-use Rattle.detector.specs.declared.WalkFound.{WalkFound}
-use Rattle.judging.specs.declared.Verdict.{Verdict}
-use Rattle.judging.specs.Verdict.{refusedWith, robustWith, dangerWith, Word, Judged}
+use Rattle.judging.specs.Verdict.{Told, Word, Judged}
 use Rattle.judging.specs.Verdict.Word.{robust, danger}
+use Rattle.judging.specs.Verdict.Judged.{refused, judged}
 
--- the verdict's numbers as the code makes them: danger where the walk has a step
-unfoldable pub told : ℕ → ℕ → ℕ → ℕ → ℕ → Verdict
-told programs nodes edges back steps =
-    record {
-      refusal = 0;
-      danger = not (eqb steps 0);
-      programs = programs;
-      nodes = nodes;
-      edges = edges;
-      back = back;
-      steps = steps;
-    }
+-- ---- what the code answers
 
--- the same with a workload's counts
-abbrev toldOf : Counts → ℕ → Verdict
-toldOf c steps = told (c .programs) (c .nodes) (c .edges) (c .back) steps
+-- the answer for what the search for a walk found
+unfoldable pub toldFor : Counts → WalkFound → Told
+toldFor c WalkFound.NoRoom = Told.refused 20
+toldFor c WalkFound.NoWalk = Told.robust c
+toldFor c (WalkFound.Shown steps) = Told.danger c steps
 
--- a refusal leaves the area
-pub judged-refused : (w : Workload) (before : List ℕ) (r : Verdict) (n : ℕ)
-    → StateRefusal w (shortForWalk (length before / 4)) (some (suc n)) → r ≡ refusedWith (suc n) → Judged w before r before
-unfolding refusedWith refusalOf
-judged-refused w before r n h e =
-    rw e (record {
-      refusal = h;
-      refused = λ m p. let d : suc n ≡ m = cc in (ap refusedWith d, refl);
-      judged = λ p. let z : _≡_ {A = ℕ} 0 1 = cc in absurd (omega arith);
-    })
+-- the same for a refusal's number and how many steps are shown, where there is one
+unfoldable answerFor : Counts → Option ℕ → Option ℕ → Told
+answerFor c (some number) steps = Told.refused number
+answerFor c none none = Told.robust c
+answerFor c none (some steps) = Told.danger c steps
 
--- no refusal
-judged-taken : (w : Workload) (before : List ℕ) (r : Verdict) (after : List ℕ) → r .refusal ≡ 0
-    → StateRefusal w (shortForWalk (length before / 4)) none → Word (linesOf w) before r after → Judged w before r after
-unfolding refusalOf
-judged-taken w before r after z h word =
-    record {
-      refusal = rw z h;
-      refused = λ m p. let q : _≡_ {A = Option ℕ} none (some m) = rw z at p in let x : _≡_ {A = ℕ} 0 1 = cc in absurd (omega arith);
-      judged = λ p. word;
-    }
+answer-same : (c : Counts) (found : WalkFound) → toldFor c found ≡ answerFor c (refusalIn found) (stepsIn found)
+unfolding toldFor answerFor
+answer-same c WalkFound.NoRoom = refl
+answer-same c WalkFound.NoWalk = refl
+answer-same c (WalkFound.Shown steps) = refl
 
--- no walk without a step is dangerous
-not-empty : (g : Graph) (walk : List Step) → isDangerous g walk ≡ true → (n : ℕ) → n ≡ length walk → eqb n 0 ≡ false
+-- ---- the verdict
+
+-- a walk with a step is dangerous where one of the two holds of it, and one without a step is not
+robust-from : (w : Workload) (walk : List Step) → walk ≡ []
+    → ((isDangerous (summaryGraph (linesOf w)) walk ≡ true) × (length walk ≤ 65)) ⊎ ((walk ≡ []) × Robust (linesOf w)) → Robust (linesOf w)
 unfolding isDangerous
-not-empty g [] d n e = let z : _≡_ {A = ℕ} 0 1 = cc in absurd (omega arith)
-not-empty g (s ∷ walk) d n e = ne-eqb n 0 (λ z. omega arith)
+robust-from w walk e (inl (d, short)) = absurd (false≢true (sym (ap (isDangerous (summaryGraph (linesOf w))) e) ∙ d))
+robust-from w walk e (inr (same, safe)) = safe
 
-module _ (w : Workload) (given : Given w) (few : tooMany (linesOf w) ≡ false) (before : List ℕ) (ahead behind : List ℕ) where
-  -- what the detector's tables show is the verdict
-  pub judged-given : shortForWalk (length before / 4) ≡ false
-      → ((isDangerous (summaryGraph (linesOf w)) (tableWalk ahead behind) ≡ true) × (length (tableWalk ahead behind) ≤ 65))
-      ⊎ ((tableWalk ahead behind ≡ []) × Robust (linesOf w))
-      → (after : List ℕ) (steps : ℕ) → Shown (shownWalk ahead behind (length before)) before after steps
-      → Judged w before (toldOf (countsOf (linesOf w)) steps) after
-  unfolding shortForWalk shownWalk told dangerWith robustWith
-  judged-given room shows after steps shown =
-      judged-taken w before (toldOf (countsOf (linesOf w)) steps) after refl (taken given few room) (go shows)
-    where
-      long : 260 ≤ length before
-      long = let h = ltb-false (length before / 4) 65 room in omega arith
+danger-from : (w : Workload) (walk : List Step) → 0 < length walk
+    → ((isDangerous (summaryGraph (linesOf w)) walk ≡ true) × (length walk ≤ 65)) ⊎ ((walk ≡ []) × Robust (linesOf w))
+    → isDangerous (summaryGraph (linesOf w)) walk ≡ true
+danger-from w walk some-step (inl (d, short)) = d
+danger-from w walk some-step (inr (e, safe)) = let z = ap length e in absurd (omega arith)
 
-      whole : shownWalk ahead behind (length before) ≡ tableWalk ahead behind
-      whole = rw (le-ltb (length before) 260 long) refl
+module _ (w : Workload) (f : Rows) (table : List ℕ) (p : PickedEdges) (whole : Whole w f table) (picked : PickedVerdict (linesOf w) p) where
+  -- the counts told are the workload's
+  counts-same : counted (f .programs) (f .nodes) (p .edges) (p .back) ≡ countsOf (linesOf w)
+  unfolding countsOf
+  counts-same = rw (whole .programs, whole .nodes, picked .edges, picked .back) refl
 
-      many : steps ≡ length (tableWalk ahead behind)
-      many = shown .count ∙ ap length whole
+  -- what the search for a walk answers is the verdict, or S20
+  judged-answer : {before : List ℕ} {refusal steps : Option ℕ} {after : List ℕ}
+      → Answered (p .ahead) (p .behind) before refusal steps after → Judged w before (answerFor (countsOf (linesOf w)) refusal steps) after
+  unfolding answerFor
+  judged-answer (no-room short) = refused 20 (too-short (whole .given) (whole .few) short)
+  judged-answer {before} (no-walk room empty none-dangerous) =
+      let safe = robust-from w (tableWalk (p .ahead) (p .behind)) empty (picked .verdict) in
+      judged (taken (whole .given) (whole .few) room) _ _ (robust safe (λ s. demand-3 w (whole .given) safe s))
+  judged-answer (shown room dangerous some-step short) =
+      let walk = tableWalk (p .ahead) (p .behind) in
+      judged (taken (whole .given) (whole .few) room) _ _ (danger walk (danger-from w walk some-step (picked .verdict)) short)
 
-      area : after ≡ shownIn (tableWalk ahead behind) before
-      area = shown .area ∙ ap (λ (steps : List Step). shownIn steps before) whole
-
-      go : ((isDangerous (summaryGraph (linesOf w)) (tableWalk ahead behind) ≡ true) × (length (tableWalk ahead behind) ≤ 65))
-          ⊎ ((tableWalk ahead behind ≡ []) × Robust (linesOf w))
-          → Word (linesOf w) before (toldOf (countsOf (linesOf w)) steps) after
-      go (inl (d, short)) =
-          let word = danger (tableWalk ahead behind) d short in
-          let some-step = not-empty (summaryGraph (linesOf w)) (tableWalk ahead behind) d steps many in
-          rw (area, some-step, many) word
-      go (inr (e, safe)) =
-          let word = robust safe (λ s. demand-3 w given safe s) in
-          let no-step : steps ≡ 0 = many ∙ ap length e in
-          let same : after ≡ before = area ∙ ap (λ (steps : List Step). shownIn steps before) e ∙ shown-empty before in
-          rw (same, no-step) word
-
--- a refusal of the table of places is the verdict's
-pub judged-rows : (w : Workload) (table : List ℕ) (f : Rows) (filled before : List ℕ) (r : Verdict) → RowsSettled w table f filled
-    → length table ≡ 4096 → (f .refusal ≡ 0 → ⊥) → r ≡ refusedWith (f .refusal) → Judged w before r before
-judged-rows w table f filled before r settled long ne e = go (f .refusal) refl
+-- a refusal of the table of places is the verdict's, and leaves the area
+pub judged-rows : (w : Workload) (table : List ℕ) (f : Rows) (filled before : List ℕ) → RowsSettled w table f filled
+    → length table ≡ 4096 → (f .refusal ≡ 0 → ⊥) → Judged w before (Told.refused (f .refusal)) before
+judged-rows w table f filled before settled long ne = go (f .refusal) refl
   where
-    go : (n : ℕ) → f .refusal ≡ n → Judged w before r before
+    go : (n : ℕ) → f .refusal ≡ n → Judged w before (Told.refused (f .refusal)) before
     go zero z = absurd (ne z)
-    go (suc n) z =
-        judged-refused w before r n (whole-refused w table f filled settled long n (shortForWalk (length before / 4)) z) (e ∙ ap refusedWith z)
-
--- S20: an area under 65 steps, which is tested behind 21 and 22
-pub judged-short : (w : Workload) (table : List ℕ) (f : Rows) (filled before : List ℕ) (r : Verdict) → RowsSettled w table f filled
-    → length table ≡ 4096 → f .refusal ≡ 0 → length before < 260 → r ≡ refusedWith 20 → Judged w before r before
-unfolding shortForWalk
-judged-short w table f filled before r settled long z short e =
-    let whole = whole-filled w table f filled settled long z in
-    judged-refused w before r 19 (too-short (whole .given) (whole .few) (lt-ltb (length before / 4) 65 (omega arith))) e
-
--- the counts told are the workload's
-counts-same : (w : Workload) (f : Rows) (table : List ℕ) (p : PickedEdges) → Whole w f table → PickedVerdict (linesOf w) p
-    → (steps : ℕ) → told (f .programs) (f .nodes) (p .edges) (p .back) steps ≡ toldOf (countsOf (linesOf w)) steps
-unfolding countsOf
-counts-same w f table p whole picked steps = rw (whole .programs, whole .nodes, picked .edges, picked .back) refl
+    go (suc n) z = rw z (refused (suc n) (whole-refused w table f filled settled long n (shortForWalk (length before / 4)) z))
 
 -- what is picked from the table, and the walk that is found in it, are the verdict
-pub judged-picked : (w : Workload) (table : List ℕ) (f : Rows) (filled before after : List ℕ) (p : PickedEdges) (walk : WalkFound) (r : Verdict)
-    → RowsSettled w table f filled → length table ≡ 4096 → f .refusal ≡ 0 → 260 ≤ length before
-    → p ≡ picksOf (take (f .places * 8) filled) → Answered (p .ahead) (p .behind) before after walk
-    → r ≡ told (f .programs) (f .nodes) (p .edges) (p .back) (walk .steps) → Judged w before r after
-unfolding shortForWalk
-judged-picked w table f filled before after p walk r settled long z room picked answered e =
+pub judged-picked : (w : Workload) (table : List ℕ) (f : Rows) (filled before after : List ℕ) (p : PickedEdges) (found : WalkFound) (answer : Told)
+    → RowsSettled w table f filled → length table ≡ 4096 → f .refusal ≡ 0 → p ≡ picksOf (take (f .places * 8) filled)
+    → Answered (p .ahead) (p .behind) before (refusalIn found) (stepsIn found) after
+    → answer ≡ toldFor (counted (f .programs) (f .nodes) (p .edges) (p .back)) found → Judged w before answer after
+judged-picked w table f filled before after p found answer settled long z picked answered e =
     let whole = whole-filled w table f filled settled long z in
     let verdict = given-picked w p (whole .given) (whole .few) (picked ∙ ap picksOf (whole .rows)) in
-    subst (λ (v : Verdict). Judged w before v after)
-    (sym (e ∙ counts-same w f filled p whole verdict (walk .steps)))
-    (judged-given w (whole .given) (whole .few) before (p .ahead) (p .behind) (le-ltb (length before / 4) 65 (omega arith)) (verdict .verdict)
-    after (walk .steps) (answered .shown))
+    let same = e ∙ ap (λ (c : Counts). toldFor c found) (counts-same w f filled p whole verdict) ∙ answer-same (countsOf (linesOf w)) found in
+    subst (λ (t : Told). Judged w before t after) (sym same) (judged-answer w f filled p whole verdict answered)
+
+-- ---- what the verdict says of a value that no text gives
+
+-- S21: the answer is the refusal 21, and the area stays as it was
+pub judged-not-given : {w : Workload} {before : List ℕ} {answer : Told} {after : List ℕ} → (Given w → ⊥) → Judged w before answer after
+    → (answer ≡ Told.refused 21) × (after ≡ before)
+judged-not-given {w} {before} h (refused number s) = (go s refl, refl)
+  where
+    go : {o : Option ℕ} → StateRefusal w (shortForWalk (length before / 4)) o → o ≡ some number → Told.refused number ≡ Told.refused 21
+    go (not-given n) e = let same : number ≡ 21 = cc in ap Told.refused same
+    go (too-many g many) e = absurd (h g)
+    go (too-short g few short) e = absurd (h g)
+    go (taken g few room) e = absurd (h g)
+judged-not-given {w} {before} h (judged s answer after word) = absurd (go s refl)
+  where
+    go : {o : Option ℕ} → StateRefusal w (shortForWalk (length before / 4)) o → o ≡ none → ⊥
+    go (not-given n) e = let z : _≡_ {A = ℕ} 0 1 = cc in absurd (omega arith)
+    go (too-many g many) e = h g
+    go (too-short g few short) e = h g
+    go (taken g few room) e = h g
+
+-- ---- what the word robust is worth
+
+-- N1: a text gives the value, the counts are its own, each of its schedules has a serial order, and the area stays as it was
+pub judged-robust : {w : Workload} {before : List ℕ} {answer : Told} {after : List ℕ} {c : Counts} → Judged w before answer after
+    → answer ≡ Told.robust c → Given w × (c ≡ countsOf (linesOf w)) × ((s : Schedule (linesOf w)) → Serialisable s) × (after ≡ before)
+judged-robust (refused number s) e = let z : _≡_ {A = ℕ} 0 1 = cc in absurd (omega arith)
+judged-robust {w} {before} {c = c} (judged s answer after word) e = go word e
+  where
+    go : {t : Told} {area : List ℕ} → Word (linesOf w) before t area → t ≡ Told.robust c
+        → Given w × (c ≡ countsOf (linesOf w)) × ((s : Schedule (linesOf w)) → Serialisable s) × (area ≡ before)
+    go (robust safe serial) f = let same : c ≡ countsOf (linesOf w) = cc in (taken-given s refl .0, same, serial, refl)
+    go (danger walk dangerous short) f = let z : _≡_ {A = ℕ} 0 1 = cc in absurd (omega arith)

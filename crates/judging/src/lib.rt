@@ -1,70 +1,60 @@
 // The verdict on a workload value: robust or danger with its counts, and a dangerous walk in the lent area; or a refusal.
 
+use detector::WalkFound;
 use rows::Rows;
 use text::Workload;
 ghost use mathlib.Core.Path.{_≡_};
-ghost use Rattle.judging.specs.Verdict.{refusedWith, Judged};
-ghost use Rattle.judging.specs.VerdictLaws.{told};
+ghost use Rattle.report.specs.State.{counted};
+ghost use Rattle.judging.specs.Verdict.{told, Judged};
+ghost use Rattle.judging.specs.VerdictLaws.{toldFor};
 
-// The refusal's number, or 0 and the verdict: danger or robust, the counts, and how many steps the shown walk has.
-pub struct Verdict {
-    pub refusal: u8,
-    pub danger: bool,
+// What a verdict counts: programs, nodes, edges of both flows, and the back edges among them.
+pub struct Totals {
     pub programs: u64,
     pub nodes: u64,
     pub edges: u64,
     pub back: u64,
-    pub steps: u64,
 }
 
-// The verdict that is a refusal: its number, and nothing else told.
-fn refused(number: u8) -> Verdict
-    ensures { λ r. ⌜ r ≡ refusedWith number ⌝ }
-{
-    Verdict {
-        refusal: number,
-        danger: false,
-        programs: 0,
-        nodes: 0,
-        edges: 0,
-        back: 0,
-        steps: 0,
-    }
+// The answer: a word with its counts, and for danger how many steps the shown walk has; or the number of a refusal.
+pub enum Verdict {
+    Robust(Totals),
+    Danger(Totals, u64),
+    Refused(u8),
 }
 
-// The verdict without a refusal: danger where the shown walk has a step.
-fn judged(f: Rows, edges: u64, back: u64, steps: usize) -> Verdict
-    ensures { λ r. ⌜ r ≡ told (f .programs) (f .nodes) edges back steps ⌝ }
+// The answer for what the search for a walk found.
+fn judged(f: Rows, edges: u64, back: u64, found: WalkFound) -> Verdict
+    ensures { λ r. ⌜ told r ≡ toldFor (counted (f .programs) (f .nodes) edges back) found ⌝ }
 {
-    Verdict {
-        refusal: 0,
-        danger: steps != 0,
+    let counts = Totals {
         programs: f.programs,
         nodes: f.nodes,
         edges: edges,
         back: back,
-        steps: steps as u64,
+    };
+    match found {
+        WalkFound::NoRoom => Verdict::Refused(20),
+        WalkFound::NoWalk => Verdict::Robust(counts),
+        WalkFound::Shown(steps) => Verdict::Danger(counts, steps as u64),
     }
 }
 
 // The verdict on any workload value. A dangerous walk is shown at the front of the area, four words to a step: node, place left,
 // place entered, and 0 for forward or 1 for back.
 pub fn verdict_of(w: Workload, area: &mut [u64]) -> Verdict
-    ensures { λ r. ⌜ Judged w (now (area .entry)) r (now (area .exit)) ⌝ }
+    ensures { λ r. ⌜ Judged w (now (area .entry)) (told r) (now (area .exit)) ⌝ }
 {
     let mut table = [0u64; 4096];
     let f = rows::fill_rows(w, &mut table);
     let refusal = f.refusal;
     if refusal != 0 {
-        return refused(refusal);
-    }
-    if area.len() < 260 {
-        return refused(20);
+        return Verdict::Refused(refusal);
     }
     let n = (f.places * 8) as usize;
     let p = picking::pick_edges(&table[..n]);
     let ahead = p.ahead;
     let behind = p.behind;
-    let walk = detector::find_walk(&ahead, &behind, area);
-    judged(f, p.edges, p.back, walk.steps)
+    let found = detector::find_walk(&ahead, &behind, area);
+    judged(f, p.edges, p.back, found)
 }

@@ -7,7 +7,7 @@ use lib.ListN.{length, getD, drop, length-append}
 use lib.Seq.{getD-append-add}
 use Rattle.graph.specs.Graph.{Flow}
 use Rattle.graph.specs.Walk.{Step}
-use Rattle.detector.specs.Table.{flowWord, stepWords, shownIn}
+use Rattle.report.specs.Area.{flowWord, stepWords, shownIn}
 use Rattle.detector.specs.ShowLaws.{length-words}
 use Rattle.printing.specs.Printed.{flowOf, stepAt, stepsIn, walkIn}
 

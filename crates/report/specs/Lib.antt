@@ -1,4 +1,5 @@
 pub mod State
+pub mod Area
 pub mod Report
 pub mod Examples
 pub mod ReportLaws

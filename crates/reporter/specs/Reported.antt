@@ -7,8 +7,10 @@ use Rattle.text.specs.declared.Workload.{Workload}
 use Rattle.text.specs.Value.{Given, linesOf}
 use Rattle.text.specs.Reading.{read}
 use Rattle.text.specs.Reading.Outcome.{accepted}
-use Rattle.report.specs.Report.{Report}
+use Rattle.report.specs.Report.{Report, refusalReport, robustReport, dangerReport}
+use Rattle.judging.specs.Verdict.{Told}
 use Rattle.printing.specs.declared.Printed.{Printed}
+use Rattle.printing.specs.Printed.{walkIn}
 
 -- P: the bytes up to the length are a report of the text, and the others are 0; which dangerous walk is shown is free
 pub record Reported (text : List ℕ) (r : Printed) : Type 0 where
@@ -20,3 +22,9 @@ pub record Reported (text : List ℕ) (r : Printed) : Type 0 where
 -- the same for a workload value, whatever text gives it
 abbrev pub ValueReported : Workload → Printed → Type 0
 ValueReported w r = (text : List ℕ) → read text ≡ accepted (linesOf w) → Given w → Reported text r
+
+-- the bytes of an answer, with the walk that stands in an area; a refusal because of the state has line 0
+unfoldable pub bytesFor : Told → List ℕ → List ℕ
+bytesFor (Told.refused number) area = refusalReport number 0
+bytesFor (Told.robust c) area = robustReport c
+bytesFor (Told.danger c steps) area = dangerReport c (walkIn area steps)

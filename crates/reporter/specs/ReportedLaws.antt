@@ -1,5 +1,5 @@
 -- The printed report of a text, case by case.
-use mathlib.Core.Bool.{true, false}
+use mathlib.Core.Bool.{false}
 use mathlib.Core.List.{List}
 use mathlib.Core.Option.{Option, none, some}
 use mathlib.Core.Path.{_≡_, refl, sym, ap, subst, _∙_}
@@ -14,21 +14,21 @@ use Rattle.text.specs.Reading.Outcome.{accepted}
 use Rattle.text.specs.Value.{Given, linesOf}
 use Rattle.graph.specs.Walk.{Step}
 use Rattle.reading.specs.ValueLaws.{lines-of-value, value-given}
-use Rattle.report.specs.State.{counted, countsOf, tooMany, shortForWalk, StateRefusal, refusalOf}
+use Rattle.report.specs.State.{countsOf, tooMany, shortForWalk, StateRefusal}
 use Rattle.report.specs.State.StateRefusal.{not-given, too-many, too-short, taken}
-use Rattle.report.specs.Refusals.{refusal-some, refusal-none}
-use Rattle.report.specs.Report.{Report, refusalReport, robustReport, dangerReport}
+use Rattle.report.specs.Refusals.{taken-given}
+use Rattle.report.specs.Report.{Report, refusalReport, dangerReport}
 use Rattle.report.specs.Report.Report.{refusal, unfolding-refusal, robust, danger}
 use Rattle.reader.specs.declared.Parsed.{Parsed}
 use Rattle.reader.specs.Parse.{parsedAs}
-use Rattle.judging.specs.declared.Verdict.{Verdict}
-use Rattle.judging.specs.Verdict.{robustWith, dangerWith, Word, Judged}
+use Rattle.judging.specs.Verdict.{Told, Word, Judged}
 use Rattle.judging.specs.Verdict.Word.{robust as robust-word, danger as danger-word}
+use Rattle.judging.specs.Verdict.Judged.{refused as refused-answer, judged as judged-answer}
 use Rattle.printing.specs.declared.Printed.{Printed}
-use Rattle.printing.specs.Printed.{printedAs, walkIn}
+use Rattle.printing.specs.Printed.{printedAs}
 use Rattle.printing.specs.ShownLaws.{walk-shown}
 use Rattle.printing.specs.SizeLaws.{report-size}
-use Rattle.reporter.specs.Reported.{Reported, ValueReported}
+use Rattle.reporter.specs.Reported.{bytesFor, Reported, ValueReported}
 use Rattle.reporter.specs.NumberLaws.{parsed-refused, parsed-accepted}
 
 -- the bytes of a report, printed
@@ -73,51 +73,34 @@ some-number m n e = cc
 none-some : (m : ℕ) → _≡_ {A = Option ℕ} none (some m) → ⊥
 none-some m e = let wrong : _≡_ {A = ℕ} 0 1 = cc in omega arith
 
-module _ {w : Workload} {before after : List ℕ} {v : Verdict} (long : length before ≡ 260) (j : Judged w before v after) where
+module _ {w : Workload} (text : List ℕ) (isRead : read text ≡ accepted (linesOf w)) (given : Given w) (before : List ℕ)
+    (long : length before ≡ 260) where
   abbrev Refusal : Option ℕ → Type 0
   Refusal o = StateRefusal w (shortForWalk (length before / 4)) o
 
   -- S22, P3: of a value that a text gives, with an area of 65 steps, the only refusal is 22
-  pub value-refused : {r : Printed} → (v .refusal ≡ 0 → ⊥) → r ≡ printedAs (refusalReport (v .refusal) 0) → ValueReported w r
-  value-refused {r} h q text isRead given = go (refusalOf (v .refusal)) (j .refusal) (refusal-some (v .refusal) h)
-    where
-      go : (o : Option ℕ) → Refusal o → o ≡ some (v .refusal) → Reported text r
-      go o (not-given n) e = absurd (n given)
-      go o (too-many g many) e =
-          let number : v .refusal ≡ 22 = sym (some-number 22 (v .refusal) e) in
-          reported-as (unfolding-refusal (linesOf w) isRead many) (q ∙ ap (λ (n : ℕ). printedAs (refusalReport n 0)) number)
-      go o (too-short g few short) e = absurd (true-false short (long-enough before long))
-      go o (taken g few short) e = absurd (none-some (v .refusal) e)
+  refused-reported : (number : ℕ) {o : Option ℕ} → Refusal o → o ≡ some number → Report text (refusalReport number 0)
+  refused-reported number (not-given n) e = absurd (n given)
+  refused-reported number (too-many g many) e =
+      subst (λ (n : ℕ). Report text (refusalReport n 0)) (some-number 22 number e) (unfolding-refusal (linesOf w) isRead many)
+  refused-reported number (too-short g few short) e = absurd (true-false short (long-enough before long))
+  refused-reported number (taken g few room) e = absurd (none-some number e)
 
-  few-unfoldings : v .refusal ≡ 0 → tooMany (linesOf w) ≡ false
-  few-unfoldings h = go (refusalOf (v .refusal)) (j .refusal) (refusal-none (v .refusal) h)
-    where
-      go : (o : Option ℕ) → Refusal o → o ≡ none → tooMany (linesOf w) ≡ false
-      go o (not-given n) e = absurd (none-some 21 (sym e))
-      go o (too-many g many) e = absurd (none-some 22 (sym e))
-      go o (too-short g few short) e = few
-      go o (taken g few short) e = few
+  -- P1, P2: a word
+  word-reported : tooMany (linesOf w) ≡ false → {answer : Told} {after : List ℕ} → Word (linesOf w) before answer after
+      → Report text (bytesFor answer after)
+  unfolding bytesFor
+  word-reported few (robust-word none-dangerous serial) = robust (linesOf w) isRead few none-dangerous
+  word-reported few (danger-word walk dangerous short) =
+      subst (λ (l : List Step). Report text (dangerReport (countsOf (linesOf w)) l)) (sym (walk-shown walk before short))
+      (danger (linesOf w) isRead few walk dangerous short)
 
-  -- P2: danger, with the walk that stands in the area
-  pub value-danger : {r : Printed} → v .refusal ≡ 0 → v .danger ≡ true
-      → r ≡ printedAs (dangerReport (counted (v .programs) (v .nodes) (v .edges) (v .back)) (walkIn after (v .steps))) → ValueReported w r
-  unfolding robustWith dangerWith
-  value-danger {r} h d q text isRead given = go (j .judged (refusal-none (v .refusal) h)) d q
-    where
-      go : {x : Verdict} {area : List ℕ} → Word (linesOf w) before x area → x .danger ≡ true
-          → r ≡ printedAs (dangerReport (counted (x .programs) (x .nodes) (x .edges) (x .back)) (walkIn area (x .steps))) → Reported text r
-      go (robust-word none-dangerous serial) t e = absurd (true-false t refl)
-      go (danger-word walk dangerous short) t e =
-          reported-as (danger (linesOf w) isRead (few-unfoldings h) walk dangerous short)
-          (e ∙ ap (λ (l : List Step). printedAs (dangerReport (countsOf (linesOf w)) l)) (walk-shown walk before short))
+  judged-reported : {answer : Told} {after : List ℕ} → Judged w before answer after → Report text (bytesFor answer after)
+  unfolding bytesFor
+  judged-reported (refused-answer number s) = refused-reported number s refl
+  judged-reported (judged-answer s answer after word) = word-reported (taken-given s refl .1) word
 
-  -- P1: robust
-  pub value-robust : {r : Printed} → v .refusal ≡ 0 → v .danger ≡ false
-      → r ≡ printedAs (robustReport (counted (v .programs) (v .nodes) (v .edges) (v .back))) → ValueReported w r
-  unfolding robustWith dangerWith
-  value-robust {r} h d q text isRead given = go (j .judged (refusal-none (v .refusal) h)) d q
-    where
-      go : {x : Verdict} {area : List ℕ} → Word (linesOf w) before x area → x .danger ≡ false
-          → r ≡ printedAs (robustReport (counted (x .programs) (x .nodes) (x .edges) (x .back))) → Reported text r
-      go (robust-word none-dangerous serial) t e = reported-as (robust (linesOf w) isRead (few-unfoldings h) none-dangerous) e
-      go (danger-word walk dangerous short) t e = absurd (true-false refl t)
+-- what the verdict answers for an area of 65 steps, printed
+pub value-reported : {w : Workload} {before after : List ℕ} {answer : Told} {r : Printed} → length before ≡ 260 → Judged w before answer after
+    → r ≡ printedAs (bytesFor answer after) → ValueReported w r
+value-reported {before = before} long j e text isRead given = reported-as (judged-reported text isRead given before long j) e

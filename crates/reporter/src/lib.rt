@@ -1,8 +1,25 @@
 // The report of any text.
 
+use judging::Verdict;
 use printing::Printed;
 use text::Workload;
-ghost use Rattle.reporter.specs.Reported.{Reported, ValueReported};
+ghost use mathlib.Core.Path.{_≡_};
+ghost use Rattle.judging.specs.Verdict.{told};
+ghost use Rattle.printing.specs.Printed.{printedAs};
+ghost use Rattle.reporter.specs.Reported.{bytesFor, Reported, ValueReported};
+
+// The bytes of an answer, with the walk that stands at the front of the area; a refusal because of the state has line 0.
+fn verdict_printed(v: Verdict, area: &[u64]) -> Printed
+    ensures { λ r. ⌜ r ≡ printedAs (bytesFor (told v) (now (area .entry))) ⌝ }
+{
+    match v {
+        Verdict::Robust(c) => printing::robust_printed(c.programs, c.nodes, c.edges, c.back),
+        Verdict::Danger(c, steps) => {
+            printing::danger_printed(c.programs, c.nodes, c.edges, c.back, area, steps as usize)
+        }
+        Verdict::Refused(number) => printing::refusal_printed(number as u64, 0),
+    }
+}
 
 // The report of a workload value that a text gives: the verdict, with its walk in an area of 65 steps; or the refusal 22.
 fn value_report(w: Workload) -> Printed
@@ -10,20 +27,7 @@ fn value_report(w: Workload) -> Printed
 {
     let mut area = [0u64; 260];
     let v = judging::verdict_of(w, &mut area);
-    if v.refusal != 0 {
-        return printing::refusal_printed(v.refusal as u64, 0);
-    }
-    if v.danger {
-        return printing::danger_printed(
-            v.programs,
-            v.nodes,
-            v.edges,
-            v.back,
-            &area,
-            v.steps as usize,
-        );
-    }
-    printing::robust_printed(v.programs, v.nodes, v.edges, v.back)
+    verdict_printed(v, &area)
 }
 
 // Reads any text and answers the bytes of its report.

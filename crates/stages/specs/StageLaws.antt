@@ -1,16 +1,14 @@
 -- The answers' numbers, and a stage's answer behind a refused and behind an accepted text.
-use mathlib.Core.Bool.{true, false, cond}
+use mathlib.Core.Bool.{cond}
 use mathlib.Core.List.{List}
 use mathlib.Core.Path.{_≡_, refl, sym, ap, subst, _∙_}
 use Prim.Native.Nat.{ℕ, _+_, _*_, _%_}
-use native.Mathlib.Nat.{zero-add}
 use lib.Dec.{eqb}
 use borrow.Author.Tests.{eq-eqb, ne-eqb}
 use Rattle.reader.specs.declared.Parsed.{Parsed}
 use Rattle.unfolder.specs.declared.Unfolded.{Unfolded}
 use Rattle.rows.specs.declared.Rows.{Rows}
-use Rattle.judging.specs.declared.Verdict.{Verdict}
-use Rattle.stages.specs.Stages.{refusalWord, lineSum, middleLine, readWord, placesTold, unfoldWord, rowsWord, verdictWord}
+use Rattle.stages.specs.Stages.{refusalWord, lineSum, middleLine, readWord, placesTold, unfoldWord, rowsWord}
 use Rattle.stages.specs.Stages.{Unfolds, Fills, Judges, UnfoldStage, TableStage, VerdictStage}
 
 -- ---- the numbers
@@ -38,20 +36,6 @@ nodes-refused u other e = e ∙ told-refused _ _ _ other
 pub nodes-taken : {places : ℕ} (u : Unfolded) → u .refusal ≡ 0 → places ≡ placesTold u → u .count % 256 * 65536 + places ≡ unfoldWord u
 unfolding unfoldWord
 nodes-taken u taken e = ap (λ (n : ℕ). u .count % 256 * 65536 + n) e ∙ told-taken _ _ _ taken
-
-module _ {r : ℕ} (v : Verdict) where
-  pub judged-refused : (v .refusal ≡ 0 → ⊥) → r ≡ refusalWord (v .refusal) 0 → r ≡ verdictWord v
-  unfolding verdictWord
-  judged-refused other e = e ∙ told-refused _ _ _ other
-
-  pub judged-danger : v .refusal ≡ 0 → v .danger ≡ true → r ≡ 1073741824 + v .edges % 1048576 → r ≡ verdictWord v
-  unfolding verdictWord
-  judged-danger taken danger e = e ∙ ap (λ t. cond t 1073741824 0 + v .edges % 1048576) (sym danger) ∙ told-taken _ _ _ taken
-
-  pub judged-robust : v .refusal ≡ 0 → v .danger ≡ false → r ≡ v .edges % 1048576 → r ≡ verdictWord v
-  unfolding verdictWord
-  judged-robust taken robust e =
-      e ∙ sym (zero-add (v .edges % 1048576)) ∙ ap (λ t. cond t 1073741824 0 + v .edges % 1048576) (sym robust) ∙ told-taken _ _ _ taken
 
 -- ---- from a text on
 

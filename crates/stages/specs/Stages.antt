@@ -15,8 +15,7 @@ use Rattle.unfolder.specs.declared.Unfolded.{Unfolded}
 use Rattle.unfolder.specs.Settled.{Settled}
 use Rattle.rows.specs.declared.Rows.{Rows}
 use Rattle.rows.specs.Rows.{RowsSettled}
-use Rattle.judging.specs.declared.Verdict.{Verdict}
-use Rattle.judging.specs.Verdict.{Judged}
+use Rattle.judging.specs.Verdict.{Told, Judged}
 
 -- what a text gives: its workload value, or a refusal's number and line
 abbrev pub given : List ℕ → Parsed
@@ -51,9 +50,10 @@ unfoldable pub rowsWord : Rows → ℕ
 rowsWord f = cond (eqb (f .refusal) 0) (f .places % 65536) (refusalWord (f .refusal) 0)
 
 -- edges, with bit 30 for danger
-unfoldable pub verdictWord : Verdict → ℕ
-verdictWord v =
-    cond (eqb (v .refusal) 0) (cond (v .danger) 1073741824 0 + v .edges % 1048576) (refusalWord (v .refusal) 0)
+unfoldable pub verdictWord : Told → ℕ
+verdictWord (Told.refused number) = refusalWord number 0
+verdictWord (Told.robust c) = c .edges % 1048576
+verdictWord (Told.danger c steps) = 1073741824 + c .edges % 1048576
 
 -- a text that is refused: its refusal is told and the area stays as it was
 abbrev pub Refuses : Parsed → List ℕ → ℕ → List ℕ → Type 0
@@ -73,7 +73,7 @@ pub record Fills (w : Workload) (before : List ℕ) (r : ℕ) (after : List ℕ)
 
 -- its verdict, with the walk in the area
 pub record Judges (w : Workload) (before : List ℕ) (r : ℕ) (after : List ℕ) : Type 0 where
-  pub told : Verdict
+  pub told : Told
   pub settled : Judged w before told after
   pub word : r ≡ verdictWord told
 

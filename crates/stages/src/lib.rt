@@ -1,5 +1,6 @@
 // The stages from a text on as exports, for timing beside plain Rust: reading, unfolding, the table of places, the verdict.
 
+use judging::Totals;
 use judging::Verdict;
 use rows::Rows;
 use text::Line;
@@ -7,6 +8,7 @@ use text::Workload;
 use unfolder::Unfolded;
 ghost use mathlib.Core.Path.{_≡_};
 ghost use Prim.Native.Nat.{_+_, _*_, _%_};
+ghost use Rattle.judging.specs.Verdict.{told};
 ghost use Rattle.stages.specs.Stages.{given, refusalWord, lineSum, middleLine, readWord, placesTold, unfoldWord, rowsWord, verdictWord};
 ghost use Rattle.stages.specs.Stages.{Unfolds, Fills, Judges, UnfoldStage, TableStage, VerdictStage};
 
@@ -112,17 +114,20 @@ pub extern "C" fn stage_table(text: &[u8], table: &mut [u64]) -> u32
     fill_value(w, table)
 }
 
-fn verdict_word(v: Verdict) -> u32
-    ensures { λ r. ⌜ r ≡ verdictWord v ⌝ }
+fn edges_told(c: Totals) -> u32
+    ensures { λ r. ⌜ r ≡ c .edges % 1048576 ⌝ }
 {
-    if v.refusal != 0 {
-        return refusal_word(v.refusal, 0);
+    (c.edges % 1048576) as u32
+}
+
+fn verdict_word(v: Verdict) -> u32
+    ensures { λ r. ⌜ r ≡ verdictWord (told v) ⌝ }
+{
+    match v {
+        Verdict::Robust(c) => edges_told(c),
+        Verdict::Danger(c, _) => 1073741824 + edges_told(c),
+        Verdict::Refused(number) => refusal_word(number, 0),
     }
-    let edges = (v.edges % 1048576) as u32;
-    if v.danger {
-        return 1073741824 + edges;
-    }
-    edges
 }
 
 fn judge_value(w: Workload, area: &mut [u64]) -> u32

@@ -1,15 +1,30 @@
--- The fields are those of `told`, by computation; danger is whether the walk has a step.
-use mathlib.Core.Path.{refl}
-use Rattle.judging.specs.VerdictLaws.{told}
+-- `judged` meets its contract: each answer of the search has its own.
+use mathlib.Core.Path.{ap, sym}
+use borrow.Author.Needs.{needs}
+use Rattle.judging.specs.VerdictLaws.{toldFor}
 use Rattle.judging.proofs.judged.Statement.{statement}
 use Rattle.judging.proofs.judged.Tie as tie
-use Rattle.judging.proofs.judged.Reads as reads
-use Rattle.judging.proofs.judged.Lts as lts
 
--- the verdict's numbers
+enum-told : tie.Need-enum-told
+enum-told c = search needs
+
+enum-told-2 : tie.Need-enum-told-2
+enum-told-2 c = search needs
+
+enum-known-found : tie.Need-enum-known-found
+enum-known-found c = search needs
+
 returns : tie.Need-returns
-unfolding told
-returns c = refl
+unfolding toldFor
+returns c = sym (ap (toldFor _) (c .enum-told .given .1))
+
+returns-2 : tie.Need-returns-2
+unfolding toldFor
+returns-2 c = sym (ap (toldFor _) (c .enum-told2 .given .1))
+
+returns-3 : tie.Need-returns-3
+unfolding toldFor
+returns-3 c = sym (ap (toldFor _) (c .before .found .given .1))
 
 pub judged-spec : {M : Type 1} → statement M
-judged-spec = tie.close (tie.spec returns)
+judged-spec = tie.close (tie.spec enum-told enum-told-2 enum-known-found returns returns-2 returns-3)

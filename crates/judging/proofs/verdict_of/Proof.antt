@@ -1,5 +1,4 @@
--- A refusal of the rows is handed on (judged-rows), and an area under 65 steps is refused by 20 (judged-short); else the picked edges stand for
--- all edges of the workload, and the walk found settles its graph (judged-picked).
+-- `verdict_of` meets its contract: a refusal of the table is the verdict's, and else what is picked from the table and found in it is the word.
 use native.Mathlib.Omega.{arith}
 use mathlib.Core.Path.{_≡_, refl, ap, sym, _∙_}
 use Prim.Native.Nat.{ℕ, _+_, _-_, _*_, _≤_, _<_}
@@ -7,14 +6,13 @@ use lib.ListN.{length, length-replicate, set, getD, length-set, take, drop}
 use lib.Seq.{length-take-le}
 use borrow.Author.Needs.{needs}
 use Rattle.rows.specs.Whole.{Whole, whole-filled}
-use Rattle.judging.specs.VerdictLaws.{judged-rows, judged-short, judged-picked}
+use Rattle.judging.specs.VerdictLaws.{judged-rows, judged-picked}
 use Rattle.judging.proofs.verdict_of.Statement.{statement}
 use Rattle.judging.proofs.verdict_of.Tie as tie
 use Rattle.judging.proofs.verdict_of.Reads as reads
 use Rattle.judging.proofs.verdict_of.Lts as lts
 use Rattle.detector.proofs.find_walk.Reads as find-walk-reads
 use Rattle.judging.proofs.judged.Reads as judged-reads
-use Rattle.judging.proofs.refused.Reads as refused-reads
 use Rattle.picking.proofs.pick_edges.Reads as pick-edges-reads
 use Rattle.rows.proofs.fill_rows.Reads as fill-rows-reads
 
@@ -24,26 +22,17 @@ slice-aggregate-fill-rows c = search needs
 fill-rows-requires : tie.Need-fill-rows-requires
 fill-rows-requires c κs = search needs
 
-refused-requires : tie.Need-refused-requires
-refused-requires c κs = search needs
-
 returns : tie.Need-returns
-returns c = judged-rows _ _ _ _ _ _ (c .before .before .before .fill-rows .ensures) (length-replicate {A = ℕ} 4096 0) (c .before .if1 .taken) (c .refused .ensures)
-
-refused-requires-2 : tie.Need-refused-requires-2
-refused-requires-2 c κs = search needs
-
-returns-2 : tie.Need-returns-2
-returns-2 c = judged-short _ _ _ _ _ _ (c .before .before .before .before .fill-rows .ensures) (length-replicate {A = ℕ} 4096 0) (c .before .before .if1 .left) (c .before .if2 .taken) (c .refused2 .ensures)
+returns c = judged-rows _ _ _ _ _ (c .before .before .fill-rows .ensures) (length-replicate {A = ℕ} 4096 0) (c .if1 .taken)
 
 mul-n : tie.Need-mul-n
-mul-n c = let whole = whole-filled _ _ _ _ (c .before .before .before .before .fill-rows .ensures) (length-replicate {A = ℕ} 4096 0) (c .before .before .if1 .left) in let h = whole .short in record { fits = omega arith }
+mul-n c = let whole = whole-filled _ _ _ _ (c .before .before .before .fill-rows .ensures) (length-replicate {A = ℕ} 4096 0) (c .before .if1 .left) in let h = whole .short in record { fits = omega arith }
 
 array-share-prefix-table : tie.Need-array-share-prefix-table
-array-share-prefix-table c = let whole = whole-filled _ _ _ _ (c .before .before .before .before .fill-rows .ensures) (length-replicate {A = ℕ} 4096 0) (c .before .before .if1 .left) in let h = whole .short in omega arith
+array-share-prefix-table c = let whole = whole-filled _ _ _ _ (c .before .before .before .fill-rows .ensures) (length-replicate {A = ℕ} 4096 0) (c .before .if1 .left) in let h = whole .short in omega arith
 
 slice-aggregate-pick-edges : tie.Need-slice-aggregate-pick-edges
-slice-aggregate-pick-edges c = let whole = whole-filled _ _ _ _ (c .before .before .before .before .before .fill-rows .ensures) (length-replicate {A = ℕ} 4096 0) (c .before .before .before .if1 .left) in let h = whole .short in let l = whole .long in sym (length-take-le _ _ (omega arith))
+slice-aggregate-pick-edges c = let whole = whole-filled _ _ _ _ (c .before .before .before .before .fill-rows .ensures) (length-replicate {A = ℕ} 4096 0) (c .before .before .if1 .left) in let h = whole .short in let l = whole .long in sym (length-take-le _ _ (omega arith))
 
 pick-edges-requires : tie.Need-pick-edges-requires
 pick-edges-requires c κs = search needs
@@ -63,8 +52,14 @@ judged-requires c κs = search needs
 same-length : tie.Need-same-length
 same-length c = search needs
 
-returns-3 : tie.Need-returns-3
-returns-3 c = judged-picked _ _ _ _ _ _ _ _ _ (c .before .before .before .before .before .before .before .before .before .before .before .before .before .before .before .fill-rows .ensures) (length-replicate {A = ℕ} 4096 0) (c .before .before .before .before .before .before .before .before .before .before .before .before .before .if1 .left) (c .before .before .before .before .before .before .before .before .before .before .before .before .if2 .left) (c .before .before .before .before .before .before .before .before .before .pick-edges .ensures) (c .before .before .before .find-walk .ensures) (c .judged .ensures)
+returns-2 : tie.Need-returns-2
+returns-2 c =
+    judged-picked _ _ _ _ _ _ _ _ _
+    (c .before .before .before .before .before .before .before .before .before .before .before .before .before .before .fill-rows .ensures)
+    (length-replicate {A = ℕ} 4096 0)
+    (c .before .before .before .before .before .before .before .before .before .before .before .before .if1 .left)
+    (c .before .before .before .before .before .before .before .before .before .pick-edges .ensures)
+    (c .before .before .before .find-walk .ensures) (c .judged .ensures)
 
 pub verdict-of-spec : {M : Type 1} → statement M
 verdict-of-spec =
@@ -72,10 +67,7 @@ verdict-of-spec =
     (tie.spec
     slice-aggregate-fill-rows
     fill-rows-requires
-    refused-requires
     returns
-    refused-requires-2
-    returns-2
     mul-n
     array-share-prefix-table
     slice-aggregate-pick-edges
@@ -85,4 +77,4 @@ verdict-of-spec =
     find-walk-requires
     judged-requires
     same-length
-    returns-3)
+    returns-2)

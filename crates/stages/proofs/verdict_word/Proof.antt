@@ -1,35 +1,55 @@
--- A refusal gives its word (judged-refused), danger its edges with bit 30 set (judged-danger), robust its edges alone (judged-robust), as
--- `verdictWord` picks.
-use Rattle.stages.specs.StageLaws.{judged-refused, judged-danger, judged-robust}
-use native.Mathlib.Omega.{arith}
-use mathlib.Core.Path.{_≡_, refl, ap, sym, _∙_}
-use Prim.Native.Nat.{ℕ, _+_, _-_, _*_, _≤_, _<_}
-use lib.ListN.{length, set, getD, length-set, take, drop}
+-- `verdict_word` meets its contract: each case of the answer has its own number.
+use mathlib.Core.Path.{ap}
+use Prim.Native.Nat.{ℕ, _+_}
 use borrow.Author.Needs.{needs}
+use Rattle.stages.specs.Stages.{verdictWord}
 use Rattle.stages.proofs.verdict_word.Statement.{statement}
 use Rattle.stages.proofs.verdict_word.Tie as tie
-use Rattle.stages.proofs.verdict_word.Reads as reads
-use Rattle.stages.proofs.verdict_word.Lts as lts
-use Rattle.stages.proofs.refusal_word.Reads as refusal-word-reads
+
+enum-known-v : tie.Need-enum-known-v
+enum-known-v c = search needs
+
+edges-told-requires : tie.Need-edges-told-requires
+edges-told-requires c κs = search needs
+
+enum-known-v-2 : tie.Need-enum-known-v-2
+enum-known-v-2 c = search needs
+
+edges-told-requires-2 : tie.Need-edges-told-requires-2
+edges-told-requires-2 c κs = search needs
+
+add-result : tie.Need-add-result
+add-result c = search needs
+
+enum-known-v-3 : tie.Need-enum-known-v-3
+enum-known-v-3 c = search needs
 
 refusal-word-requires : tie.Need-refusal-word-requires
 refusal-word-requires c κs = search needs
 
 returns : tie.Need-returns
-returns c = judged-refused _ (c .before .if1 .taken) (c .refusal-word .ensures)
-
-cast-edges : tie.Need-cast-edges
-cast-edges c = search needs
-
-add-result : tie.Need-add-result
-add-result c = search needs
+unfolding verdictWord
+returns c = rw (c .before .before .v .given .1) (c .edges-told .ensures)
 
 returns-2 : tie.Need-returns-2
-returns-2 c = judged-danger _ (c .before .before .if1 .left) (c .if2 .taken) refl
+unfolding verdictWord
+returns-2 c = rw (c .before .before .v2 .given .1) (ap (λ (n : ℕ). 1073741824 + n) (c .edges-told2 .ensures))
 
 returns-3 : tie.Need-returns-3
-returns-3 c = judged-robust _ (c .before .before .if1 .left) (c .if2 .left) refl
+unfolding verdictWord
+returns-3 c = rw (c .before .before .v3 .given .1) (c .refusal-word .ensures)
 
 pub verdict-word-spec : {M : Type 1} → statement M
 verdict-word-spec =
-    tie.close (tie.spec refusal-word-requires returns cast-edges add-result returns-2 returns-3)
+    tie.close
+    (tie.spec
+    enum-known-v
+    edges-told-requires
+    enum-known-v-2
+    edges-told-requires-2
+    add-result
+    enum-known-v-3
+    refusal-word-requires
+    returns
+    returns-2
+    returns-3)
