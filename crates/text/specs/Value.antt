@@ -27,6 +27,10 @@ pub record Given (w : Workload) : Type 0 where
   pub isRead : read text ≡ accepted lines
   pub value : w ≡ valueOf lines
 
+-- S21: no workload, which a refused text is read into: one line more than there are cells, so no text gives it
+unfoldable pub noWorkload : Workload
+noWorkload = record { count = 1617; lines = replicate 1616 unusedLine }
+
 -- T3, T4: the digit for a number below the base
 unfoldable pub digit : ℕ → ℕ
 digit n = cond (ltb n 10) (0x30 + n) (0x61 + (n - 10))

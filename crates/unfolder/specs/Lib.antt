@@ -1,3 +1,4 @@
 pub mod Facts
 pub mod Result
 pub mod Settled
+pub mod NotGiven

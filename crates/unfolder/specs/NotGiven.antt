@@ -1,0 +1,17 @@
+-- S21: a value that no text gives is not unfolded, and the lent area stays as it was.
+use mathlib.Core.List.{List}
+use mathlib.Core.Path.{_≡_}
+use Prim.Native.Nat.{ℕ}
+use Rattle.text.specs.declared.Workload.{Workload}
+use Rattle.text.specs.Value.{Given}
+use Rattle.report.specs.Refusals.{not-given-refused}
+use Rattle.unfolder.specs.declared.Unfolded.{Unfolded}
+use Rattle.unfolder.specs.Result.{refusedWith}
+use Rattle.unfolder.specs.Settled.{Settled, PlacesSettled}
+
+module _ {w : Workload} {before area : List ℕ} {r : Unfolded} (never : Given w → ⊥) where
+  pub not-unfolded : Settled w before r area → (r ≡ refusedWith 21) × (area ≡ before)
+  not-unfolded s = s .refused 21 (not-given-refused never (s .refusal))
+
+  pub no-places : PlacesSettled w before r area → (r ≡ refusedWith 21) × (area ≡ before)
+  no-places s = s .refused 21 (not-given-refused never (s .refusal))
