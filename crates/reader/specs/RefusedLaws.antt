@@ -3,7 +3,6 @@ use mathlib.Core.List.{List}
 use mathlib.Core.Path.{_≡_, refl, subst}
 use Prim.Native.Nat.{ℕ}
 use Rattle.text.specs.declared.Line.{Line}
-use Rattle.text.specs.declared.Workload.{Workload}
 use Rattle.text.specs.Reading.{Outcome, read}
 use Rattle.text.specs.Reading.Outcome.{refused, accepted}
 use Rattle.text.specs.Value.{Given}
