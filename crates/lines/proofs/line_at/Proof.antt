@@ -1,3 +1,4 @@
+-- A place within the text has its line; past it there is none.
 use Rattle.lines.specs.SpanLaws.{line-found, line-none}
 use borrow.Author.Needs.{needs}
 use Rattle.lines.proofs.line_at.Statement.{statement}

@@ -1,3 +1,4 @@
+-- From the place on, byte by byte: what is passed and what is left of the line add up to the same end; a 0A or the text's end leaves nothing.
 use Rattle.lines.specs.Span.{lineLength}
 use Rattle.lines.specs.SpanLaws.{line-stop, line-more, line-done}
 use mathlib.Core.Path.{_≡_, refl, sym, ap, _∙_}

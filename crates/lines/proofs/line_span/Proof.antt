@@ -1,3 +1,4 @@
+-- Each field is what the function called for it gives.
 use Rattle.lines.specs.Span.{spanAt}
 use borrow.Author.Needs.{needs}
 use Rattle.lines.proofs.line_span.Statement.{statement}

@@ -1,3 +1,4 @@
+-- The first test decides the first half of the conjunction, the second the other.
 use borrow.Author.Tests.{lt-leb, le-leb}
 use Rattle.reader.proofs.between.Statement.{statement}
 use Rattle.reader.proofs.between.Tie as tie

@@ -1,3 +1,4 @@
+-- Without a byte nothing ends a line; else the last byte decides.
 use Rattle.reader.specs.ParseLaws.{endsLine-none, endsLine-last}
 use mathlib.Core.Path.{_≡_, refl, sym, ap, _∙_}
 use native.Mathlib.Omega.{arith}

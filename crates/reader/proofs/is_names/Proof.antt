@@ -1,3 +1,4 @@
+-- The byte string written out is the names line.
 use Rattle.text.specs.Text.{namesLine}
 use borrow.Author.Needs.{needs}
 use Rattle.reader.proofs.is_names.Statement.{statement}

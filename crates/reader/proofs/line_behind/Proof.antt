@@ -1,3 +1,4 @@
+-- Each arm is the test's own case.
 use borrow.Author.Tests.{eq-eqb, ne-eqb}
 use Rattle.reader.specs.Parse.{lineBehindByte}
 use native.Mathlib.Numerals.{add-one}

@@ -1,3 +1,4 @@
+-- What is sought from the byte at hand on, with the line's number there, is what is sought in the whole text.
 use borrow.Author.Needs.{needs}
 use Rattle.reader.specs.Parse.{lineOr}
 use Rattle.reader.specs.ParseLaws.{otherByte-here, otherByte-next, otherByte-done, lineBehind-le}

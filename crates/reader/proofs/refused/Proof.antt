@@ -1,3 +1,4 @@
+-- The answer is the definition's for a refusal: 1617 over unused cells is the value that no text gives.
 use Rattle.text.specs.Value.{noWorkload}
 use Rattle.reader.specs.Parse.{parsedAs}
 use borrow.Author.Needs.{needs}

@@ -1,3 +1,4 @@
+-- Two lengths differ, or what is left from each place on is the same as the whole is.
 use Rattle.reader.specs.ParseLaws.{same-length, same-differ, same-next, same-done}
 use mathlib.Core.Path.{_≡_, refl, sym, ap, _∙_}
 use native.Mathlib.Omega.{arith}

@@ -1,3 +1,4 @@
+-- A number of the check is the fault; without one the line is taken.
 use Rattle.reader.specs.ParseLaws.{saw-fault, saw-line}
 use mathlib.Core.Path.{refl}
 use borrow.Author.Needs.{needs}
