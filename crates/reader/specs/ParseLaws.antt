@@ -263,7 +263,7 @@ pub read-lineless : (text : List ℕ) → length text ≤ 32768 → otherByte 1 
 unfolding headD same namesLine
 read-lineless text h o e q = read-lines text false h o e (ap (λ (l : List (List ℕ)). same (headD l []) namesLine) q)
 
--- the lines behind the names line
+-- the lines after the names line
 pub read-named : (text : List ℕ) {bytes : List ℕ} {rest : List (List ℕ)} → length text ≤ 32768 → otherByte 1 text ≡ none → endsLine text ≡ true
     → linesIn text ≡ bytes ∷ rest → same bytes namesLine ≡ true → readLines [] rest ≡ read text
 unfolding headD tail

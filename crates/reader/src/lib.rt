@@ -176,7 +176,7 @@ fn see_bytes(words: &mut [u64], bytes: &[u8]) -> Seen
     }
 }
 
-// Reads line after line from a place on, behind the names line, up to a fault or the end, where no block may be open.
+// Reads line after line from a place on, after the names line, up to a fault or the end, where no block may be open.
 fn read_lines(text: &[u8], start: usize, first: u64) -> Parsed
     requires { ⌜ first ≡ 2 ⌝ }
     ensures { λ r. ⌜ r ≡ parsedAs (readLines [] (linesIn (drop start (now (text .entry))))) ⌝ }

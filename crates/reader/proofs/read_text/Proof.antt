@@ -1,4 +1,4 @@
--- Each test of the whole text ends reading with its refusal; behind them the reader comes to the first line, which is the names line or not,
+-- Each test of the whole text ends reading with its refusal; after them the reader comes to the first line, which is the names line or not,
 -- and `read_lines` goes on where the reader left off.
 use mathlib.Core.List.{List}
 use mathlib.Core.Bool.{true}
@@ -18,7 +18,7 @@ use Rattle.reader.specs.ParseLaws.{read-long, read-other, read-last, rea
 use Rattle.reader.proofs.read_text.Statement.{statement}
 use Rattle.reader.proofs.read_text.Tie as tie
 
--- behind the tests of the whole text: what they have shown
+-- after the tests of the whole text: what they have shown
 abbrev text-of : tie.Else3 → List ℕ
 text-of c = c .before .before .before .before .before .before .args .text .now
 
