@@ -1,3 +1,4 @@
+-- It is safe and ends: i is below 264 where a cell is read, and the measure is what is left of 264.
 use borrow.Author.Needs.{needs}
 use Prim.Native.Nat.{_-_, _≤_}
 use Rattle.areas.proofs.changed.Statement.{statement}

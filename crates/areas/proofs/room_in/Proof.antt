@@ -1,3 +1,4 @@
+-- Each return is at most the length, as the test found it, so the part so long is a part of the area.
 use native.Mathlib.Omega.{arith}
 use mathlib.Core.Path.{sym}
 use mathlib.Core.List.{List}

@@ -1,3 +1,4 @@
+-- It is safe and ends: i is below 8 where a record is read, and the measure is what is left of 8.
 use borrow.Author.Needs.{needs}
 use Prim.Native.Nat.{_-_, _≤_}
 use Rattle.areas.proofs.show_put.Statement.{statement}

@@ -1,3 +1,5 @@
+-- `cell_within` tells for loops, first arms and second arms whether the parent's set lies within the child's; `blocksWithinOf` asks for all
+-- three.
 use Rattle.kept.specs.Words.{stateIn}
 use borrow.Author.Needs.{needs}
 use Rattle.checkline.proofs.blocks_within.Statement.{statement}

@@ -1,3 +1,4 @@
+-- The two cells are what `kept::cell` ensures, and `within` is asked of them in that order.
 use native.Mathlib.Omega.{arith}
 use mathlib.Core.Path.{_≡_, refl, ap, sym, _∙_}
 use Prim.Native.Nat.{ℕ, _+_, _-_, _*_, _≤_, _<_}

@@ -1,3 +1,4 @@
+-- Each arm calls the tests of its kind, and the line's tests are those of its own kind (check-kind); loops and branches share one function.
 use Rattle.kept.specs.Words.{stateIn}
 use Rattle.checkline.specs.Kinds.{check-kind}
 use native.Mathlib.Omega.{arith}

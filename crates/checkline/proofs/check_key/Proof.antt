@@ -1,3 +1,5 @@
+-- The words are the counts of the state, and `is_sum` says that only relations and keys came before: so `verdict` is given the tests that
+-- `checkAs` lists for a key.
 use Rattle.kept.specs.Kept.{roomOf, orderedOf, namedAs, setsFitAs, isLinkOf}
 use Rattle.kept.specs.Words.{stateIn}
 use borrow.Author.Needs.{needs}

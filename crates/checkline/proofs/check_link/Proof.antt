@@ -1,3 +1,4 @@
+-- The words are the counts of the state, and `link_fits` is the test of links: so `verdict` is given the tests that `checkAs` lists for a link.
 use Rattle.kept.specs.Kept.{roomOf, orderedOf, namedAs, setsFitAs, isLinkOf}
 use Rattle.kept.specs.Words.{stateIn}
 use borrow.Author.Needs.{needs}

@@ -1,3 +1,4 @@
+-- The words are the counts of the state, and room and order ask the same of a loop and of a branch: so `verdict` gives the number of either kind.
 use Rattle.kept.specs.Kept.{roomOf, orderedOf, namedAs, setsFitAs, isLinkOf}
 use Rattle.kept.specs.Words.{stateIn}
 use borrow.Author.Needs.{needs}

@@ -1,3 +1,4 @@
+-- The words are the counts of the state: so `verdict` is given the tests that `checkAs` lists for a program, where no block may be open.
 use Rattle.kept.specs.Kept.{roomOf, orderedOf, namedAs, setsFitAs, isLinkOf}
 use Rattle.kept.specs.Words.{stateIn}
 use native.Mathlib.Omega.{arith}

@@ -1,3 +1,5 @@
+-- The words are the counts of the state: so `verdict` is given the tests that `checkAs` lists for a relation, in order where all lines so far are
+-- relations.
 use Rattle.kept.specs.Kept.{roomOf, orderedOf, namedAs, setsFitAs, isLinkOf}
 use Rattle.kept.specs.Words.{stateIn}
 use native.Mathlib.Omega.{arith}

@@ -1,3 +1,5 @@
+-- The words are the counts of the state, and the cell is the whole set of the statement's relation: so `verdict` is given the tests that
+-- `checkAs` lists for a statement.
 use Rattle.kept.specs.Kept.{roomOf, orderedOf, namedAs, setsFitAs, isLinkOf}
 use Rattle.kept.specs.Words.{stateIn}
 use borrow.Author.Needs.{needs}

@@ -1,3 +1,4 @@
+-- The two words are the numbers of programs and of links, and `inBodyOf` asks the same two tests of them.
 use borrow.Author.Needs.{needs}
 use Rattle.checkline.proofs.in_body.Statement.{statement}
 use Rattle.checkline.proofs.in_body.Tie as tie

@@ -1,3 +1,4 @@
+-- The word is the depth and the cell is the part at that depth, of which `innermostOf` asks the same two tests.
 use Rattle.kept.specs.Words.{stateIn}
 use borrow.Author.Needs.{needs}
 use Rattle.checkline.proofs.innermost.Statement.{statement}

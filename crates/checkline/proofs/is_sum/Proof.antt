@@ -1,3 +1,4 @@
+-- Where n is below a both sides are false; else the difference is exact, and it is compared with b on both sides.
 use borrow.Author.Tests.{lt-ltb, le-ltb, eq-eqb, ne-eqb}
 use borrow.Author.Needs.{needs}
 use native.Mathlib.Omega.{arith}

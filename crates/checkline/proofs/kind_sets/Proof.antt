@@ -1,3 +1,4 @@
+-- Each arm returns the test that `kindSets` has for its kind.
 use Rattle.text.specs.Reading.{kindSets}
 use native.Mathlib.Omega.{arith}
 use mathlib.Core.Path.{_≡_, refl, ap, sym, _∙_}

@@ -1,3 +1,5 @@
+-- The cells are the relations of child and parent, those of the key, and whether the parent may be one; with `blocks_within` they are the tests
+-- of `linkFitsOf`.
 use Rattle.kept.specs.Words.{stateIn}
 use borrow.Author.Needs.{needs}
 use Rattle.checkline.proofs.link_fits.Statement.{statement}

@@ -1,3 +1,4 @@
+-- `within` is asked of the three sets and `kind_sets` of the kind, as the contract lists them.
 use borrow.Author.Needs.{needs}
 use Rattle.checkline.proofs.sets_fit.Statement.{statement}
 use Rattle.checkline.proofs.sets_fit.Tie as tie

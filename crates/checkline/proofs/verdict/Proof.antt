@@ -1,3 +1,4 @@
+-- Each return stands after the tests that passed before it, and with those tests known `checkBy` computes to the number returned.
 use borrow.Author.Tests.{not-true, not-false}
 use borrow.Author.Needs.{needs}
 use native.Mathlib.Omega.{arith}

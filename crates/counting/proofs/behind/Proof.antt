@@ -1,3 +1,4 @@
+-- Each return is what `after` picks where the end is within the lines or not, as the test found it.
 use Rattle.counting.proofs.RunLaws.{after-inside, after-past}
 use native.Mathlib.Omega.{arith}
 use mathlib.Core.Path.{_≡_, refl, ap, sym, _∙_}

@@ -1,3 +1,5 @@
+-- Before line i the totals are those of the lines before it (lines-next); after the last line they are the workload's, whose nodes and statements
+-- they count (lines-all).
 use Rattle.counting.proofs.AllLaws.{lines-all, lines-none, lines-next}
 use Rattle.choosing.specs.Pieces.{totalsBefore}
 use Rattle.counting.specs.Facts.{Totalled}

@@ -1,3 +1,4 @@
+-- Sums that stop at 513 and the place after the second arm's closing line are what `branchCounted` is made of (branch-made).
 use Rattle.counting.proofs.RunLaws.{branch-made}
 use native.Mathlib.Omega.{arith}
 use mathlib.Core.Path.{_≡_, refl, ap, sym, _∙_}

@@ -1,3 +1,5 @@
+-- A line that begins no program adds nothing (line-none); a `pr` line adds what the run after it counts, and each sum stops at 513
+-- (line-program).
 use Rattle.counting.proofs.AllLaws.{line-none, line-program}
 use native.Mathlib.Omega.{arith}
 use mathlib.Core.Path.{_≡_, refl, ap, sym, _∙_}

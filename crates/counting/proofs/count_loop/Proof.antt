@@ -1,3 +1,4 @@
+-- No turn, one turn and two turns add up to what `loopCounted` has, sums and products stopped at 513 (loop-made).
 use Rattle.counting.proofs.RunLaws.{loop-made}
 use native.Mathlib.Omega.{arith}
 use mathlib.Core.Path.{_≡_, refl, ap, sym, _∙_}

@@ -1,3 +1,4 @@
+-- Each unfolding of the block goes with each of the run: products of the counts, stopped at 513, as `nextCounted` has them (next-made).
 use Rattle.counting.proofs.RunLaws.{next-made}
 use native.Mathlib.Omega.{arith}
 use mathlib.Core.Path.{_≡_, refl, ap, sym, _∙_}

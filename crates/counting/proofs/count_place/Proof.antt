@@ -1,3 +1,4 @@
+-- Past the lines nothing is counted (place-past); within them `count_block` counts what stands there (place-inside).
 use Rattle.counting.proofs.RunLaws.{place-past, place-inside}
 use borrow.Author.Needs.{needs}
 use Rattle.counting.proofs.count_place.Statement.{statement}

@@ -1,3 +1,4 @@
+-- One unfolding without statements that ends where it begins is `nothingAt`, by computation.
 use Rattle.choosing.specs.Codes.{nothingAt}
 use borrow.Author.Needs.{needs}
 use native.Mathlib.Omega.{arith}

@@ -1,3 +1,4 @@
+-- Factors of at most 513 have a product that fits a word; over 513 it is stopped there (stops-large), else it stays (stops-small).
 use Rattle.counting.proofs.RunLaws.{stops-large, stops-small, product-small}
 use borrow.Author.Needs.{needs}
 use native.Mathlib.Omega.{arith}

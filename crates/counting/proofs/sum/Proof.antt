@@ -1,3 +1,4 @@
+-- Numbers of at most 513 have a sum that fits a word; over 513 it is stopped there (stops-large), else it stays (stops-small).
 use Rattle.counting.proofs.RunLaws.{stops-large, stops-small, product-small}
 use native.Mathlib.Omega.{arith}
 use mathlib.Core.Path.{_≡_, refl, ap, sym, _∙_}

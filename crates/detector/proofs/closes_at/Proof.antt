@@ -1,3 +1,4 @@
+-- Where the pair is dangerous, whether w is in reach decides (closes-reached); where it is not, w does not close (closes-not).
 use Rattle.detector.specs.Paths.{closes-reached, closes-not}
 use Rattle.detector.specs.Table.{behindIn}
 use native.Mathlib.Omega.{arith}

@@ -1,3 +1,5 @@
+-- Along no edge nothing closes (closing-none). Else the first node from w on that closes is the first of all: a node that does not close keeps
+-- this (search-turn), one that does ends it (search-stop).
 use Rattle.detector.specs.Paths.{closing-none}
 use Rattle.detector.specs.Turns.{search-stop, search-turn, search-end}
 use Rattle.detector.specs.Table.{closesAlong, closingNode, firstFrom}

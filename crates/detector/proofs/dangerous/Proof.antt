@@ -1,3 +1,4 @@
+-- A word 0 is no edge, and no pair is dangerous without both; else the two tests are those of the picks that the words stand for.
 use borrow.Author.Tests.{eq-eqb, ne-eqb, lt-ltb, le-ltb, le-leb, lt-leb}
 use Rattle.detector.specs.Table.{aheadPick, behindPick}
 use native.Mathlib.Omega.{arith}

@@ -1,3 +1,5 @@
+-- An area under 65 steps shows no walk (answer-short). Where no node has a pair that closes, no graph that the tables hold has a dangerous walk
+-- (answer-none); else the walk written is that of the tables (answer-found).
 use Rattle.detector.specs.ShowLaws.{answer-short, answer-none, answer-found, found-pair}
 use native.Mathlib.Omega.{arith}
 use mathlib.Core.Path.{_≡_, refl, ap, sym, _∙_}

@@ -1,3 +1,4 @@
+-- A node of the layer stays (go-stays); another goes along its edge to the lowest node of the layer that it is joined to (go-along).
 use Rattle.detector.specs.Paths.{lowest-below}
 use lib.Bits.{bitAnd}
 use Rattle.detector.specs.Paths.{lowest-small, go-stays, go-along}

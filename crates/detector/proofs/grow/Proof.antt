@@ -1,3 +1,4 @@
+-- After k turns the word has the nodes below k that grow to the given ones (word-turn); after 64 it has all.
 use Rattle.detector.specs.Turns.{word-turn, last-turn}
 use Rattle.detector.specs.Table.{withBit, wordBelow, growsTo, grown}
 use borrow.Author.Needs.{needs}

@@ -1,3 +1,4 @@
+-- A node that is one of them stays; of another its row must meet them: the two tests of `growsTo`.
 use Rattle.detector.specs.Table.{growsTo}
 use native.Mathlib.Omega.{arith}
 use mathlib.Core.Path.{_≡_, refl, ap, sym, _∙_}

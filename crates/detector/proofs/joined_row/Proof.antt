@@ -1,3 +1,4 @@
+-- After v turns the word has the nodes below v to which an edge goes from u (word-turn); after 64 it has all (row-end).
 use mathlib.Core.Bool.{not}
 use lib.Dec.{eqb}
 use Rattle.detector.specs.Turns.{word-turn, row-end}

@@ -1,3 +1,4 @@
+-- After u turns the first u words are the rows of their nodes (list-turn); after 64 all are.
 use Rattle.detector.specs.Turns.{list-turn, last-turn}
 use Rattle.detector.specs.Table.{joinedRow, listBelow, joinedRows}
 use borrow.Author.Needs.{needs}

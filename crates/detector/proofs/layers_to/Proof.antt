@@ -1,3 +1,5 @@
+-- After d turns the first d layers stand and `nodes` is layer d (layer-turn). Where the layer before was the same, growing adds nothing
+-- (layer-still), as `next_layer` requires.
 use Rattle.detector.specs.Turns.{list-turn, last-turn, layer-first, layer-turn, layer-still}
 use Rattle.detector.specs.Paths.{bit-shifted}
 use Rattle.detector.specs.Table.{grown, layer, listBelow, layersTo}

@@ -1,3 +1,4 @@
+-- The trailing zeros modulo 64 are what `lowest` is, by computation.
 use Rattle.detector.specs.Table.{lowest}
 use native.Mathlib.Omega.{arith}
 use mathlib.Core.Path.{_≡_, refl, ap, sym, _∙_}

@@ -1,3 +1,4 @@
+-- Where the layer before was the same, the nodes are their own next layer, as the `requires` says; else they are grown.
 use mathlib.Core.Path.{sym}
 use borrow.Author.Needs.{needs}
 use Rattle.detector.proofs.next_layer.Statement.{statement}

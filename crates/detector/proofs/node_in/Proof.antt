@@ -1,3 +1,5 @@
+-- The first node from u on with a pair that closes is the first of all: a node without one keeps this (search-turn), one with a pair ends it
+-- (search-stop), and past 63 there is none (search-end).
 use Rattle.detector.specs.Table.{hasPair, nodeIn, firstFrom}
 use Rattle.detector.specs.Paths.{pair-passes, pair-fails}
 use Rattle.detector.specs.Turns.{search-stop, search-turn, search-end}

@@ -1,3 +1,5 @@
+-- Where no forward edge leaves u no pair closes (pair-none); else the last layer has the nodes from which u is reached, and `pair_in` looks there
+-- (pair-layers).
 use Rattle.detector.specs.Paths.{pair-layers}
 use Rattle.detector.specs.WalkLaws.{pair-none}
 use native.Mathlib.Omega.{arith}

@@ -1,3 +1,5 @@
+-- The first pair from 64 v on that closes is the first of all: where nothing closes along the edge to v, its 64 pairs are passed at once
+-- (pair-turn); where a node does, that is the pair (pair-stop).
 use Rattle.detector.specs.Paths.{pair-stop, pair-turn, pair-end}
 use Rattle.detector.specs.Table.{closesAt, firstFrom}
 use borrow.Author.Needs.{needs}

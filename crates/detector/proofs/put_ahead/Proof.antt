@@ -1,3 +1,4 @@
+-- The four words are those of the step along the forward edge that the word stands for, as `putStep` has them.
 use Rattle.detector.specs.Table.{putWords, putStep, aheadStep}
 use native.Mathlib.Omega.{arith}
 use mathlib.Core.Path.{_≡_, refl, ap, sym, _∙_}

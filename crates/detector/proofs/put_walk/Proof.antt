@@ -1,3 +1,4 @@
+-- Two steps along the pair's edges and then the way back to u are the steps of `walkOn`, written from the area's start on (walk-written).
 use Rattle.detector.specs.ShowLaws.{walk-written}
 use native.Mathlib.Omega.{arith}
 use mathlib.Core.Path.{_≡_, refl, ap, sym, _∙_}

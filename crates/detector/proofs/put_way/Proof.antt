@@ -1,3 +1,5 @@
+-- The steps written and those of the way still to go are together the whole way, and there is room for them (`WayTurn`, way-turn); where no depth
+-- is left none is to go (way-end).
 use Rattle.detector.specs.Table.{wayOn, WayTurn}
 use Rattle.detector.specs.Paths.{way-first, way-turn, way-end}
 use borrow.Author.Needs.{needs}

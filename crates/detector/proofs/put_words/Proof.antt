@@ -1,3 +1,4 @@
+-- The four stores are those of `putWords`, and each lies within the area, since a store leaves its length.
 use Rattle.detector.specs.Table.{putWords}
 use native.Mathlib.Omega.{arith}
 use mathlib.Core.Path.{_≡_, refl, ap, sym, _∙_}

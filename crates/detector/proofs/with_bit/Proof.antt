@@ -1,3 +1,4 @@
+-- Where the test passed, the shift makes 2 to k, which fits a word since k is below 64, and `|` joins it; else the word stays.
 use Rattle.detector.specs.Paths.{bit-shifted}
 use lib.Pow.{shl-exact}
 use Rattle.detector.specs.Table.{withBit}

@@ -1,3 +1,5 @@
+-- After i rows the counts are those of the slots below 1024 i (counts-turn), and after the last row they are those of all edges of the table
+-- (counts-all).
 use mathlib.Core.Path.{_≡_}
 use Prim.Native.Nat.{_-_, _*_, _≤_}
 use native.Mathlib.Omega.{arith}

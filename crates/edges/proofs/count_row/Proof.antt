@@ -1,3 +1,5 @@
+-- A row has two slots for each row that it may enter, and after j of these the counts are those of the slots up to there (pair-edges, pair-back);
+-- the slots past the last row are empty (row-counted).
 use mathlib.Core.Path.{_≡_, refl, ap, ap₂, sym, _∙_}
 use Prim.Native.Nat.{ℕ, _+_, _-_, _*_, _≤_, _<_}
 use native.Mathlib.Omega.{arith}

@@ -1,3 +1,4 @@
+-- Each return stands after the numbers tested before it, and with those tests known `kindOf` computes to the kind returned.
 use Rattle.tables.specs.Table.{kindOf}
 use borrow.Author.Tests.{eq-eqb, ne-eqb}
 use Rattle.fetching.proofs.kind_of.Statement.{statement}

@@ -1,3 +1,4 @@
+-- A row that lies within the table is read whole; else each field is the word at its place, 0 past the end, of which `rowAt` is made (row-made).
 use Rattle.tables.specs.Table.{kindOf}
 use Rattle.fetching.specs.RowLaws.{row-made}
 use native.Mathlib.Omega.{arith}

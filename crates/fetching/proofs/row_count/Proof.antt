@@ -1,3 +1,4 @@
+-- Each return is the lesser of an eighth of the length and 512, as the test found it.
 use Rattle.tables.specs.Table.{rowCount}
 use native.Mathlib.Omega.{arith}
 use Rattle.fetching.proofs.row_count.Statement.{statement}

@@ -1,3 +1,4 @@
+-- The row's eight words lie within the table, so each field is read where `rowAt` has it, and `kind_of` tells the kind.
 use Rattle.tables.specs.Table.{rowAt}
 use borrow.Author.Needs.{needs}
 use Rattle.fetching.proofs.whole_row.Statement.{statement}

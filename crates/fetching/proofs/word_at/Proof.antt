@@ -1,3 +1,4 @@
+-- Past the last row and past the table's end `getD` gives 0 (word-past, word-short); else the word that is read.
 use Rattle.fetching.specs.RowLaws.{word-past, word-short}
 use native.Mathlib.Omega.{arith}
 use mathlib.Core.Path.{_≡_, refl, ap, sym, _∙_}

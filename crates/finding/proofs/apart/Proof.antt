@@ -1,3 +1,4 @@
+-- The test of the two relations is the one that the contract names, by computation.
 use mathlib.Core.Path.{refl}
 use Rattle.finding.proofs.apart.Statement.{statement}
 use Rattle.finding.proofs.apart.Tie as tie

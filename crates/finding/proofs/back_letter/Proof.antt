@@ -1,3 +1,4 @@
+-- Where a back edge stands its letter is E if E holds, else D; where none stands there is no letter: this is `letterIn` with the tests known.
 use Rattle.finding.specs.Steps.{letterIn}
 use Rattle.tables.specs.Table.{rowLetter}
 use borrow.Author.Needs.{needs}

@@ -1,3 +1,4 @@
+-- Rows of two relations have no edge; else the letters are asked in turn, and the first that holds is that of `letterIn`, or none does.
 use Rattle.finding.specs.StepLaws.{relations-two, relations-one}
 use Rattle.finding.specs.Steps.{letterIn}
 use Rattle.tables.specs.Table.{rowForward, rowLetter}

@@ -1,3 +1,5 @@
+-- A slot whose rows are not both there, or are of two relations, is empty, and so is every slot up to the one named (looked-end, looked-past,
+-- looked-apart); else the letter of its flow decides (looked-forward, looked-back).
 use native.Mathlib.Omega.{arith}
 use Rattle.finding.specs.StepLaws.{relations-two, looked-end, looked-past, looked-apart, looked-forward, looked-back}
 use borrow.Author.Needs.{needs}

@@ -1,3 +1,4 @@
+-- `no_edge` gives what stands for no edge, and the slot is the one asked for.
 use mathlib.Core.Bool.{false}
 use mathlib.Core.Path.{ap}
 use Rattle.edges.specs.declared.Edge.{Edge}

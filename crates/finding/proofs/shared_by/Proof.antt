@@ -1,3 +1,4 @@
+-- Each arm joins the two sets that `rowShared` has for its letter; no letter shares nothing.
 use Rattle.finding.specs.Steps.{sharedIn}
 use Rattle.tables.specs.Table.{rowShared}
 use borrow.Author.Needs.{needs}

@@ -1,3 +1,5 @@
+-- Where there is a letter the edge is made of the two rows and of what the letter's sets share (step-made); where there is none the next slot is
+-- named (step-none).
 use mathlib.Core.Path.{sym, _∙_}
 use Rattle.finding.specs.StepLaws.{step-made, step-none}
 use borrow.Author.Needs.{needs}

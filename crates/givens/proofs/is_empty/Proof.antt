@@ -1,3 +1,4 @@
+-- `is_end` tells whether the kind is `en`, and the six tests of the values follow in the order of `isEmpty`.
 use Rattle.givens.specs.Steps.{isEmpty}
 use borrow.Author.Needs.{needs}
 use Rattle.givens.proofs.is_empty.Statement.{statement}

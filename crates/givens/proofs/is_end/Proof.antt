@@ -1,3 +1,4 @@
+-- Each arm returns what `isEnd` has for its kind.
 use Rattle.givens.specs.Steps.{isEnd}
 use borrow.Author.Needs.{needs}
 use Rattle.givens.proofs.is_end.Statement.{statement}

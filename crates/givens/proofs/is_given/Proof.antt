@@ -1,3 +1,5 @@
+-- Over 1616 lines, a rest that is not empty, and lines with a fault or an open block are given by no text (refused, rest-refused, lines-refused);
+-- else the bytes of the text written out decide (size-decides).
 use mathlib.Core.List.{map}
 use lib.ListN.{length-map}
 use Rattle.text.proofs.Line.{the-field}

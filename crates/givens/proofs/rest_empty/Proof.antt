@@ -1,3 +1,5 @@
+-- The cells from i on are all empty exactly where those from the count on are: an empty cell keeps this (cells-next), another one makes both
+-- false (cells-other), and past 1616 none is left (cells-past).
 use borrow.Author.Tests.{not-true, not-false}
 use Rattle.base.specs.Basic.{all}
 use Rattle.givens.specs.Steps.{isEmpty}

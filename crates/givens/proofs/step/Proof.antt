@@ -1,3 +1,5 @@
+-- A line without a size does not fit (step-unfit), a line that fails a test has a fault (step-fault), and any other is taken into the words with
+-- its size (step-taken).
 use Rattle.givens.specs.StepLaws.{step-unfit, step-fault, step-taken}
 use mathlib.Core.Path.{sym, _∙_}
 use lib.ListN.{take}

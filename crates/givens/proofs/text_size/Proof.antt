@@ -1,3 +1,5 @@
+-- The lines before i are sound, the words hold them, and the size is that of their text (`Going`): a line without fault joins them (going-next).
+-- A line that does not fit or has a fault, and a block open at the end, give 0 (going-wrong, going-open).
 use Rattle.text.specs.Value.{linesOf}
 use Rattle.givens.specs.StepLaws.{Going, going-start, going-next, going-wrong, going-open, going-closed}
 use borrow.Author.Needs.{needs}

@@ -1,3 +1,5 @@
+-- A failed read ends the reading and counts none of the bytes (read-failed); else its bytes are added, and it ends where there are none
+-- (read-counted).
 use borrow.Author.Needs.{needs}
 use Rattle.input.specs.ReadingLaws.{read-failed, read-counted}
 use Rattle.input.proofs.behind.Statement.{statement}

@@ -1,3 +1,5 @@
+-- n is at most the area's length: a read adds no more than has room (read-fits), and one that does not end adds something (read-further), so the
+-- measure, the room left, falls. What ends the reading is within the area (read-within).
 use borrow.Author.Needs.{needs}
 use native.Mathlib.Omega.{arith}
 use mathlib.Core.Path.{_≡_}

@@ -1,3 +1,4 @@
+-- What `told` makes of any answer counts at most the area's bytes, and none where the read failed (told-within).
 use borrow.Author.Needs.{needs}
 use Rattle.input.specs.InputLaws.{told-within}
 use Rattle.input.proofs.read_once.Statement.{statement}

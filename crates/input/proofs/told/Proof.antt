@@ -1,3 +1,4 @@
+-- A negative answer is a failed read, and `io::count` tells the bytes of any other, never more than the area has: both as in `toldBy` (told-is).
 use borrow.Author.Needs.{needs}
 use mir.Syntax.{w64}
 use mir.ValLaws.{toZ-ofZ}

@@ -1,3 +1,4 @@
+-- Each return is at most the length: the place right after a byte that was read, or the length. The measure is the bytes left.
 use borrow.Author.Needs.{needs}
 use native.Mathlib.Omega.{arith}
 use Prim.Native.Nat.{_-_, _≤_}

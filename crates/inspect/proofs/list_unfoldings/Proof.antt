@@ -1,3 +1,4 @@
+-- It is safe and ends: i is below 64 where the cells are read, and the measure is what is left of 64.
 use borrow.Author.Needs.{needs}
 use Prim.Native.Nat.{_-_, _≤_}
 use Rattle.inspect.proofs.list_unfoldings.Statement.{statement}

@@ -1,3 +1,4 @@
+-- It is safe and ends: the measure is the number of statements left to print.
 use borrow.Author.Needs.{needs}
 use Prim.Native.Nat.{_≤_}
 use lib.ListN.{length}

@@ -1,3 +1,4 @@
+-- `report_of` ensures that the length is at most its 8192 bytes, so the part that is handed on lies within them.
 use native.Mathlib.Omega.{arith}
 use mathlib.Core.Path.{sym}
 use lib.Seq.{length-take-le}

@@ -1,3 +1,4 @@
+-- Eight words a place where so many fit, else the length: either way at most the length, so the part so long is a part of the table.
 use native.Mathlib.Omega.{arith}
 use borrow.Author.Needs.{needs}
 use Rattle.inspect.proofs.Parts.{counted}

@@ -1,3 +1,4 @@
+-- The fields are those of `told`, by computation; danger is whether the walk has a step.
 use mathlib.Core.Path.{refl}
 use Rattle.judging.specs.VerdictLaws.{told}
 use Rattle.judging.proofs.judged.Statement.{statement}

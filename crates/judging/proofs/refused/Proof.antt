@@ -1,3 +1,4 @@
+-- The refusal's number with nothing else told is `refusedWith`, by computation.
 use Rattle.judging.proofs.refused.Statement.{statement}
 use Rattle.judging.proofs.refused.Tie as tie
 use Rattle.judging.proofs.refused.Reads as reads

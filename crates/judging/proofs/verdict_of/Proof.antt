@@ -1,3 +1,5 @@
+-- A refusal of the rows is handed on (judged-rows), and an area under 65 steps is refused by 20 (judged-short); else the picked edges stand for
+-- all edges of the workload, and the walk found settles its graph (judged-picked).
 use native.Mathlib.Omega.{arith}
 use mathlib.Core.Path.{_≡_, refl, ap, sym, _∙_}
 use Prim.Native.Nat.{ℕ, _+_, _-_, _*_, _≤_, _<_}

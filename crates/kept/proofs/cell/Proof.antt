@@ -1,3 +1,5 @@
+-- A cell below 32 is the word so far after the array's start (cell-word); past the words (cell-short) and past 32 cells (cell-past) `getD` gives
+-- 0, as the code does.
 use mathlib.Core.Path.{refl, sym}
 use native.Mathlib.Omega.{arith}
 use borrow.Author.Needs.{needs}

@@ -1,3 +1,4 @@
+-- Each false return stands at the first value that is not 0; after five zeros the sixth test is all that is left (all-last).
 use Rattle.lengths.specs.SizeLaws.{all-last}
 use borrow.Author.Tests.{eq-eqb, ne-eqb}
 use Rattle.lengths.specs.Size.{isZero}

@@ -1,3 +1,4 @@
+-- Below 10 there is one digit, below 100 two, and any other byte has three (decimal-one, decimal-two, decimal-three).
 use Rattle.lengths.specs.SizeLaws.{decimal-one, decimal-two, decimal-three}
 use native.Mathlib.Omega.{arith}
 use mathlib.Core.Path.{sym}

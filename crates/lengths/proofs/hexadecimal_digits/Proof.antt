@@ -1,3 +1,5 @@
+-- 0 has one digit. Any other set has a digit for each four bits from its highest one down (hexadecimal-many), and at most 64 zeros stand in front
+-- of it, so the difference is exact.
 use lib.Count.{leading-le}
 use Rattle.lengths.specs.SizeLaws.{hexadecimal-zero, hexadecimal-many}
 use native.Mathlib.Omega.{arith}

@@ -1,3 +1,4 @@
+-- `all_zero` is given the values whose field the kind lacks and 0 for the others, and a line fits exactly where those are 0 (absent-fits).
 use Rattle.text.specs.declared.LineKind.the-variants.{Rl, Fk, Pr, Lo, Br, El, En, Li}
 use Rattle.text.specs.Text.{formsOf}
 use Rattle.reading.specs.TextLaws.{lineFits}

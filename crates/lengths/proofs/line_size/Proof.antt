@@ -1,3 +1,5 @@
+-- A line that does not fit has size 0 (size-unfit); one that fits has the digits of its six values and 9 bytes more: the word, six spaces, the
+-- line end (size-fits).
 use borrow.Author.Tests.{not-true, not-false}
 use Rattle.lengths.specs.SizeLaws.{size-fits, size-unfit}
 use native.Mathlib.Omega.{arith}

@@ -1,3 +1,4 @@
+-- `all_zero` is given the values whose field the kind lacks and 0 for the others, and the values fit exactly where those are 0 (absent-fits).
 use Rattle.text.specs.declared.StatementKind.the-variants.{Is, Ks, Ps, Ku, Pu, Kd, Pd}
 use Rattle.text.specs.declared.LineKind.the-variants.{St}
 use Rattle.text.specs.Text.{formsOf}

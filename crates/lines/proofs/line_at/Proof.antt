@@ -1,4 +1,4 @@
--- A place within the text has its line; past it there is none.
+-- A place within the text has the line that `line_span` tells (line-found), and a place past it has none (line-none).
 use Rattle.lines.specs.SpanLaws.{line-found, line-none}
 use borrow.Author.Needs.{needs}
 use Rattle.lines.proofs.line_at.Statement.{statement}

@@ -1,4 +1,5 @@
--- From the place on, byte by byte: what is passed and what is left of the line add up to the same end; a 0A or the text's end leaves nothing.
+-- The place i and the length of the line from i on make the same sum at each turn: a byte other than 0A moves one from the length to i
+-- (line-more). At 0A and at the text's end that length is 0 (line-stop, line-done), so i is where the line ends.
 use Rattle.lines.specs.Span.{lineLength}
 use Rattle.lines.specs.SpanLaws.{line-stop, line-more, line-done}
 use mathlib.Core.Path.{_≡_, refl, sym, ap, _∙_}

@@ -1,4 +1,5 @@
--- Each field is what the function called for it gives.
+-- The four fields are what the three functions ensure of the line's end, the next place and the next number, and `spanAt` is made of the same
+-- four.
 use Rattle.lines.specs.Span.{spanAt}
 use borrow.Author.Needs.{needs}
 use Rattle.lines.proofs.line_span.Statement.{statement}

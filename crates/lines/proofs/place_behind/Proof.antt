@@ -1,4 +1,4 @@
--- Each arm is the test's own case.
+-- Each return is what `cond` picks where the line's end is within the text or not, as the test found it.
 use borrow.Author.Tests.{lt-ltb, le-ltb}
 use borrow.Author.Needs.{needs}
 use Rattle.lines.proofs.place_behind.Statement.{statement}

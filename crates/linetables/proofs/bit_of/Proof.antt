@@ -1,3 +1,5 @@
+-- A kind that does not shield has no bit (bit-unshielding); of the others the shift makes 2 to the id below 32 (bit-small), and past that there
+-- is none (bit-large).
 use Rattle.choosing.specs.Codes.{bitIn}
 use Rattle.linetables.proofs.CellLaws.{bit-unshielding, bit-large, bit-small, bit-shifted}
 use borrow.Author.Tests.{not-true, not-false}

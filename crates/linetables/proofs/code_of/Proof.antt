@@ -1,3 +1,4 @@
+-- Each arm returns the number that `codeOf` has for its kind.
 use Rattle.choosing.specs.Codes.{codeOf}
 use native.Mathlib.Omega.{arith}
 use mathlib.Core.Path.{_≡_, refl, ap, sym, _∙_}

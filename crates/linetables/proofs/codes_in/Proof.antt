@@ -1,3 +1,4 @@
+-- The first i cells are the codes of the first i lines: each turn sets one more (cell-next), and after 1616 turns they are all (cells-all).
 use Rattle.linetables.proofs.CellLaws.{cells-known, cell-next, cells-all, code-at, many-codes}
 use Rattle.choosing.specs.Codes.{codesOf}
 use borrow.Author.Needs.{needs}

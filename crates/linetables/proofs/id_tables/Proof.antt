@@ -1,3 +1,4 @@
+-- The two arrays are the codes and the ids of all cells, of which `idTables` is made (ids-made).
 use Rattle.linetables.proofs.CellLaws.{ids-made}
 use native.Mathlib.Omega.{arith}
 use mathlib.Core.Path.{_≡_, refl, ap, sym, _∙_}

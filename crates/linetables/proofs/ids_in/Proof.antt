@@ -1,3 +1,4 @@
+-- The first i cells are the ids of the first i lines: each turn sets one more (cell-next), and after 1616 turns they are all (cells-all).
 use Rattle.linetables.proofs.CellLaws.{cells-known, cell-next, cells-all, id-at, many-ids}
 use Rattle.choosing.specs.Codes.{idsOf}
 use borrow.Author.Needs.{needs}

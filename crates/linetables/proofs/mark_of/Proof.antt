@@ -1,3 +1,4 @@
+-- A statement has the bit that `bit_of` gives, and every other kind none, as in `markIn`.
 use Rattle.choosing.specs.Codes.{markIn}
 use native.Mathlib.Omega.{arith}
 use mathlib.Core.Path.{_≡_, refl, ap, sym, _∙_}

@@ -1,3 +1,4 @@
+-- The first i cells are the marks of the first i lines: each turn sets one more (cell-next), and after 1616 turns they are all (cells-all).
 use Rattle.linetables.proofs.CellLaws.{cells-known, cell-next, cells-all, mark-at, many-marks}
 use Rattle.choosing.specs.Codes.{marksOf}
 use borrow.Author.Needs.{needs}

@@ -1,3 +1,4 @@
+-- The first i cells are the numbers from 0 on: each turn sets one more (cell-next), and after 1616 turns they are all (cells-all).
 use Rattle.linetables.proofs.CellLaws.{cell-next, cells-all, number-at, many-numbers}
 use Rattle.base.specs.Basic.{numbers}
 use borrow.Author.Needs.{needs}

@@ -1,3 +1,4 @@
+-- The three arrays are the codes, the numbers and the marks of all cells, of which `placeTables` is made (places-made).
 use Rattle.linetables.proofs.CellLaws.{places-made}
 use native.Mathlib.Omega.{arith}
 use mathlib.Core.Path.{_≡_, refl, ap, sym, _∙_}

@@ -1,3 +1,5 @@
+-- A refusal is handed on (counts-refused); else the words that count are the table of the workload, whose edges `count_edges` counts
+-- (counts-told).
 use Rattle.listing.specs.Listed.{inside, part-long, counts-refused, counts-told}
 use borrow.Author.Needs.{needs}
 use Rattle.listing.proofs.edge_counts.Statement.{statement}

@@ -1,3 +1,5 @@
+-- A refusal is handed on (edge-refused); else the words that count are the table of the workload, in which `edge_of_number` finds the edge
+-- (edge-told).
 use Rattle.listing.specs.Listed.{inside, part-long, edge-refused, edge-told}
 use borrow.Author.Needs.{needs}
 use Rattle.listing.proofs.edge_number.Statement.{statement}

@@ -1,3 +1,5 @@
+-- A refusal is handed on (prepare-refused), edges that have no room are refused by 20 (prepare-short), and else the table stays ready
+-- (prepare-ready).
 use Rattle.listing.specs.Listed.{inside, part-long, prepare-refused, prepare-short, prepare-ready}
 use borrow.Author.Needs.{needs}
 use Rattle.listing.proofs.prepare.Statement.{statement}

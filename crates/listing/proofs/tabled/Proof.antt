@@ -1,3 +1,5 @@
+-- 4096 words have room for 512 places, so no table is too short and a refusal is 21 or 22 (tabled-refused); else eight words a place are the
+-- workload's table (tabled-filled).
 use Prim.Native.Nat.{ℕ}
 use native.Mathlib.Omega.{arith}
 use lib.ListN.{length-replicate}

@@ -1,3 +1,4 @@
+-- Each return is what the contract picks by whether the edge stands and its place is loose; places below 1024 keep the sum within a word.
 use Rattle.detector.specs.Coding.{aheadWord}
 use borrow.Author.Needs.{needs}
 use Rattle.picking.proofs.ahead_word.Statement.{statement}

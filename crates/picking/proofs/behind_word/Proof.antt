@@ -1,3 +1,4 @@
+-- Each return is what the contract picks by whether the edge stands; places below 1024 keep the difference exact and the sum within a word.
 use Rattle.detector.specs.Coding.{behindWord}
 use borrow.Author.Needs.{needs}
 use Rattle.picking.proofs.behind_word.Statement.{statement}

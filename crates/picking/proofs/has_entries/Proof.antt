@@ -1,3 +1,4 @@
+-- Where the node is below 64 the place decides; else both sides are false.
 use borrow.Author.Tests.{lt-ltb, le-ltb}
 use Rattle.picking.specs.Kept.{hasEntries}
 use Rattle.picking.proofs.has_entries.Statement.{statement}

@@ -1,3 +1,4 @@
+-- The word is stored only where it is greater than the one that stands there, by the test of `keptAt`.
 use borrow.Author.Tests.{lt-ltb, le-ltb}
 use Rattle.picking.specs.Kept.{keptAt}
 use borrow.Author.Needs.{needs}

@@ -1,3 +1,5 @@
+-- After i rows the tables hold the greatest words of the pairs so far and the numbers count their edges (rows-turn); after the last row this is
+-- `picksOf` (all-picked).
 use Rattle.edges.specs.SlotLaws.{rows-few}
 use Rattle.picking.specs.Kept.{RowsKept}
 use Rattle.picking.specs.PairLaws.{rows-first, rows-turn, rows-most, row-most}

@@ -1,3 +1,5 @@
+-- The edges are counted by whether they stand. Where both rows have entries the words are kept at the pair of their nodes (pair-in); else the
+-- tables stay (left-out, right-out).
 use Rattle.picking.specs.PairLaws.{entries-small, left-out, right-out, pair-in}
 use native.Mathlib.Omega.{arith}
 use mathlib.Core.Path.{sym, _∙_}

@@ -1,3 +1,5 @@
+-- After j rows the words of row i with each of them are kept and their edges counted (row-turn); after the last turn that is the whole row
+-- (row-read).
 use Rattle.picking.specs.Kept.{RowKept}
 use Rattle.picking.specs.PairLaws.{row-first, row-turn, row-read, row-most, pair-most}
 use borrow.Author.Needs.{needs}

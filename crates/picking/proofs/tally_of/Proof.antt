@@ -1,3 +1,4 @@
+-- Each return has the numbers that `tallyOf` has for the two answers.
 use Rattle.picking.specs.Kept.{tallyOf}
 use Rattle.picking.proofs.tally_of.Statement.{statement}
 use Rattle.picking.proofs.tally_of.Tie as tie

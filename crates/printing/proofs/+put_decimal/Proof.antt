@@ -1,3 +1,5 @@
+-- Below 10 the number is one digit (put-digit); else the digits of its tenth stand before its last one (put-digits). The measure is the number; a
+-- word has at most 20 digits, so the last one has room (last-room).
 use Rattle.printing.specs.DecimalLaws.{last-room, put-digit, put-digits}
 use borrow.Author.Needs.{needs}
 use native.Mathlib.Omega.{arith}

@@ -1,3 +1,5 @@
+-- At most 65 steps are shown, so the bytes have room, and up to the length they are the report of the walk's steps, zeros after them
+-- (danger-printed).
 use Rattle.printing.specs.LineLaws.{danger-printed}
 use native.Mathlib.Omega.{arith}
 use mathlib.Core.Path.{_≡_, refl, ap, sym, _∙_}

@@ -1,3 +1,4 @@
+-- Below 10 the digit's byte is 0x30 and the number (digit-of).
 use Rattle.printing.specs.DecimalLaws.{digit-of}
 use native.Mathlib.Omega.{arith}
 use mathlib.Core.Path.{_≡_, refl, ap, sym, _∙_}

@@ -1,3 +1,4 @@
+-- A word 0 is the forward flow, whose letter is f (letter-forward); any other is the back flow, whose letter is b (letter-back).
 use Rattle.printing.specs.StepLaws.{letter-forward, letter-back}
 use borrow.Author.Needs.{needs}
 use native.Mathlib.Omega.{arith}

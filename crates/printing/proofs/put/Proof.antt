@@ -1,3 +1,5 @@
+-- The first i bytes stand from the place on and the rest is as it was (`Copying`); each turn copies one more (copy-turn), up to the last
+-- (copy-end).
 use Rattle.printing.specs.Printed.{Copying}
 use Rattle.printing.specs.PutLaws.{copy-first, copy-turn, copy-end}
 use borrow.Author.Needs.{needs}

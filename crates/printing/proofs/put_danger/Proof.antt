@@ -1,3 +1,4 @@
+-- The verdict's two lines, the names of the steps and the steps' lines, put one after the other, are the report of danger (danger-put).
 use Rattle.report.specs.Report.{dangerWord, stepNames}
 use Rattle.printing.specs.LineLaws.{danger-put}
 use native.Mathlib.Omega.{arith}

@@ -1,3 +1,4 @@
+-- A space, the flow's letter and the line's end are put one after the other, which are the three bytes of the contract (flow-put).
 use Rattle.printing.specs.LineLaws.{flow-put}
 use native.Mathlib.Omega.{arith}
 use mathlib.Core.Path.{_≡_, refl, ap, sym, _∙_}

@@ -1,3 +1,4 @@
+-- A space and then the digits, put one after the other, are the bytes of the contract (number-put).
 use Rattle.printing.specs.LineLaws.{number-put}
 use native.Mathlib.Omega.{arith}
 use mathlib.Core.Path.{_≡_, refl, ap, sym, _∙_}

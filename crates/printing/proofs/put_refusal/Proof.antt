@@ -1,3 +1,4 @@
+-- The names, the number, the line and the line's end, put one after the other, are the report of a refusal (refusal-put).
 use Rattle.report.specs.Report.{refusedNames}
 use Rattle.printing.specs.LineLaws.{refusal-put}
 use native.Mathlib.Omega.{arith}

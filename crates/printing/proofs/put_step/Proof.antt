@@ -1,3 +1,4 @@
+-- The four words are those of step k; its number, node, places and flow, put one after the other, are its line (step-put).
 use Rattle.printing.specs.LineLaws.{step-put}
 use native.Mathlib.Omega.{arith}
 use mathlib.Core.Path.{_≡_, refl, ap, sym, _∙_}

@@ -1,3 +1,5 @@
+-- After k turns the lines of the first k steps stand from the place on (`Stepping`); each turn puts the next one's (steps-turn), up to the last
+-- (steps-end).
 use Rattle.printing.specs.Printed.{Stepping}
 use Rattle.printing.specs.StepLaws.{steps-first, steps-turn, steps-end}
 use borrow.Author.Needs.{needs}

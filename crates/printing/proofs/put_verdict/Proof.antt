@@ -1,3 +1,4 @@
+-- The names, the word, the four counts and the line's end, put one after the other, are the two lines of a verdict (verdict-put).
 use Rattle.report.specs.Report.{verdictNames}
 use Rattle.printing.specs.LineLaws.{verdict-put}
 use native.Mathlib.Omega.{arith}

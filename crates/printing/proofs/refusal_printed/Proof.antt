@@ -1,3 +1,4 @@
+-- The report put at the start of 8192 zeros has at most 55 bytes, so up to the length stands the report and after it zeros (printed-is).
 use Rattle.printing.specs.PutLaws.{printed-is}
 use native.Mathlib.Omega.{arith}
 use mathlib.Core.Path.{_≡_, refl, ap, sym, _∙_}

@@ -1,3 +1,5 @@
+-- The verdict's lines with the word robust are the report of robust (robust-put); up to the length stands the report and after it zeros
+-- (printed-is).
 use Rattle.report.specs.Report.{robustWord}
 use Rattle.printing.specs.PutLaws.{printed-is}
 use Rattle.printing.specs.LineLaws.{robust-put}

@@ -1,3 +1,4 @@
+-- The first of the two counts of a table is how many edges it has (count-is).
 use Rattle.putting.specs.PutLaws.{count-is}
 use borrow.Author.Needs.{needs}
 use Rattle.putting.proofs.edge_count.Statement.{statement}

@@ -1,3 +1,4 @@
+-- The edges with lower numbers stand in the slots before `from`, so the first edge from there on is number k (next-numbered).
 use Rattle.putting.specs.PutLaws.{next-numbered}
 use borrow.Author.Needs.{needs}
 use Rattle.putting.proofs.edge_next.Statement.{statement}

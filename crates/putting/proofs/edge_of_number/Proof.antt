@@ -1,3 +1,5 @@
+-- A number past the last edge has none (found-none). Else i edges stand in the slots below `from`, each step passes one more, and after k of them
+-- the next is number k (found-at).
 use mathlib.Core.Path.{_≡_, _∙_}
 use Prim.Native.Nat.{_-_, _≤_}
 use native.Mathlib.Nat.{le-antisymm}

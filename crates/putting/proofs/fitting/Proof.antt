@@ -1,3 +1,4 @@
+-- All n edges are put where they fit (fitting-all), none where they do not (fitting-none).
 use native.Mathlib.Omega.{arith}
 use Rattle.putting.specs.PutLaws.{fitting-all, fitting-none}
 use Rattle.putting.proofs.fitting.Statement.{statement}

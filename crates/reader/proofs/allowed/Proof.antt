@@ -1,4 +1,4 @@
--- Each test that passes makes one of the definition's alternatives true; where none passes the last decides.
+-- Each return stands after the tests of the bytes before it, and with those tests known `isAllowed` computes to what is returned.
 use borrow.Author.Tests.{eq-eqb, ne-eqb}
 use mathlib.Core.Path.{_≡_, refl, sym, ap, _∙_}
 use Rattle.text.specs.Reading.{isAllowed}

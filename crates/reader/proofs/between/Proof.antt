@@ -1,4 +1,4 @@
--- The first test decides the first half of the conjunction, the second the other.
+-- A byte below the low end makes the first test false; else only the second is left, and it is returned.
 use borrow.Author.Tests.{lt-leb, le-leb}
 use Rattle.reader.proofs.between.Statement.{statement}
 use Rattle.reader.proofs.between.Tie as tie

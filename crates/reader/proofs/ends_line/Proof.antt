@@ -1,4 +1,4 @@
--- Without a byte nothing ends a line; else the last byte decides.
+-- No byte ends no line (endsLine-none); else the last byte decides (endsLine-last).
 use Rattle.reader.specs.ParseLaws.{endsLine-none, endsLine-last}
 use mathlib.Core.Path.{_≡_, refl, sym, ap, _∙_}
 use native.Mathlib.Omega.{arith}

@@ -1,4 +1,4 @@
--- The byte string written out is the names line.
+-- The byte string compared with is the names line of the rules.
 use Rattle.text.specs.Text.{namesLine}
 use borrow.Author.Needs.{needs}
 use Rattle.reader.proofs.is_names.Statement.{statement}

@@ -1,4 +1,4 @@
--- Each arm is the test's own case.
+-- After 0A the number is one more, after any other byte the same, as `lineBehindByte` picks.
 use borrow.Author.Tests.{eq-eqb, ne-eqb}
 use Rattle.reader.specs.Parse.{lineBehindByte}
 use native.Mathlib.Numerals.{add-one}

@@ -1,4 +1,5 @@
--- What is sought from the byte at hand on, with the line's number there, is what is sought in the whole text.
+-- The first byte not allowed from i on, with the line reached there, is the text's: a byte that is allowed leaves it so (otherByte-next). The
+-- line is at most i + 1, so it fits a word.
 use borrow.Author.Needs.{needs}
 use Rattle.reader.specs.Parse.{lineOr}
 use Rattle.reader.specs.ParseLaws.{otherByte-here, otherByte-next, otherByte-done, lineBehind-le}

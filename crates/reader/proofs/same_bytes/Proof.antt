@@ -1,4 +1,5 @@
--- Two lengths differ, or what is left from each place on is the same as the whole is.
+-- Lists of other lengths differ (same-length). Else what is left from i on is equal exactly where the lists are: equal bytes keep this
+-- (same-next), a pair that differs or the end decides it (same-differ, same-done).
 use Rattle.reader.specs.ParseLaws.{same-length, same-differ, same-next, same-done}
 use mathlib.Core.Path.{_≡_, refl, sym, ap, _∙_}
 use native.Mathlib.Omega.{arith}

@@ -1,4 +1,4 @@
--- The answer for the line's bytes tells the line, which is seen, or the refusal's number 4.
+-- Bytes that are a line are seen as `see_value` sees that line; bytes that are none have fault 4 (saw-wrong).
 use Rattle.reader.specs.ParseLaws.{saw-wrong}
 use mathlib.Core.Path.{refl, sym, ap, _∙_}
 use Rattle.text.specs.Text.{lineOf}

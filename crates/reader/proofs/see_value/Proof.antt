@@ -1,4 +1,4 @@
--- A number of the check is the fault; without one the line is taken.
+-- The number is the first test that fails over the words; where there is one nothing is taken (saw-fault), else the line is (saw-line).
 use Rattle.reader.specs.ParseLaws.{saw-fault, saw-line}
 use mathlib.Core.Path.{refl}
 use borrow.Author.Needs.{needs}

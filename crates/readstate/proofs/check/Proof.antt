@@ -1,3 +1,5 @@
+-- `checkline::check` gives the number of the first test that fails over the state kept; where the words hold the lines, that is the fault of the
+-- rules (words-check).
 use Rattle.readstate.specs.WordsLaws.{words-check}
 use borrow.Author.Needs.{needs}
 use Rattle.readstate.proofs.check.Statement.{statement}

@@ -1,3 +1,4 @@
+-- The word read is the depth of the state; where the words hold the lines, it is 0 exactly where no block is open (words-depth).
 use Rattle.readstate.specs.WordsLaws.{words-depth}
 use Rattle.kept.specs.Words.{stateIn}
 use borrow.Author.Needs.{needs}

@@ -1,3 +1,4 @@
+-- `takeline::take` makes the state the next one, which holds one line more where the line has no fault (words-take).
 use Rattle.readstate.specs.WordsLaws.{words-take}
 use borrow.Author.Needs.{needs}
 use Rattle.readstate.proofs.take.Statement.{statement}

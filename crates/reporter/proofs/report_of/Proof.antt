@@ -1,3 +1,5 @@
+-- A refusal of the text is reported with its number and line (reported-refusal); else the text gives the value that is read, whose report is the
+-- text's (reported-value).
 use Rattle.reporter.specs.ReportedLaws.{reported-refusal, reported-value}
 use native.Mathlib.Omega.{arith}
 use mathlib.Core.Path.{_≡_, refl, ap, sym, _∙_}

@@ -1,3 +1,5 @@
+-- The area has room for 65 steps, so a value that a text gives is refused by 22 or not at all (value-refused); else the verdict is printed as
+-- danger with its walk or as robust (value-danger, value-robust).
 use lib.ListN.{length-replicate}
 use Rattle.reporter.specs.ReportedLaws.{value-refused, value-danger, value-robust}
 use native.Mathlib.Omega.{arith}

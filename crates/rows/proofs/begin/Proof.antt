@@ -1,3 +1,4 @@
+-- The count goes up and the first line is set at its cell; past the 16 cells setting one changes nothing (begun-past).
 use Rattle.rows.proofs.Laws.{begun-past}
 use Rattle.rows.specs.Words.{begunWith}
 use native.Mathlib.Omega.{arith}

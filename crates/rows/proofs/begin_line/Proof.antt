@@ -1,3 +1,4 @@
+-- A line that is no `pr` changes nothing (begun-none); a `pr` begins a program at the line after it (begun-one).
 use Rattle.rows.proofs.Laws.{begun-none, begun-one}
 use native.Mathlib.Omega.{arith}
 use mathlib.Core.Path.{_≡_, refl, ap, sym, _∙_}

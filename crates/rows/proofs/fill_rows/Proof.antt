@@ -1,3 +1,5 @@
+-- A refusal of the unfoldings is handed on (refused-number), and a table under eight words a place is refused by 20 (refused-short); else the
+-- words of all places make the table of the nodes' rows (filled-table).
 use Rattle.rows.proofs.FillLaws.{refused-number, total-few, refused-short, workload-cells, workload-count, filled-table}
 use mathlib.Core.List.{[]}
 use native.Mathlib.Omega.{arith}

@@ -1,3 +1,4 @@
+-- The first words that `lines_in` gives are the workload's lines, so programs and rows are taken from them as `FilledBy` says (filled-by).
 use Rattle.rows.proofs.FillLaws.{lines-part, filled-by}
 use native.Mathlib.Omega.{arith}
 use mathlib.Core.Path.{_≡_, refl, ap, sym, _∙_}

@@ -1,3 +1,4 @@
+-- No set has an attribute past 63 (has-past); below that the bit is shifted down and tested, as `has` does.
 use Rattle.base.specs.WordLaws.{has-past}
 use native.Mathlib.Omega.{arith}
 use mathlib.Core.Path.{_≡_, refl, ap, sym, _∙_}

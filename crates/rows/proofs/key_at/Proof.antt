@@ -1,3 +1,4 @@
+-- A line that is no `li` leaves the word (no-link); of a `li` the words are key, child and parent, and `link_key` says what it adds (one-link).
 use Rattle.rows.proofs.Laws.{no-link, one-link}
 use native.Mathlib.Omega.{arith}
 use mathlib.Core.Path.{_≡_, refl, ap, sym, _∙_}

@@ -1,3 +1,5 @@
+-- What the lines from i on add to the word is what those from `first` on add to 0: each line keeps this (keys-next), and at a `pr` or the end
+-- nothing more is added (keys-stop, keys-end).
 use Rattle.rows.proofs.Laws.{keys-next, keys-stop, keys-end}
 use Prim.Native.Nat.{_/_}
 use Rattle.rows.specs.Words.{keysFrom}

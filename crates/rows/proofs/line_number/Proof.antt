@@ -1,3 +1,4 @@
+-- Each arm returns the number that `lineNumber` has for its kind.
 use Rattle.rows.specs.Lines.{lineNumber}
 use native.Mathlib.Omega.{arith}
 use mathlib.Core.Path.{_≡_, refl, ap, sym, _∙_}

@@ -1,3 +1,4 @@
+-- The first i lines stand as eight words each: each turn puts one line more (line-next), and after the last turn all stand (lines-stored).
 use mathlib.Core.List.{flatMap}
 use Rattle.rows.proofs.LineLaws.{lines-none, line-next, lines-stored}
 use Rattle.rows.specs.Lines.{lineTable}

@@ -1,3 +1,5 @@
+-- A link of another child, with a parent that is not seen, or by a key past 31 leaves the word (no-child, not-seen, no-key); any other sets its
+-- key's bit (one-key).
 use Rattle.rows.proofs.Laws.{no-child, not-seen, no-key, one-key}
 use native.Mathlib.Omega.{arith}
 use mathlib.Core.Path.{_≡_, refl, ap, sym, _∙_}

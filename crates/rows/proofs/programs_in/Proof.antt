@@ -1,3 +1,4 @@
+-- Before line i the programs are those that the lines before it begin; each line adds its part (begun-next), up to the last (begun-all).
 use Rattle.rows.proofs.Laws.{begun-fits, begun-next, begun-all}
 use Prim.Native.Nat.{_/_}
 use Rattle.rows.specs.Words.{begunBefore}

@@ -1,3 +1,4 @@
+-- Eight stores one after the other are the eight words put at the place (eight-stores).
 use Rattle.rows.proofs.Laws.{eight-stores}
 use native.Mathlib.Omega.{arith}
 use mathlib.Core.Path.{_≡_, refl, ap, sym, _∙_}

@@ -1,3 +1,5 @@
+-- After j nodes their rows stand from the table's start on and `at` is how many they are; the next node's rows follow them (total-next,
+-- all-next), and they have room since those of all nodes do (all-room).
 use Rattle.rows.proofs.PutLaws.{all-start, total-none, total-next, all-room, all-next, all-same, all-end}
 use Rattle.rows.specs.Words.{putAt, allRows, totalOf}
 use borrow.Author.Needs.{needs}

@@ -1,3 +1,4 @@
+-- The words read are those of the place's line and the keys those of its links; together they are the eight words of the row (row-words).
 use Rattle.rows.proofs.PutLaws.{row-words}
 use Rattle.rows.specs.Words.{putAt}
 use native.Mathlib.Omega.{arith}

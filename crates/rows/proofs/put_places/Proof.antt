@@ -1,3 +1,5 @@
+-- After i places their rows stand from the node's first one on; each turn puts the row of the next place after them (rows-next), up to the last
+-- (rows-end).
 use Rattle.rows.proofs.PutLaws.{rows-start, rows-room, rows-next, rows-same, rows-end}
 use Rattle.rows.specs.Words.{putAt, nodeRows}
 use borrow.Author.Needs.{needs}

@@ -1,3 +1,4 @@
+-- Kind number 0 and those over 4 have no reads, and the others keep theirs: the cases of `readsBy` (reads-none, reads-large, reads-all).
 use Rattle.rows.proofs.Laws.{reads-none, reads-large, reads-all}
 use borrow.Author.Needs.{needs}
 use native.Mathlib.Omega.{arith}

@@ -1,3 +1,4 @@
+-- The refusal's number with counts of 0 is `rowsRefused`, by computation.
 use Rattle.rows.specs.Rows.{rowsRefused}
 use borrow.Author.Needs.{needs}
 use native.Mathlib.Omega.{arith}

@@ -1,3 +1,4 @@
+-- Kind numbers 2, 4 and 6 keep their tests and the others have none: `testsBy` with the answers known.
 use Rattle.rows.specs.Lines.{testsBy}
 use borrow.Author.Tests.{eq-eqb, ne-eqb}
 use borrow.Author.Needs.{needs}

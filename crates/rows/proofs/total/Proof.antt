@@ -1,3 +1,5 @@
+-- After j nodes the sum is that of their lengths (total-next); it is never more than that of all, which is at most 512, so it fits a word
+-- (total-most).
 use Rattle.rows.proofs.PutLaws.{total-most, total-next, total-end}
 use Rattle.rows.specs.Words.{totalOf}
 use borrow.Author.Needs.{needs}

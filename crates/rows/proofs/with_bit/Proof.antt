@@ -1,3 +1,4 @@
+-- The shift makes 2 to the attribute, which fits a word since it is below 64, and `|` joins it with the set (shifted-bit).
 use Rattle.rows.proofs.Laws.{shifted-bit}
 use native.Mathlib.Omega.{arith}
 use mathlib.Core.Path.{_≡_, refl, ap, sym, _∙_}

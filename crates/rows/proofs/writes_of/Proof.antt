@@ -1,3 +1,4 @@
+-- Kind numbers 1 and 2 have no writes and the others keep theirs: `writesBy` with the answers known.
 use Rattle.rows.specs.Lines.{writesBy}
 use borrow.Author.Tests.{eq-eqb, ne-eqb}
 use borrow.Author.Needs.{needs}

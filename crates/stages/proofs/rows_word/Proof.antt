@@ -1,3 +1,4 @@
+-- A refusal gives its word (rows-refused), and any other answer its number of places (rows-taken), as `rowsWord` picks.
 use Rattle.stages.specs.StageLaws.{rows-refused, rows-taken}
 use native.Mathlib.Omega.{arith}
 use mathlib.Core.Path.{_≡_, refl, ap, sym, _∙_}

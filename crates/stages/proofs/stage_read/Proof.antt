@@ -1,3 +1,4 @@
+-- A refusal of the text gives its word (read-refused); else the value that is read gives its own (read-taken).
 use Rattle.stages.specs.StageLaws.{read-refused, read-taken}
 use native.Mathlib.Omega.{arith}
 use mathlib.Core.Path.{_≡_, refl, ap, sym, _∙_}

@@ -1,3 +1,4 @@
+-- A refusal of the text gives its word and leaves the table (table-refused); else the value that is read fills it (table-goes-on).
 use Rattle.stages.specs.StageLaws.{table-refused, table-goes-on}
 use native.Mathlib.Omega.{arith}
 use mathlib.Core.Path.{_≡_, refl, ap, sym, _∙_}

@@ -1,3 +1,4 @@
+-- A refusal of the text gives its word and leaves the area (unfold-refused); else the value that is read is unfolded into it (unfold-goes-on).
 use Rattle.stages.specs.StageLaws.{unfold-refused, unfold-goes-on}
 use native.Mathlib.Omega.{arith}
 use mathlib.Core.Path.{_≡_, refl, ap, sym, _∙_}

@@ -1,3 +1,5 @@
+-- A refusal of the text gives its word and leaves the area (verdict-refused); else the value that is read is judged, with its walk in the area
+-- (verdict-goes-on).
 use Rattle.stages.specs.StageLaws.{verdict-refused, verdict-goes-on}
 use native.Mathlib.Omega.{arith}
 use mathlib.Core.Path.{_≡_, refl, ap, sym, _∙_}

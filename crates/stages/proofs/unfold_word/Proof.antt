@@ -1,3 +1,5 @@
+-- A refusal gives its word (nodes-refused), and any other answer its nodes and where the last one's statements end (nodes-taken), as `unfoldWord`
+-- picks.
 use Rattle.stages.specs.StageLaws.{nodes-refused, nodes-taken}
 use native.Mathlib.Omega.{arith}
 use mathlib.Core.Path.{_≡_, refl, ap, sym, _∙_}

@@ -1,3 +1,4 @@
+-- `line_sum` gives the sum of the middle line, which is below 16384, so that the word made of it and the count fits.
 use native.Mathlib.Omega.{arith}
 use mathlib.Core.Path.{_≡_, refl, ap, sym, _∙_}
 use Prim.Native.Nat.{ℕ, _+_, _-_, _*_, _%_, _≤_, _<_}

@@ -1,3 +1,5 @@
+-- A refusal gives its word (judged-refused), danger its edges with bit 30 set (judged-danger), robust its edges alone (judged-robust), as
+-- `verdictWord` picks.
 use Rattle.stages.specs.StageLaws.{judged-refused, judged-danger, judged-robust}
 use native.Mathlib.Omega.{arith}
 use mathlib.Core.Path.{_≡_, refl, ap, sym, _∙_}

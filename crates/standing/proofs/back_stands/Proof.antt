@@ -1,3 +1,5 @@
+-- Rows of two relations have no edge; else E gives a back edge whatever the keys say, and where E fails a select has one by D where the keys do
+-- not meet: `rowBack` with the answers known.
 use borrow.Author.Tests.{eq-eqb, ne-eqb}
 use Rattle.tables.specs.Table.{rowBack}
 use borrow.Author.Needs.{needs}

@@ -1,3 +1,4 @@
+-- An insert or a delete changes what any predicate takes; of the others the writes decide: the same three tests as in the contract.
 use borrow.Author.Needs.{needs}
 use Rattle.standing.proofs.changes.Statement.{statement}
 use Rattle.standing.proofs.changes.Tie as tie

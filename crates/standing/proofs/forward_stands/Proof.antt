@@ -1,3 +1,4 @@
+-- Rows of two relations have no edge; else the letters are asked in turn, and with the answers known `rowForward` computes to what is returned.
 use borrow.Author.Tests.{eq-eqb, ne-eqb}
 use Rattle.tables.specs.Table.{rowForward}
 use borrow.Author.Needs.{needs}

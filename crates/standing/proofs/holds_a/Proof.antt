@@ -1,3 +1,4 @@
+-- A delete first or an insert second makes A false; else the writes decide, as in `rowHolds`.
 use Rattle.tables.specs.Table.{rowHolds}
 use borrow.Author.Needs.{needs}
 use Rattle.standing.proofs.holds_a.Statement.{statement}

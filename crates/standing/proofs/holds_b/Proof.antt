@@ -1,3 +1,4 @@
+-- A delete first makes B false; else the first's writes and the second's reads decide, as in `rowHolds`.
 use Rattle.tables.specs.Table.{rowHolds}
 use borrow.Author.Needs.{needs}
 use Rattle.standing.proofs.holds_b.Statement.{statement}

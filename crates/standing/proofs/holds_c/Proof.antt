@@ -1,3 +1,4 @@
+-- A second without tests makes C false; else what the first changes decides, as in `rowHolds`.
 use Rattle.tables.specs.Table.{rowHolds}
 use borrow.Author.Needs.{needs}
 use Rattle.standing.proofs.holds_c.Statement.{statement}

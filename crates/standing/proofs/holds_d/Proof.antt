@@ -1,3 +1,4 @@
+-- An insert second makes D false; else the first's reads and the second's writes decide, as in `rowHolds`.
 use Rattle.tables.specs.Table.{rowHolds}
 use borrow.Author.Needs.{needs}
 use Rattle.standing.proofs.holds_d.Statement.{statement}

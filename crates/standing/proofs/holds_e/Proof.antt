@@ -1,3 +1,4 @@
+-- A first without tests makes E false; else what the second changes decides, as in `rowHolds`.
 use Rattle.tables.specs.Table.{rowHolds}
 use borrow.Author.Needs.{needs}
 use Rattle.standing.proofs.holds_e.Statement.{statement}

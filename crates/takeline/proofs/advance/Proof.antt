@@ -1,3 +1,4 @@
+-- The word is read, `next` gives one more by `nextOf`, and that is stored where it was read, as `stepIn` says.
 use Rattle.takeline.specs.Stores.{stepIn}
 use borrow.Author.Needs.{needs}
 use Rattle.takeline.proofs.advance.Statement.{statement}

@@ -1,3 +1,4 @@
+-- Up to i the words from `from` on are 0 and the others as they were; each turn clears one more (cleared-more), until i is `to`.
 use Rattle.takeline.specs.ClearLaws.{cleared-end}
 use Rattle.takeline.specs.Stores.{Cleared}
 use Rattle.takeline.specs.ClearLaws.{cleared-none, cleared-more}

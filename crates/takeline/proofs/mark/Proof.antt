@@ -1,3 +1,4 @@
+-- Another part gives 0; of the part asked for, the shift makes 2 to the place where it is below 64, which fits a word, and 0 past that.
 use borrow.Author.Tests.{lt-ltb, le-ltb, eq-eqb, ne-eqb}
 use native.Mathlib.Nat.{one-mul, mod-eq-of-lt}
 use lib.Pow.{pow-lt}

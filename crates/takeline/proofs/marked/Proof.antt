@@ -1,3 +1,4 @@
+-- The cell below is what `kept::cell` ensures, and `|` joins the mark with it.
 use borrow.Author.Needs.{needs}
 use Rattle.takeline.proofs.marked.Statement.{statement}
 use Rattle.takeline.proofs.marked.Tie as tie

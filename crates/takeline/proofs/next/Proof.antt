@@ -1,3 +1,4 @@
+-- Each return is what `nextOf` picks where n is below 65535 or not, as the test found it.
 use borrow.Author.Tests.{lt-ltb, le-ltb, eq-eqb, ne-eqb}
 use Rattle.kept.specs.Kept.{nextOf}
 use native.Mathlib.Omega.{arith}

@@ -1,3 +1,4 @@
+-- Each arm returns 1 or 0 as `canBeParent` says of its kind.
 use Rattle.text.specs.Reading.{canBeParent}
 use native.Mathlib.Omega.{arith}
 use mathlib.Core.Path.{_≡_, refl, ap, sym, _∙_}

@@ -1,3 +1,5 @@
+-- Place, part and the three sets of places are stored one depth further, then the depth, and body and lines go up: the stores that one block more
+-- makes of the state (took-push).
 use Rattle.takeline.specs.TakeLaws.{took-push}
 use native.Mathlib.Omega.{arith}
 use borrow.Author.Needs.{needs}

@@ -1,3 +1,4 @@
+-- A cell below 32 is stored where `putIn` sets it (put-in); past that neither changes anything (put-out).
 use Rattle.takeline.specs.StoreLaws.{put-in, put-out}
 use borrow.Author.Tests.{lt-ltb, le-ltb, eq-eqb, ne-eqb}
 use Rattle.takeline.specs.Stores.{putIn}

@@ -1,3 +1,4 @@
+-- Three calls of `put`, one after the other, are the three stores of `marksIn`.
 use borrow.Author.Needs.{needs}
 use Rattle.takeline.proofs.put_marks.Statement.{statement}
 use Rattle.takeline.proofs.put_marks.Tie as tie

@@ -1,3 +1,4 @@
+-- Where 424 words are there, clearing them makes the words of no line taken (started); else they stay as they are (not-started).
 use Rattle.takeline.specs.ClearLaws.{started, not-started}
 use borrow.Author.Needs.{needs}
 use Rattle.takeline.proofs.start.Statement.{statement}

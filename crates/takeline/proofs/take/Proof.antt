@@ -1,3 +1,4 @@
+-- Where 424 words are there, `take_kind` makes the state the next one and leaves the rest (taken); else the words stay as they are (not-taken).
 use Rattle.takeline.specs.TakeLaws.{taken, not-taken}
 use borrow.Author.Needs.{needs}
 use Rattle.takeline.proofs.take.Statement.{statement}

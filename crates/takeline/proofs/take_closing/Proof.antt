@@ -1,3 +1,5 @@
+-- Storing the depth less one and making the counts of body and of lines one more is what closing the innermost block does to the state
+-- (took-closing).
 use Rattle.takeline.specs.TakeLaws.{took-closing}
 use borrow.Author.Needs.{needs}
 use Rattle.takeline.proofs.take_closing.Statement.{statement}

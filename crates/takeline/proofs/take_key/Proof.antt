@@ -1,3 +1,4 @@
+-- Child and parent are stored at the number of keys so far, and the counts of keys and lines go up: the state with one key more (took-key).
 use Rattle.takeline.specs.TakeLaws.{took-key}
 use borrow.Author.Needs.{needs}
 use Rattle.takeline.proofs.take_key.Statement.{statement}

@@ -1,3 +1,4 @@
+-- Each arm makes the state that `takeAs` names for its kind, and the line's own kind is that kind (took-kind).
 use Rattle.takeline.specs.TakeLaws.{took-kind}
 use Rattle.kept.specs.Kept.{takeAs}
 use borrow.Author.Needs.{needs}

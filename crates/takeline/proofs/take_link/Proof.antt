@@ -1,3 +1,4 @@
+-- The counts of links and lines go up and nothing else is stored: the state with one link more (took-link).
 use Rattle.takeline.specs.TakeLaws.{took-link}
 use borrow.Author.Needs.{needs}
 use Rattle.takeline.proofs.take_link.Statement.{statement}

@@ -1,3 +1,4 @@
+-- A block is pushed at the depth and the place that the words keep, which are those of the state (took-opening).
 use Rattle.takeline.specs.TakeLaws.{took-opening}
 use borrow.Author.Needs.{needs}
 use Rattle.takeline.proofs.take_opening.Statement.{statement}

@@ -1,3 +1,5 @@
+-- The arrays of open blocks and statements are cleared, with their counts and those of body and links, and programs and lines go up: the state of
+-- a new program (took-program).
 use Rattle.takeline.specs.ClearLaws.{took-program}
 use borrow.Author.Needs.{needs}
 use Rattle.takeline.proofs.take_program.Statement.{statement}

@@ -1,3 +1,5 @@
+-- The relation's set is stored at the number of relations so far, and the counts of relations and lines go up: the state with one relation more
+-- (took-relation).
 use Rattle.takeline.specs.TakeLaws.{took-relation}
 use borrow.Author.Needs.{needs}
 use Rattle.takeline.proofs.take_relation.Statement.{statement}

@@ -1,3 +1,4 @@
+-- The innermost block is pushed again with its place, from one depth less, as the second arm: this is what `secondOf` says (took-second).
 use Rattle.takeline.specs.TakeLaws.{took-second}
 use borrow.Author.Needs.{needs}
 use Rattle.takeline.proofs.take_second.Statement.{statement}

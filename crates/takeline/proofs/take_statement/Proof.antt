@@ -1,3 +1,5 @@
+-- Relation, fitness as a parent and the blocks around, read at the depth at hand, are stored at the number of statements so far, and three counts
+-- go up: the state with one statement more (took-statement).
 use Rattle.takeline.specs.TakeLaws.{took-statement}
 use native.Mathlib.Omega.{arith}
 use borrow.Author.Needs.{needs}

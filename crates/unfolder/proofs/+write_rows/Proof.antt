@@ -1,3 +1,5 @@
+-- Unfolding k is laid over the area and told as one row more, and the unfoldings after it over the rest of the area (rowed-next); where k is n
+-- none is left (rowed-nothing). The measure is n less k.
 use Rattle.unfolder.proofs.RowLaws.{rows-end, rows-step, rowed-nothing, row-cell, row-places, more-rows, rowed-next}
 use Rattle.choosing.specs.Pieces.{row}
 use Prim.Native.Nat.{_-_}

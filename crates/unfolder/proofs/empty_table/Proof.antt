@@ -1,3 +1,4 @@
+-- No unfolding and cells of zeros are the table of no pieces, by computation.
 use Rattle.choosing.specs.Table.{table, cells, starts}
 use Rattle.choosing.specs.Pieces.{flat}
 use borrow.Author.Needs.{needs}

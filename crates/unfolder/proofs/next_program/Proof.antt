@@ -1,3 +1,4 @@
+-- A `pr` line makes the program's number one more (program-next); any other line leaves it (program-stays).
 use Rattle.unfolder.proofs.LineLaws.{program-stays, program-next}
 use native.Mathlib.Omega.{arith}
 use mathlib.Core.Path.{_≡_, refl, ap, sym, _∙_}

@@ -1,3 +1,4 @@
+-- The refusal's number with count 0 and cells of zeros is `refusedWith`, by computation.
 use Rattle.unfolder.specs.Result.{refusedWith}
 use borrow.Author.Needs.{needs}
 use native.Mathlib.Omega.{arith}

@@ -1,3 +1,5 @@
+-- A value that no text gives is refused by 21 (not-given-ids). Else codes and ids are those of its lines and no line is marked, so what
+-- `unfold_tables` writes are the nodes' statement ids (settled-ids).
 use Rattle.unfolder.proofs.SettledLaws.{not-given-ids, ids-codes, ids-words, part-fits, part-length, codes-length, ids-length, ready-ids, settled-ids}
 use borrow.Author.Tests.{not-true, not-false}
 use native.Mathlib.Omega.{arith}

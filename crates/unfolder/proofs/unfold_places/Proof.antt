@@ -1,3 +1,5 @@
+-- A value that no text gives is refused by 21 (not-given-places). Else codes, numbers and marks are those of its lines, so what `unfold_tables`
+-- writes are words for the nodes' places (settled-places).
 use Rattle.unfolder.proofs.SettledLaws.{not-given-places, places-codes, places-words, places-marks, part-fits, part-length, codes-length, numbers-length, marks-length, ready-places, settled-places}
 use borrow.Author.Tests.{not-true, not-false}
 use native.Mathlib.Omega.{arith}

@@ -1,3 +1,5 @@
+-- `count_all` tells nodes and statements, stopped at 513, so 22 and 20 are tested exactly (many-nodes, many-statements, short-area); past them
+-- all pieces fit the area (all-fit) and are told (all-told).
 use Rattle.unfolder.proofs.UnfoldLaws.{many-nodes, many-statements, short-area, all-fit, all-told}
 use native.Mathlib.Omega.{arith}
 use mathlib.Core.Path.{_≡_, refl, ap, sym, _∙_}

@@ -1,3 +1,5 @@
+-- Before line i the pieces of the lines before it stand at the area's front, and table and program number tell them (`Going`); each line adds its
+-- own (going-next), and at the end all stand (going-end).
 use Rattle.unfolder.proofs.LineLaws.{Going, going-start, going-fits, going-next, going-end, going-length, program-small}
 use borrow.Author.Needs.{needs}
 use native.Mathlib.Omega.{arith}

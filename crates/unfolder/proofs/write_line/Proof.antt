@@ -1,3 +1,5 @@
+-- A line that begins no program has no pieces (lined-none); a `pr` line has those of the run after it, written from the first free place on
+-- (lined-rows).
 use Rattle.unfolder.proofs.LineLaws.{lined-none, line-rows, line-rows-fit, lined-rows}
 use native.Mathlib.Omega.{arith}
 use mathlib.Core.Path.{_≡_, refl, ap, sym, _∙_}

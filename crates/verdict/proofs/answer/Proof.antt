@@ -1,3 +1,4 @@
+-- `read_input` counts at most the area's bytes, so the part that is handed on lies within it.
 use native.Mathlib.Omega.{arith}
 use mathlib.Core.Path.{_≡_, refl, ap, sym, _∙_}
 use Prim.Native.Nat.{ℕ, _+_, _-_, _*_, _≤_, _<_}

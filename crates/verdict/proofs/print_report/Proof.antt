@@ -1,3 +1,4 @@
+-- `report_of` ensures that the length is at most its 8192 bytes, so the part that is written lies within them.
 use native.Mathlib.Omega.{arith}
 use mathlib.Core.Path.{_≡_, refl, ap, sym, _∙_}
 use Prim.Native.Nat.{ℕ, _+_, _-_, _*_, _≤_, _<_}

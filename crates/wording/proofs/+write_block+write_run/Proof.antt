@@ -1,3 +1,5 @@
+-- A run lays its first statement or block and then, over the rest of the area, the run after it; the block takes the quotient of the number by
+-- what that run counts, the run the remainder (run-statement, run-block). The measure is twice `left`, and one more for a block.
 use Rattle.wording.proofs.PathLaws.{run-none, run-past, run-stop, run-statement, run-block, loop-none, loop-one, loop-two, branch-one, branch-two}
 use Rattle.wording.proofs.LaidLaws.{lays-inside}
 use borrow.Author.Needs.{needs}

@@ -1,3 +1,4 @@
+-- An empty area takes no word (lays-none); else the word stands at its front and the rest is as it was (lays-one).
 use Rattle.wording.proofs.LaidLaws.{lays-none, lays-one}
 use native.Mathlib.Omega.{arith}
 use mathlib.Core.Path.{_≡_, refl, ap, sym, _∙_}

@@ -1,3 +1,4 @@
+-- Past the table `getD` gives its default, 0; else the mark that is read.
 use lib.ListN.{List·getD-eq-default}
 use native.Mathlib.Omega.{arith}
 use mathlib.Core.Path.{_≡_, refl, ap, sym, _∙_}

@@ -1,3 +1,4 @@
+-- Past the table `getD` gives its default, 0; else the word that is read; `word_with` adds what is seen times 2048.
 use lib.ListN.{List·getD-eq-default}
 use native.Mathlib.Omega.{arith}
 use borrow.Author.Needs.{needs}

@@ -1,3 +1,4 @@
+-- Below the length the word that is read is the one `getD` gives; past it `getD` gives its default, 0, and so does the code.
 use lib.ListN.{List·getD-eq-default}
 use native.Mathlib.Omega.{arith}
 use mathlib.Core.Path.{_≡_, refl, ap, sym, _∙_}
