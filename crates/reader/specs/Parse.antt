@@ -18,6 +18,7 @@ use Rattle.kept.specs.Words.{stateIn, Taken}
 use Rattle.readstate.specs.Words.{HoldsWords}
 use Rattle.reader.specs.declared.Parsed.{Parsed}
 use Rattle.reader.specs.declared.Seen.{Seen}
+use Rattle.reader.specs.declared.Whole.{Whole}
 
 -- the answer for a text: its workload value, or the refusal's number and line with a value that no text gives
 unfoldable pub parsedAs : Outcome → Parsed
@@ -27,6 +28,11 @@ parsedAs (accepted lines) = record { work = valueOf lines; number = 0; line = 0 
 -- a count over cells that all hold the unused line
 abbrev pub unusedCells : ℕ → Workload
 unusedCells count = record { count = count; lines = replicate 1616 unusedLine }
+
+-- what the tests of the whole text settle: the refusal, or what the lines after the names line give
+abbrev pub wholeGives : List ℕ → Whole → Outcome
+wholeGives text (Whole.Refused number line) = refused number line
+wholeGives text (Whole.Lines place) = readLines [] (linesIn (drop place text))
 
 -- a line's number, 0 where there is none
 unfoldable pub lineOr : Option ℕ → ℕ

@@ -280,10 +280,10 @@ endsLine-none (b ∷ text) h = absurd (omega arith)
 
 -- ---- between two lines
 
-pub going-first : (text : List ℕ) (start line : ℕ) {w : Workload} {words : List ℕ} → line ≡ 2 → w ≡ unusedCells 0 → HoldsWords words []
-    → Going text start w words start line
+pub going-first : (text : List ℕ) (start : ℕ) {w : Workload} {words : List ℕ} → w ≡ unusedCells 0 → HoldsWords words []
+    → Going text start w words start 2
 unfolding valueOf
-going-first text start line e w h = record { before = []; work = w; holds = h; number = e; reads = refl }
+going-first text start w h = record { before = []; work = w; holds = h; number = refl; reads = refl }
 
 pub going-few : {text words : List ℕ} {start at line : ℕ} {w : Workload} → Going text start w words at line
     → (w .count ≤ 1616) × (line ≡ w .count + 2)

@@ -13,7 +13,7 @@ ghost use lib.Dec.{leb};
 ghost use lib.ListN.{length, drop};
 ghost use Rattle.text.specs.Text.{same, linesIn, lineOf, namesLine};
 ghost use Rattle.text.specs.Reading.{isAllowed, otherByte, endsLine, readLines, read};
-ghost use Rattle.reader.specs.Parse.{parsedAs, unusedCells, lineOr, lineBehindByte, Saw};
+ghost use Rattle.reader.specs.Parse.{parsedAs, unusedCells, wholeGives, lineOr, lineBehindByte, Saw};
 ghost use Rattle.text.specs.Reading.Outcome.{refused as Refused};
 
 // What a text gives: number 0 and its workload value, or a refusal's number and line with a value that no text gives (`noWorkload`).
@@ -21,6 +21,12 @@ pub struct Parsed {
     pub work: Workload,
     pub number: u8,
     pub line: u64,
+}
+
+// What the tests of the whole text give: a refusal's number and line, or the place after the names line.
+enum Whole {
+    Refused(u8, u64),
+    Lines(usize),
 }
 
 // What the bytes of a line give: number 0 and the line, or a fault's number.
@@ -177,15 +183,14 @@ fn see_bytes(words: &mut [u64], bytes: &[u8]) -> Seen
 }
 
 // Reads line after line from a place on, after the names line, up to a fault or the end, where no block may be open.
-fn read_lines(text: &[u8], start: usize, first: u64) -> Parsed
-    requires { ⌜ first ≡ 2 ⌝ }
+fn read_lines(text: &[u8], start: usize) -> Parsed
     ensures { λ r. ⌜ r ≡ parsedAs (readLines [] (linesIn (drop start (now (text .entry))))) ⌝ }
 {
     let mut w = unused_cells(0);
     let mut words = [0u64; 424];
     readstate::start(&mut words);
     let mut at = start;
-    let mut line = first;
+    let mut line: u64 = 2;
     loop {
         let Step::Line(span) = lines::line_from(text, at, line) else {
             break;
@@ -221,27 +226,38 @@ fn is_names(line: &[u8]) -> bool
     same_bytes(line, b"kind id rel to reads writes tests")
 }
 
-// Reads any text.
-pub fn read_text(text: &[u8]) -> Parsed
-    ensures { λ r. ⌜ r ≡ parsedAs (read (now (text .entry))) ⌝ }
+// Tests the whole text: its bytes, and its first line.
+fn whole_text(text: &[u8]) -> Whole
+    ensures { λ r. ⌜ wholeGives (now (text .entry)) r ≡ read (now (text .entry)) ⌝ }
 {
     if 32768 < text.len() {
-        return refused(1, 0);
+        return Whole::Refused(1, 0);
     }
     let other = other_byte(text);
     if other != 0 {
-        return refused(2, other);
+        return Whole::Refused(2, other);
     }
     if !ends_line(text) {
-        return refused(2, 0);
+        return Whole::Refused(2, 0);
     }
     let Step::Line(span) = lines::line_from(text, 0, 1) else {
-        return refused(3, 1);
+        return Whole::Refused(3, 1);
     };
     let begin = span.start;
     let end = span.end;
     if !is_names(&text[begin..end]) {
-        return refused(3, 1);
+        return Whole::Refused(3, 1);
     }
-    read_lines(text, span.next, span.behind)
+    Whole::Lines(span.next)
+}
+
+// Reads any text.
+pub fn read_text(text: &[u8]) -> Parsed
+    ensures { λ r. ⌜ r ≡ parsedAs (read (now (text .entry))) ⌝ }
+{
+    let whole = whole_text(text);
+    match whole {
+        Whole::Refused(number, line) => refused(number, line),
+        Whole::Lines(place) => read_lines(text, place),
+    }
 }

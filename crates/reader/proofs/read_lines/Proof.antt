@@ -15,10 +15,10 @@ use Rattle.reader.proofs.read_lines.Statement.{statement}
 use Rattle.reader.proofs.read_lines.Tie as tie
 
 abbrev Inv-loop : tie.InvT-loop
-Inv-loop text start first w₀ words₀ at₀ line₀ w words at line = (length words ≡ 424) × Going text start w words at line
+Inv-loop text start w₀ words₀ at₀ line₀ w words at line = (length words ≡ 424) × Going text start w words at line
 
 abbrev μ-loop : tie.MeasureT-loop
-μ-loop text start first w₀ words₀ at₀ line₀ w words at line = length text - at
+μ-loop text start w₀ words₀ at₀ line₀ w words at line = length text - at
 
 -- where the reader has come to a line
 came-at : (c : tie.After-known-told Inv-loop μ-loop)
@@ -41,7 +41,7 @@ start-requires c κs = search needs
 loop-holds : tie.Need-loop-holds Inv-loop μ-loop
 loop-holds c = (
   search needs,
-  going-first (c .before .before .before .before .before .args .text .now) (c .before .before .before .before .before .args .start) (c .before .before .before .before .before .args .first) (c .before .before .before .before .before .pre) (c .before .before .before .unused-cells .ensures)
+  going-first (c .before .before .before .before .before .args .text .now) (c .before .before .before .before .before .args .start) (c .before .before .before .unused-cells .ensures)
       (c .before .start .ensures .1 (omega (arith, length-replicate {A = ℕ} 424 0))),
 )
 
