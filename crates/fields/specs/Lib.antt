@@ -1,4 +1,5 @@
 pub mod Answer
+pub mod AnswerLaws
 pub mod DigitLaws
 pub mod Field
 pub mod FieldLaws

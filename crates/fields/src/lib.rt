@@ -9,7 +9,7 @@ ghost use Rattle.text.specs.declared.LineKind.the-variants.{St};
 ghost use Rattle.text.specs.Text.{lineOf, kindOf, numberOf, setOf, dashOf, fieldOf, formsOf};
 ghost use Rattle.fields.specs.Field.{hexadecimal, digitsFrom, digitsIn, fieldLength};
 ghost use Rattle.fields.specs.Field.{setIf, formsWith, stepAt, lineBehind};
-ghost use Rattle.fields.specs.Answer.{lineAnswer};
+ghost use Rattle.fields.specs.Answer.{lineAnswer, valueOr4};
 ghost use Rattle.fields.specs.Step.{fieldAnswer, kindAnswer, stepAnswer, formOf, formsFor, NumberStep};
 
 // The line that the bytes are, or that they are none.
@@ -278,7 +278,7 @@ fn line_fields(k: LineKind) -> Present
 
 // The line of a kind whose six fields stand behind its word, from the place where the word ends.
 fn line_behind(bytes: &[u8], at: usize, kind: LineKind) -> LineRead
-    ensures { λ r. ⌜ lineAnswer r ≡ lineBehind kind (drop at (now (bytes .entry))) ⌝ }
+    ensures { λ r. ⌜ lineAnswer r ≡ valueOr4 (lineBehind kind (drop at (now (bytes .entry)))) ⌝ }
 {
     let f = line_fields(kind);
     let Step::Value(id, id_end) = next_number(bytes, at, f.id) else {
@@ -315,7 +315,7 @@ fn line_behind(bytes: &[u8], at: usize, kind: LineKind) -> LineRead
 
 // The value line that the bytes are.
 pub fn line_of(bytes: &[u8]) -> LineRead
-    ensures { λ r. ⌜ lineAnswer r ≡ lineOf (now (bytes .entry)) ⌝ }
+    ensures { λ r. ⌜ lineAnswer r ≡ valueOr4 (lineOf (now (bytes .entry))) ⌝ }
 {
     let end = field_end(bytes, 0);
     let r = kind_of(&bytes[..end]);

@@ -1,17 +1,21 @@
--- Going through a text line after line, from any place, comes to all lines of what stands there, in their order.
+-- Going through a text line after line, from any place, comes to all lines of what stands there, in their order: at each step a reader
+-- comes to the first of them, and those left stand from the next place on.
 use mathlib.Core.Bool.{Bool, true, false, cond}
 use mathlib.Core.List.{List, [], _∷_}
-use mathlib.Core.Path.{_≡_, refl, sym, ap, _∙_}
+use mathlib.Core.Path.{_≡_, refl, sym, ap, subst, _∙_}
 use Prim.Native.Nat.{ℕ, zero, suc, _+_, _-_, _≤_, _<_}
 use native.Mathlib.Omega.{arith}
 use lib.Dec.{eqb, ltb}
-use lib.ListN.{length, take, drop, drop-of-length-le}
+use lib.ListN.{length, take, drop, length-drop, drop-of-length-le}
 use lib.Seq.{drop-cons, drop-drop}
-use borrow.Author.Tests.{ltb-true, ltb-false}
+use borrow.Author.Tests.{ltb-true, ltb-false, lt-ltb}
 use Rattle.text.specs.Text.{newline, onFirst, linesIn}
-use Rattle.lines.specs.Span.{lineLength, spanAt}
-use Rattle.lines.specs.Going.{goneThrough}
-use Rattle.lines.specs.SpanLaws.{line-found, line-none}
+use Rattle.lines.specs.declared.Span.{Span}
+use Rattle.lines.specs.declared.Step.{Step}
+use Rattle.lines.specs.declared.Step.the-variants.{Line as AtLine, End as AtEnd}
+use Rattle.lines.specs.Span.{lineLength, spanAt, lineAt}
+use Rattle.lines.specs.Going.{goneThrough, Came}
+use Rattle.lines.specs.SpanLaws.{line-within, line-found, line-none}
 
 -- the lines of a text with a byte: the first, and those of what follows it
 pub lines-cut : (b : ℕ) (rest : List ℕ)
@@ -54,11 +58,11 @@ module _ (text : List ℕ) (place : ℕ) (inside : place < length text) where
           let past : length text ≤ end = ltb-false end (length text) e in
           drop-of-length-le text past ∙ sym (drop-of-length-le text {i = place + suc (lineLength rest)} (omega arith))
 
-  -- and it is further on, or past the text
-  next-further : (steps : ℕ) → length text ≤ place + suc steps → length text ≤ next + steps
-  next-further steps h = go (ltb end (length text)) refl
+  -- and it is further on
+  next-further : place < next
+  next-further = go (ltb end (length text)) refl
     where
-      go : (t : Bool) → ltb end (length text) ≡ t → length text ≤ cond t (end + 1) end + steps
+      go : (t : Bool) → ltb end (length text) ≡ t → place < cond t (end + 1) end
       go true e = omega arith
       go false e = let past : length text ≤ end = ltb-false end (length text) e in omega arith
 
@@ -71,21 +75,57 @@ module _ (text : List ℕ) (place : ℕ) (inside : place < length text) where
       in
       rw (long, next-rest) (sym cut)
 
+  -- the line there is what a reader comes to
+  came-here : (line : ℕ) → Came text place line (spanAt text place line)
+  unfolding spanAt
+  came-here line =
+      record {
+        lines = sym lines-here;
+        starts = omega arith;
+        ends = omega (arith, line-within rest, length-drop place text);
+        inside = inside;
+        further = next-further;
+        number = λ less. ap (λ t. cond t (line + 1) line) (lt-ltb line 18446744073709551615 less);
+      }
+
+-- where a reader comes to a line
+pub came : (text : List ℕ) (place line : ℕ) {span : Span} → AtLine span ≡ lineAt text place line → Came text place line span
+came text place line {span} e = go (ltb place (length text)) refl
+  where
+    go : (t : Bool) → ltb place (length text) ≡ t → Came text place line span
+    go true h =
+        let inside : place < length text = ltb-true place (length text) h in
+        let found : AtLine (spanAt text place line) ≡ lineAt text place line = line-found text place line inside refl in
+        let same : spanAt text place line ≡ span = cc in
+        subst (Came text place line) same (came-here text place inside line)
+    go false h =
+        let none-there : AtEnd ≡ lineAt text place line = line-none text place line (ltb-false place (length text) h) in
+        let z : _≡_ {A = ℕ} 0 1 = cc in absurd (omega arith)
+
+-- where it comes to the end no line is left
+pub ended : (text : List ℕ) (place line : ℕ) → AtEnd ≡ lineAt text place line → linesIn (drop place text) ≡ []
+unfolding linesIn
+ended text place line e = go (ltb place (length text)) refl
+  where
+    go : (t : Bool) → ltb place (length text) ≡ t → linesIn (drop place text) ≡ []
+    go true h =
+        let found : AtLine (spanAt text place line) ≡ lineAt text place line =
+        line-found text place line (ltb-true place (length text) h) refl
+        in
+        let z : _≡_ {A = ℕ} 0 1 = cc in absurd (omega arith)
+    go false h = ap linesIn (drop-of-length-le text (ltb-false place (length text) h))
+
 -- as many steps as there are bytes left are enough
 pub gone-through : (steps : ℕ) (text : List ℕ) (place line : ℕ) → length text ≤ place + steps
     → goneThrough steps text place line ≡ linesIn (drop place text)
-unfolding goneThrough linesIn spanAt
+unfolding goneThrough linesIn
 gone-through zero text place line h = sym (ap linesIn (drop-of-length-le text {i = place} (omega arith)))
-gone-through (suc steps) text place line h = go (ltb place (length text)) refl (gone-through steps text)
+gone-through (suc steps) text place line h = go (lineAt text place line) refl (gone-through steps text)
   where
-    go : (t : Bool) → ltb place (length text) ≡ t
+    go : (s : Step) → s ≡ lineAt text place line
         → ((from number : ℕ) → length text ≤ from + steps → goneThrough steps text from number ≡ linesIn (drop from text))
         → goneThrough (suc steps) text place line ≡ linesIn (drop place text)
-    go true e more =
-        let inside : place < length text = ltb-true place (length text) e in
-        let span = spanAt text place line in
-        rw (← line-found text place line inside refl, goneThrough, more (span .next) (span .behind) (next-further text place inside steps h))
-        (lines-here text place inside)
-    go false e more =
-        let past : length text ≤ place = ltb-false place (length text) e in
-        rw (← line-none text place line past, goneThrough) (sym (ap linesIn (drop-of-length-le text past)))
+    go (AtLine span) e more =
+        let here = came text place line e in
+        rw (← e, goneThrough, more (span .next) (span .behind) (omega arith)) (sym (here .lines))
+    go AtEnd e more = rw (← e, goneThrough) (sym (ended text place line e))

@@ -1,10 +1,11 @@
 -- Where a line ends, byte by byte, and what stands behind it.
 use mathlib.Core.Path.{_≡_, sym, ap, _∙_}
-use mathlib.Core.Bool.{cond}
-use mathlib.Core.List.{List}
+use mathlib.Core.Bool.{Bool, true, false, cond}
+use mathlib.Core.List.{List, [], _∷_}
 use Prim.Native.Nat.{ℕ, suc, _+_, _≤_, _<_}
 use native.Mathlib.Omega.{arith}
 use native.Mathlib.Numerals.{add-one}
+use lib.Dec.{eqb}
 use lib.ListN.{length, getD, drop, drop-of-length-le}
 use lib.Seq.{drop-cons}
 use borrow.Author.Tests.{eq-eqb, ne-eqb, lt-ltb, le-ltb}
@@ -33,6 +34,17 @@ pub line-done : (text : List ℕ) (i : ℕ) → length text ≤ i → lineLength
 unfolding lineLength
 line-done text i h = ap lineLength (drop-of-length-le text h)
 
+-- a line ends within its text
+pub line-within : (text : List ℕ) → lineLength text ≤ length text
+unfolding lineLength
+line-within [] = omega arith
+line-within (b ∷ text) = go (eqb b newline) (line-within text)
+  where
+    go : (t : Bool) → lineLength text ≤ length text → cond t 0 (suc (lineLength text)) ≤ suc (length text)
+    go true less = omega arith
+    go false less = omega arith
+
+-- the line at a place, and that there is none
 pub line-found : (text : List ℕ) (place line : ℕ) {span : Span} → place < length text → span ≡ spanAt text place line
     → AtLine span ≡ lineAt text place line
 unfolding lineAt
@@ -42,20 +54,3 @@ line-found text place line h e =
 pub line-none : (text : List ℕ) (place line : ℕ) → length text ≤ place → AtEnd ≡ lineAt text place line
 unfolding lineAt
 line-none text place line h = sym (ap (λ t. pickStep t (AtLine (spanAt text place line)) AtEnd) (le-ltb place (length text) h))
-
-pub span-end : (text : List ℕ) (at line : ℕ) {span : Span} → span ≡ spanAt text at line → span .end ≡ at + lineLength (drop at text)
-unfolding spanAt
-span-end text at line e = ap (λ (x : Span). x .end) e
-
-pub span-past : (text : List ℕ) (at line : ℕ) {span : Span} → span ≡ spanAt text at line → span .end < length text → span .next ≡ span .end + 1
-unfolding spanAt
-span-past text at line {span} e h =
-    let end = span-end text at line e in
-    let here = at + lineLength (drop at text) in
-    ap (λ (x : Span). x .next) e
-    ∙ ap (λ t. cond t (here + 1) here) (lt-ltb here (length text) (omega arith))
-    ∙ ap (λ m. m + 1) (sym end)
-
-pub span-line : (text : List ℕ) (at line : ℕ) {span : Span} → span ≡ spanAt text at line → line < 65536 → span .behind ≡ line + 1
-unfolding spanAt
-span-line text at line e n = ap (λ (x : Span). x .behind) e ∙ ap (λ t. cond t (line + 1) line) (lt-ltb line 18446744073709551615 (omega arith))

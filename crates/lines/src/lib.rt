@@ -28,7 +28,7 @@ pub enum Step {
 }
 
 // Where the line that begins at a place ends: at the next 0A, or with the text.
-pub fn line_end(text: &[u8], at: usize) -> usize
+fn line_end(text: &[u8], at: usize) -> usize
     ensures { λ r. ⌜ r ≡ at + lineLength (drop at (now (text .entry))) ⌝ }
 {
     let mut i = at;
@@ -61,8 +61,8 @@ fn number_behind(line: u64) -> u64
     line
 }
 
-// The line that begins at a place: the one that the reader and the loop over all lines use.
-pub fn line_span(text: &[u8], place: usize, line: u64) -> Span
+// The line that begins at a place.
+fn line_span(text: &[u8], place: usize, line: u64) -> Span
     ensures { λ r. ⌜ r ≡ spanAt (now (text .entry)) place line ⌝ }
 {
     let end = line_end(text, place);
@@ -89,4 +89,11 @@ pub fn next_line<'a>(r: Reader<'a>) -> Step
     ensures { λ s. ⌜ s ≡ lineAt (now (r .entry .text)) (r .entry .place) (r .entry .line) ⌝ }
 {
     line_at(r.text, r.place, r.line)
+}
+
+// The line that a reader at a place of a text comes to, for callers with plain parameters: the reader is made here and passed on.
+pub fn line_from(text: &[u8], place: usize, line: u64) -> Step
+    ensures { λ s. ⌜ s ≡ lineAt (now (text .entry)) place line ⌝ }
+{
+    next_line(Reader { text, place, line })
 }

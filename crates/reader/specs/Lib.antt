@@ -1,2 +1,3 @@
 pub mod Parse
 pub mod ParseLaws
+pub mod RefusedLaws

@@ -1,17 +1,16 @@
 -- What reading a text answers, and the steps of the code that reads it.
-use mathlib.Core.Bool.{true, cond}
+use mathlib.Core.Bool.{cond}
 use mathlib.Core.List.{List, []}
-use mathlib.Core.Logic.{_⊎_}
 use mathlib.Core.Option.{Option, none, some}
 use mathlib.Core.Path.{_≡_}
 use Prim.Native.Nat.{ℕ, suc, _+_}
 use lib.Dec.{eqb}
-use lib.ListN.{length, drop}
+use lib.ListN.{length, drop, replicate}
 use Rattle.text.specs.declared.Line.{Line}
 use Rattle.text.specs.declared.Workload.{Workload}
-use Rattle.text.specs.Text.{newline, linesIn}
-use Rattle.text.specs.Value.{valueOf}
-use Rattle.text.specs.Reading.{Outcome, endsLine, readLines}
+use Rattle.text.specs.Text.{newline, linesIn, unusedLine}
+use Rattle.text.specs.Value.{valueOf, noWorkload}
+use Rattle.text.specs.Reading.{Outcome, readLines}
 use Rattle.text.specs.Reading.Outcome.{refused, accepted}
 use Rattle.kept.specs.Records.{State}
 use Rattle.kept.specs.Kept.{checkOf}
@@ -19,11 +18,21 @@ use Rattle.kept.specs.Words.{stateIn, Taken}
 use Rattle.readstate.specs.Words.{HoldsWords}
 use Rattle.reader.specs.declared.Parsed.{Parsed}
 use Rattle.reader.specs.declared.Seen.{Seen}
+use Rattle.reader.specs.declared.Whole.{Whole}
 
--- the answer for a text: its workload value, or the refusal's number and line with the empty workload
+-- the answer for a text: its workload value, or the refusal's number and line with a value that no text gives
 unfoldable pub parsedAs : Outcome → Parsed
-parsedAs (refused number line) = record { work = valueOf []; number = number; line = line }
+parsedAs (refused number line) = record { work = noWorkload; number = number; line = line }
 parsedAs (accepted lines) = record { work = valueOf lines; number = 0; line = 0 }
+
+-- a count over cells that all hold the unused line
+abbrev pub unusedCells : ℕ → Workload
+unusedCells count = record { count = count; lines = replicate 1616 unusedLine }
+
+-- what the tests of the whole text settle: the refusal, or what the lines after the names line give
+abbrev pub wholeGives : List ℕ → Whole → Outcome
+wholeGives text (Whole.Refused number line) = refused number line
+wholeGives text (Whole.Lines place) = readLines [] (linesIn (drop place text))
 
 -- a line's number, 0 where there is none
 unfoldable pub lineOr : Option ℕ → ℕ
@@ -45,13 +54,8 @@ pub record Saw (before : List ℕ) (o : Option Line) (after : List ℕ) (r : See
   pub value : r .number ≡ 0 → o ≡ some (r .line)
   pub taken : r .number ≡ 0 → Taken before (r .line) after
 
--- what follows a place ends a line, or is nothing
-abbrev pub EndsAt : List ℕ → ℕ → Type 0
-EndsAt text at = (endsLine (drop at text) ≡ true) ⊎ (drop at text ≡ [])
-
 -- between two lines: these were taken, the value and the words hold them, and what is read is what the lines left give behind them
 pub record Going (text : List ℕ) (start : ℕ) (w : Workload) (words : List ℕ) (at line : ℕ) : Type 0 where
-  pub ends : EndsAt text at
   pub before : List Line
   pub work : w ≡ valueOf before
   pub holds : HoldsWords words before

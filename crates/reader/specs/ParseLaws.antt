@@ -1,17 +1,15 @@
 -- The steps of the code that reads a text are those of `Reading`.
 use mathlib.Core.Path.{_≡_, refl, sym, ap, ap₂, subst, _∙_}
 use mathlib.Core.Bool.{Bool, true, false, cond, _&&_}
-use mathlib.Core.Bool as B
 use mathlib.Core.List.{List, [], _∷_, _++_, tail, headD, append-assoc}
-use mathlib.Core.Logic.{_⊎_, inl, inr}
 use mathlib.Core.Option.{Option, none, some}
 use Prim.Native.Nat.{ℕ, suc, _+_, _-_, _≤_, _<_}
 use native.Mathlib.Omega.{arith}
 use native.Mathlib.Numerals.{add-one}
-use native.Mathlib.Nat.{zero-add, not-suc-le-zero}
+use native.Mathlib.Nat.{not-suc-le-zero}
 use lib.Dec.{eqb}
-use lib.ListN.{length, getD, set, take, drop, replicate, length-append, drop-of-length-le, length-drop}
-use lib.Seq.{drop-cons, drop-drop, set-append-seam}
+use lib.ListN.{length, getD, set, drop, replicate, length-append, drop-of-length-le}
+use lib.Seq.{drop-cons, set-append-seam}
 use borrow.Author.Tests.{eq-eqb, ne-eqb, le-leb, lt-leb}
 use Rattle.text.specs.declared.Line.{Line}
 use Rattle.text.specs.declared.Workload.{Workload}
@@ -29,10 +27,8 @@ use Rattle.readstate.specs.WordsLaws.{words-take}
 use Rattle.reader.specs.declared.Parsed.{Parsed}
 use Rattle.reader.specs.declared.Seen.{Seen}
 use Rattle.lines.specs.declared.Span.{Span}
-use Rattle.lines.specs.Span.{lineLength, spanAt}
-use Rattle.lines.specs.SpanLaws.{span-past, span-line}
-use Rattle.lines.specs.GoingLaws.{lines-cut}
-use Rattle.reader.specs.Parse.{parsedAs, lineOr, lineBehindByte, numberOf, Saw, EndsAt, Going}
+use Rattle.lines.specs.Going.{bytesOf, Came}
+use Rattle.reader.specs.Parse.{parsedAs, unusedCells, lineOr, lineBehindByte, numberOf, Saw, Going}
 
 -- ---- bytes
 
@@ -105,48 +101,6 @@ endsLine-last (b ∷ c ∷ text) h =
     endsLine-last (c ∷ text) (omega arith)
     ∙ ap (λ j. eqb (getD (c ∷ text) j 0) newline) one-less
     ∙ sym (ap (λ j. eqb (getD (b ∷ c ∷ text) j 0) newline) one-more)
-
--- ---- lines
-
--- the first line of a text that ends a line ends within it
-line-ends : (text : List ℕ) → endsLine text ≡ true → lineLength text < length text
-unfolding lineLength endsLine
-line-ends [] h = absurd (B.false≢true h)
-line-ends (b ∷ []) h = rw h (omega arith)
-line-ends (b ∷ c ∷ text) h = go (eqb b newline) (line-ends (c ∷ text) h)
-  where
-    go : (t : Bool) → lineLength (c ∷ text) < suc (length text) → cond t 0 (suc (lineLength (c ∷ text))) < suc (suc (length text))
-    go true less = omega arith
-    go false less = omega arith
-
--- the lines of a text that ends a line: its first and those behind it
-pub lines-first : (text : List ℕ) → endsLine text ≡ true
-    → (linesIn text ≡ take (lineLength text) text ∷ linesIn (drop (suc (lineLength text)) text)) × (lineLength text < length text)
-unfolding endsLine
-lines-first [] h = absurd (B.false≢true h)
-lines-first (b ∷ text) h = (lines-cut b text, line-ends (b ∷ text) h)
-
--- what follows the first line ends a line too, or is nothing
-pub ends-behind : (text : List ℕ) → endsLine text ≡ true
-    → (endsLine (drop (suc (lineLength text)) text) ≡ true) ⊎ (drop (suc (lineLength text)) text ≡ [])
-unfolding lineLength endsLine
-ends-behind [] h = absurd (B.false≢true h)
-ends-behind (b ∷ []) h = go (eqb b newline) h
-  where
-    go : (t : Bool) → t ≡ true
-        → (endsLine (drop (suc (cond t 0 1)) (b ∷ [])) ≡ true) ⊎ (drop (suc (cond t 0 1)) (b ∷ []) ≡ [])
-    go true e = inr refl
-    go false e = absurd (B.false≢true e)
-ends-behind (b ∷ c ∷ text) h = go (eqb b newline) (ends-behind (c ∷ text) h)
-  where
-    rest : List ℕ
-    rest = c ∷ text
-
-    go : (t : Bool) → (endsLine (drop (suc (lineLength rest)) rest) ≡ true) ⊎ (drop (suc (lineLength rest)) rest ≡ [])
-        → (endsLine (drop (suc (cond t 0 (suc (lineLength rest)))) (b ∷ rest)) ≡ true)
-        ⊎ (drop (suc (cond t 0 (suc (lineLength rest)))) (b ∷ rest) ≡ [])
-    go true e = inl h
-    go false e = e
 
 -- ---- the same bytes
 
@@ -290,26 +244,33 @@ read-last text h o e = rw (le-leb (length text) 32768 h, read) (rw o (rw e))
 
 -- what is read where all tests of the whole text but the last pass
 read-lines : (text : List ℕ) (n : Bool) → length text ≤ 32768 → otherByte 1 text ≡ none → endsLine text ≡ true
-    → same (take (lineLength text) text) namesLine ≡ n
-    → read text ≡ elim n [ true ↦ readLines [] (linesIn (drop (suc (lineLength text)) text)) | false ↦ refused 3 1 ]
-unfolding read headD
+    → same (headD (linesIn text) []) namesLine ≡ n
+    → read text ≡ elim n [ true ↦ readLines [] (tail (linesIn text)) | false ↦ refused 3 1 ]
+unfolding read
 read-lines text n h o e q =
     rw (le-leb (length text) 32768 h, read)
-    (rw o
-    (rw e
-    (ap {B = Outcome} (λ t. elim (same (headD t []) namesLine) [ true ↦ readLines [] (tail t) | false ↦ refused 3 1 ]) (lines-first text e .0)
-    ∙ ap {B = Outcome} (λ t. elim t [ true ↦ readLines [] (linesIn (drop (suc (lineLength text)) text)) | false ↦ refused 3 1 ]) q)))
+    (rw o (rw e (ap {B = Outcome} (λ t. elim t [ true ↦ readLines [] (tail (linesIn text)) | false ↦ refused 3 1 ]) q)))
 
--- R3
-pub read-names : (text : List ℕ) → length text ≤ 32768 → otherByte 1 text ≡ none → endsLine text ≡ true
-    → same (take (lineLength text) text) namesLine ≡ false → read text ≡ refused 3 1
-read-names text h o e q = read-lines text false h o e q
+-- R3: the first line is no names line
+pub read-unnamed : (text : List ℕ) {bytes : List ℕ} {rest : List (List ℕ)} → length text ≤ 32768 → otherByte 1 text ≡ none → endsLine text ≡ true
+    → linesIn text ≡ bytes ∷ rest → same bytes namesLine ≡ false → read text ≡ refused 3 1
+unfolding headD
+read-unnamed text h o e q n = read-lines text false h o e (ap (λ (l : List (List ℕ)). same (headD l []) namesLine) q ∙ n)
 
--- the lines
-pub read-rest : (text : List ℕ) → length text ≤ 32768 → otherByte 1 text ≡ none → endsLine text ≡ true
-    → same (take (lineLength text) text) namesLine ≡ true
-    → read text ≡ readLines [] (linesIn (drop (suc (lineLength text)) text))
-read-rest text h o e q = read-lines text true h o e q
+-- R3: there is no line
+pub read-lineless : (text : List ℕ) → length text ≤ 32768 → otherByte 1 text ≡ none → endsLine text ≡ true → linesIn text ≡ []
+    → read text ≡ refused 3 1
+unfolding headD same namesLine
+read-lineless text h o e q = read-lines text false h o e (ap (λ (l : List (List ℕ)). same (headD l []) namesLine) q)
+
+-- the lines after the names line
+pub read-named : (text : List ℕ) {bytes : List ℕ} {rest : List (List ℕ)} → length text ≤ 32768 → otherByte 1 text ≡ none → endsLine text ≡ true
+    → linesIn text ≡ bytes ∷ rest → same bytes namesLine ≡ true → readLines [] rest ≡ read text
+unfolding headD tail
+read-named text h o e q n =
+    sym
+    (read-lines text true h o e (ap (λ (l : List (List ℕ)). same (headD l []) namesLine) q ∙ n)
+    ∙ ap (λ (l : List (List ℕ)). readLines [] (tail l)) q)
 
 -- a text with no byte ends no line
 pub endsLine-none : (text : List ℕ) → length text ≡ 0 → endsLine text ≡ false
@@ -317,62 +278,12 @@ unfolding endsLine
 endsLine-none [] h = refl
 endsLine-none (b ∷ text) h = absurd (omega arith)
 
--- the line at a place of a text: its bytes, and the lines behind it
-pub record LineAt (text : List ℕ) (at end : ℕ) : Type 0 where
-  pub lines : linesIn (drop at text) ≡ take (end - at) (drop at text) ∷ linesIn (drop (end + 1) text)
-  pub inside : end < length text
-  pub behind : EndsAt text (end + 1)
-
-pub line-at : (text : List ℕ) (at end : ℕ) → at < length text → EndsAt text at → end ≡ at + lineLength (drop at text) → LineAt text at end
-line-at text at end h (inr e) q = absurd (omega (arith, length-drop at text, ap length e))
-line-at text at end h (inl e) q =
-    let part = drop at text in
-    let n = lineLength part in
-    let t = lines-first part e in
-    let size = length-drop at text in
-    let inside = t .1 in
-    let taken : end - at ≡ n = omega arith in
-    let further : at + suc n ≡ end + 1 = omega arith in
-    let next : drop (suc n) part ≡ drop (end + 1) text = drop-drop (suc n) at text ∙ ap (λ j. drop j text) further in
-    record {
-      lines = t .0 ∙ ap₂ (λ (x : List ℕ) (y : List ℕ). x ∷ linesIn y) (ap (λ j. take j part) (sym taken)) next;
-      inside = omega arith;
-      behind = subst (λ d. (endsLine d ≡ true) ⊎ (d ≡ [])) next (ends-behind part e);
-    }
-
--- the whole text, where its first line is the names line
-pub read-whole : (text : List ℕ) (end : ℕ) → length text ≤ 32768 → otherByte 1 text ≡ none → endsLine text ≡ true
-    → end ≡ 0 + lineLength (drop 0 text) → same (take (end - 0) (drop 0 text)) namesLine ≡ true
-    → readLines [] (linesIn (drop (end + 1) text)) ≡ read text
-read-whole text end h o e q n =
-    let here : end ≡ lineLength text = q ∙ zero-add (lineLength text) in
-    let less : end - 0 ≡ lineLength text = omega arith in
-    let next : suc (lineLength text) ≡ end + 1 = omega arith in
-    let names = ap (λ j. same (take j text) namesLine) (sym less) ∙ n in
-    sym (read-rest text h o e names ∙ ap (λ j. readLines [] (linesIn (drop j text))) next)
-
-pub read-unnamed : (text : List ℕ) (end : ℕ) → length text ≤ 32768 → otherByte 1 text ≡ none → endsLine text ≡ true
-    → end ≡ 0 + lineLength (drop 0 text) → same (take (end - 0) (drop 0 text)) namesLine ≡ false → read text ≡ refused 3 1
-read-unnamed text end h o e q n =
-    let here : end ≡ lineLength text = q ∙ zero-add (lineLength text) in
-    let less : end - 0 ≡ lineLength text = omega arith in
-    read-names text h o e (ap (λ j. same (take j text) namesLine) (sym less) ∙ n)
-
--- the first line of a text that ends a line
-pub first-at : (text : List ℕ) (end : ℕ) → endsLine text ≡ true → end ≡ 0 + lineLength (drop 0 text) → LineAt text 0 end
-first-at text end e q = let inside = lines-first text e .1 in line-at text 0 end (omega arith) (inl e) q
-
 -- ---- between two lines
 
-pub going-first : (text : List ℕ) (start : ℕ) {w : Workload} {words : List ℕ} → EndsAt text start → w ≡ valueOf [] → HoldsWords words []
+pub going-first : (text : List ℕ) (start : ℕ) {w : Workload} {words : List ℕ} → w ≡ unusedCells 0 → HoldsWords words []
     → Going text start w words start 2
-going-first text start e w h = record { ends = e; before = []; work = w; holds = h; number = refl; reads = refl }
-
--- the line at hand
-pub going-here : {text words : List ℕ} {start at line : ℕ} {w : Workload} {span : Span} → Going text start w words at line → at < length text
-    → span ≡ spanAt text at line → LineAt text at (span .end)
-unfolding spanAt
-going-here {text} {at = at} {span = span} g h e = line-at text at (span .end) h (g .ends) (ap (λ (x : Span). x .end) e)
+unfolding valueOf
+going-first text start w h = record { before = []; work = w; holds = h; number = refl; reads = refl }
 
 pub going-few : {text words : List ℕ} {start at line : ℕ} {w : Workload} → Going text start w words at line
     → (w .count ≤ 1616) × (line ≡ w .count + 2)
@@ -382,16 +293,13 @@ going-few {words = words} g =
     let line = g .number in
     (omega (arith, few, same), omega (arith, line, same))
 
-pub going-refused : {text words after : List ℕ} {start at line : ℕ} {w : Workload} {r : Seen} {end : ℕ} → Going text start w words at line
-    → LineAt text at end → Saw words (lineOf (take (end - at) (drop at text))) after r → (r .number ≡ 0 → ⊥)
+pub going-refused : {text words after : List ℕ} {start at line : ℕ} {w : Workload} {r : Seen} {span : Span} → Going text start w words at line
+    → Came text at line span → Saw words (lineOf (bytesOf text span)) after r → (r .number ≡ 0 → ⊥)
     → refused (r .number) line ≡ readLines [] (linesIn (drop start text))
-going-refused {text} {words} {at = at} {r = r} {end = end} g here saw z =
+going-refused {text} {words} {r = r} {span = span} g here saw z =
     ap (refused (r .number)) (g .number)
     ∙ sym
-    (line-refused (g .before) (stateIn words) (r .number) (take (end - at) (drop at text)) (linesIn (drop (end + 1) text))
-    (g .holds .state)
-    (saw .number)
-    z)
+    (line-refused (g .before) (stateIn words) (r .number) (bytesOf text span) (linesIn (drop (span .next) text)) (g .holds .state) (saw .number) z)
     ∙ ap (readLines (g .before)) (sym (here .lines))
     ∙ g .reads
 
@@ -411,59 +319,55 @@ going-room {words = words} {after = after} {r = r} g saw z =
     omega (arith, few, same, length-append (g .before) (r .line ∷ []))
 
 pub going-next : {text words after : List ℕ} {start at line : ℕ} {w : Workload} {r : Seen} {span : Span} (g : Going text start w words at line)
-    → span ≡ spanAt text at line → LineAt text at (span .end)
-    → Saw words (lineOf (take (span .end - at) (drop at text))) after r → r .number ≡ 0
+    → Came text at line span → Saw words (lineOf (bytesOf text span)) after r → r .number ≡ 0
     → Going text start (record { count = w .count + 1; lines = set (w .lines) (w .count) (r .line) }) after (span .next) (span .behind)
-going-next {text} {words} {after} {start} {at} {line} {w} {r} {span} g e here saw z =
+going-next {text} {line = line} {w = w} {r = r} {span = span} g here saw z =
     let few = going-few g in
-    let next = span-past text at line e (here .inside) in
-    let numbers = span-line text at line e (omega (arith, few .0, few .1)) in
     let room = going-room g saw z in
     let same = ap (λ (x : Workload). x .count) (g .work) ∙ value-count (g .before) in
     record {
-      ends = subst (EndsAt text) (sym next) (here .behind);
       before = g .before ++ (r .line ∷ []);
       work =
           ap {B = Workload} (λ (x : Workload). record { count = x .count + 1; lines = set (x .lines) (x .count) (r .line) }) (g .work)
           ∙ appended-value (g .before) (r .line) (omega arith);
       holds = words-take (saw .taken z) (g .before) (g .holds) (passes g saw z);
-      number = numbers ∙ ap (λ m. m + 1) (g .number) ∙ omega (arith, length-append (g .before) (r .line ∷ []));
+      number =
+          here .number (omega (arith, few .0, few .1))
+          ∙ ap (λ m. m + 1) (g .number)
+          ∙ omega (arith, length-append (g .before) (r .line ∷ []));
       reads =
-          ap (λ p. readLines (g .before ++ (r .line ∷ [])) (linesIn (drop p text))) next
-          ∙ sym
-          (line-taken (g .before) (r .line) (take (span .end - at) (drop at text)) (linesIn (drop (span .end + 1) text))
-          (saw .value z)
-          (passes g saw z))
+          sym
+          (line-taken (g .before) (r .line) (bytesOf text span) (linesIn (drop (span .next) text)) (saw .value z) (passes g saw z))
           ∙ ap (readLines (g .before)) (sym (here .lines))
           ∙ g .reads;
     }
 
 -- behind the last line
-end-reads : (text : List ℕ) (at : ℕ) (before : List Line) → length text ≤ at
-    → readLines before (linesIn (drop at text)) ≡ elim (noneOpen before) [ true ↦ accepted before | false ↦ refused 7 (length before + 1) ]
-unfolding readLines linesIn
-end-reads text at before h = ap (λ d. readLines before (linesIn d)) (drop-of-length-le text h)
+end-reads : (before : List Line) {lines : List (List ℕ)} → lines ≡ []
+    → readLines before lines ≡ elim (noneOpen before) [ true ↦ accepted before | false ↦ refused 7 (length before + 1) ]
+unfolding readLines
+end-reads before h = ap (readLines before) h
 
-pub going-open : {text words : List ℕ} {start at line d : ℕ} {w : Workload} (g : Going text start w words at line) → length text ≤ at
+pub going-open : {text words : List ℕ} {start at line d : ℕ} {w : Workload} (g : Going text start w words at line) → linesIn (drop at text) ≡ []
     → ((lines : List Line) → HoldsWords words lines → noneOpen lines ≡ eqb d 0) → (d ≡ 0 → ⊥)
     → refused 7 (line - 1) ≡ readLines [] (linesIn (drop start text))
-going-open {text} {at = at} {line = line} {d = d} g h open-blocks z =
+going-open {line = line} {d = d} g h open-blocks z =
     let number = g .number in
     let less : line - 1 ≡ length (g .before) + 1 = omega arith in
     ap (refused 7) less
-    ∙ sym (end-reads text at (g .before) h
+    ∙ sym (end-reads (g .before) h
     ∙ ap {B = Outcome} (λ t. elim t [ true ↦ accepted (g .before) | false ↦ refused 7 (length (g .before) + 1) ])
     (open-blocks (g .before) (g .holds) ∙ ne-eqb d 0 z))
     ∙ g .reads
 
-pub going-closed : {text words : List ℕ} {start at line d : ℕ} {w : Workload} (g : Going text start w words at line) → length text ≤ at
+pub going-closed : {text words : List ℕ} {start at line d : ℕ} {w : Workload} (g : Going text start w words at line) → linesIn (drop at text) ≡ []
     → ((lines : List Line) → HoldsWords words lines → noneOpen lines ≡ eqb d 0) → d ≡ 0
     → _≡_ {A = Parsed} (record { work = w; number = 0; line = 0 }) (parsedAs (readLines [] (linesIn (drop start text))))
 unfolding parsedAs
-going-closed {text} {at = at} {d = d} g h open-blocks z =
+going-closed {d = d} g h open-blocks z =
     ap {B = Parsed} (λ (x : Workload). record { work = x; number = 0; line = 0 }) (g .work)
     ∙ ap parsedAs
-    (sym (end-reads text at (g .before) h
+    (sym (end-reads (g .before) h
     ∙ ap {B = Outcome} (λ t. elim t [ true ↦ accepted (g .before) | false ↦ refused 7 (length (g .before) + 1) ])
     (open-blocks (g .before) (g .holds) ∙ eq-eqb d 0 z))
     ∙ g .reads)

@@ -1,5 +1,6 @@
 // Reads any text: its workload value, or the refusal's number and line.
 use fields::LineRead;
+use lines::Step;
 use text::Line;
 use text::LineKind;
 use text::Workload;
@@ -12,15 +13,20 @@ ghost use lib.Dec.{leb};
 ghost use lib.ListN.{length, drop};
 ghost use Rattle.text.specs.Text.{same, linesIn, lineOf, namesLine};
 ghost use Rattle.text.specs.Reading.{isAllowed, otherByte, endsLine, readLines, read};
-ghost use Rattle.text.specs.Value.{valueOf};
-ghost use Rattle.reader.specs.Parse.{parsedAs, lineOr, lineBehindByte, Saw, EndsAt};
+ghost use Rattle.reader.specs.Parse.{parsedAs, unusedCells, wholeGives, lineOr, lineBehindByte, Saw};
 ghost use Rattle.text.specs.Reading.Outcome.{refused as Refused};
 
-// What a text gives: number 0 and its workload value, or a refusal's number and line with the empty workload.
+// What a text gives: number 0 and its workload value, or a refusal's number and line with a value that no text gives (`noWorkload`).
 pub struct Parsed {
     pub work: Workload,
     pub number: u8,
     pub line: u64,
+}
+
+// What the tests of the whole text give: a refusal's number and line, or the place after the names line.
+enum Whole {
+    Refused(u8, u64),
+    Lines(usize),
 }
 
 // What the bytes of a line give: number 0 and the line, or a fault's number.
@@ -113,8 +119,9 @@ fn same_bytes(a: &[u8], b: &[u8]) -> bool
     true
 }
 
-fn empty_workload() -> Workload
-    ensures { λ r. ⌜ r ≡ valueOf [] ⌝ }
+// A count over cells that all hold the unused line: 0 of no lines, 1617 of what no text gives.
+fn unused_cells(count: usize) -> Workload
+    ensures { λ r. ⌜ r ≡ unusedCells count ⌝ }
 {
     let e = Line {
         kind: LineKind::En,
@@ -126,7 +133,7 @@ fn empty_workload() -> Workload
         tests: 0,
     };
     Workload {
-        count: 0,
+        count,
         lines: [e; 1616],
     }
 }
@@ -135,7 +142,7 @@ fn refused(number: u8, line: u64) -> Parsed
     ensures { λ r. ⌜ r ≡ parsedAs (Refused number line) ⌝ }
 {
     Parsed {
-        work: empty_workload(),
+        work: unused_cells(1617),
         number,
         line,
     }
@@ -175,20 +182,22 @@ fn see_bytes(words: &mut [u64], bytes: &[u8]) -> Seen
     }
 }
 
-// Reads the lines from a place on, behind the names line, up to a fault or the end, where no block may be open.
+// Reads line after line from a place on, after the names line, up to a fault or the end, where no block may be open.
 fn read_lines(text: &[u8], start: usize) -> Parsed
-    requires { ⌜ EndsAt (now text) start ⌝ }
     ensures { λ r. ⌜ r ≡ parsedAs (readLines [] (linesIn (drop start (now (text .entry))))) ⌝ }
 {
-    let mut w = empty_workload();
+    let mut w = unused_cells(0);
     let mut words = [0u64; 424];
     readstate::start(&mut words);
     let mut at = start;
     let mut line: u64 = 2;
-    while at < text.len() {
-        let span = lines::line_span(text, at, line);
+    loop {
+        let Step::Line(span) = lines::line_from(text, at, line) else {
+            break;
+        };
+        let begin = span.start;
         let end = span.end;
-        let seen = see_bytes(&mut words, &text[at..end]);
+        let seen = see_bytes(&mut words, &text[begin..end]);
         let number = seen.number;
         if number != 0 {
             return refused(number, line);
@@ -217,23 +226,38 @@ fn is_names(line: &[u8]) -> bool
     same_bytes(line, b"kind id rel to reads writes tests")
 }
 
+// Tests the whole text: its bytes, and its first line.
+fn whole_text(text: &[u8]) -> Whole
+    ensures { λ r. ⌜ wholeGives (now (text .entry)) r ≡ read (now (text .entry)) ⌝ }
+{
+    if 32768 < text.len() {
+        return Whole::Refused(1, 0);
+    }
+    let other = other_byte(text);
+    if other != 0 {
+        return Whole::Refused(2, other);
+    }
+    if !ends_line(text) {
+        return Whole::Refused(2, 0);
+    }
+    let Step::Line(span) = lines::line_from(text, 0, 1) else {
+        return Whole::Refused(3, 1);
+    };
+    let begin = span.start;
+    let end = span.end;
+    if !is_names(&text[begin..end]) {
+        return Whole::Refused(3, 1);
+    }
+    Whole::Lines(span.next)
+}
+
 // Reads any text.
 pub fn read_text(text: &[u8]) -> Parsed
     ensures { λ r. ⌜ r ≡ parsedAs (read (now (text .entry))) ⌝ }
 {
-    if 32768 < text.len() {
-        return refused(1, 0);
+    let whole = whole_text(text);
+    match whole {
+        Whole::Refused(number, line) => refused(number, line),
+        Whole::Lines(place) => read_lines(text, place),
     }
-    let other = other_byte(text);
-    if other != 0 {
-        return refused(2, other);
-    }
-    if !ends_line(text) {
-        return refused(2, 0);
-    }
-    let end = lines::line_end(text, 0);
-    if !is_names(&text[0..end]) {
-        return refused(3, 1);
-    }
-    read_lines(text, end + 1)
 }

@@ -8,7 +8,8 @@ use lib.ListN.{length}
 use borrow.Author.Tests.{ltb-false}
 use Rattle.base.specs.BoolLaws.{or-false}
 use Rattle.text.specs.declared.Workload.{Workload}
-use Rattle.text.specs.Value.{Given, linesOf}
+use Rattle.text.specs.Value.{Given, linesOf, noWorkload}
+use Rattle.text.specs.NoWorkload.{no-workload}
 use Rattle.graph.specs.Unfolding.{nodesOf}
 use Rattle.report.specs.State.{StateRefusal, statementsIn, tooMany, refusalOf}
 use Rattle.report.specs.State.StateRefusal.{not-given, too-many, too-short, taken}
@@ -55,3 +56,22 @@ other-area room other e (not-given h) = not-given h
 other-area room other e (too-many g t) = too-many g t
 other-area room other e (too-short g t s) = absurd (false≢true (sym (room t) ∙ s))
 other-area room other e (taken g t s) = absurd (not-both e refl)
+
+-- ---- values that no text gives
+
+-- S21 comes first: whatever the areas, 21 and nothing else
+pub not-given-refused : {w : Workload} {short : Bool} {o : Option ℕ} → (Given w → ⊥) → StateRefusal w short o → o ≡ some 21
+not-given-refused never (not-given h) = refl
+not-given-refused never (too-many g t) = absurd (never g)
+not-given-refused never (too-short g t s) = absurd (never g)
+not-given-refused never (taken g t s) = absurd (never g)
+
+-- as the code answers it
+pub not-given-number : {w : Workload} {short : Bool} {n : ℕ} → (Given w → ⊥) → StateRefusal w short (refusalOf n) → n ≡ 21
+unfolding refusalOf
+not-given-number {n = zero} never r = absurd (not-both (not-given-refused never r) refl)
+not-given-number {n = suc n} never r = let is = not-given-refused never r in cc
+
+-- so what a refused text is read into is refused by every function over a workload value
+pub no-workload-refused : {short : Bool} {o : Option ℕ} → StateRefusal noWorkload short o → o ≡ some 21
+no-workload-refused r = not-given-refused no-workload r

@@ -6,3 +6,4 @@ pub mod Steps
 pub mod OwnLaws
 pub mod Stand
 pub mod Settled
+pub mod NotGiven

@@ -7,6 +7,7 @@ use Rattle.text.specs.Text.{Form, lineWith}
 use Rattle.fields.specs.Step.{stepAnswer, stepValue}
 use Rattle.fields.specs.Field.{formsWith, numberIf, setIf}
 use Rattle.fields.specs.Progress.{Progress, started, gone-on, gone-wrong, gone-over, gone-through}
+use Rattle.fields.specs.AnswerLaws.{answers}
 use Rattle.fields.specs.declared.Present.{Present}
 use Rattle.fields.specs.declared.Step.{Step}
 use Rattle.fields.proofs.line_behind.Statement.{statement}
@@ -154,7 +155,7 @@ enum-told : tie.Need-enum-told
 enum-told c = c .match .keys2
 
 returns : tie.Need-returns
-returns c = sym
+returns c = answers
     (gone-wrong (none-read (c .before .before .before))
     (sym (c .before .before .next-number .ensures .is)
     ∙ ap (stepAnswer (c .before .before .before .before .before .args .bytes .now)) (c .enum-told .given .1)))
@@ -169,7 +170,7 @@ enum-told-2 : tie.Need-enum-told-2
 enum-told-2 c = c .match2 .keys2
 
 returns-2 : tie.Need-returns-2
-returns-2 c = sym
+returns-2 c = answers
     (gone-wrong (id-read (c .before .before .before))
     (sym (c .before .before .next-number2 .ensures .is)
     ∙ ap (stepAnswer (start-id (c .before .before .before) .args .bytes .now)) (c .enum-told2 .given .1)))
@@ -184,7 +185,7 @@ enum-told-3 : tie.Need-enum-told-3
 enum-told-3 c = c .match3 .keys2
 
 returns-3 : tie.Need-returns-3
-returns-3 c = sym
+returns-3 c = answers
     (gone-wrong (rel-read (c .before .before .before))
     (sym (c .before .before .next-number3 .ensures .is)
     ∙ ap (stepAnswer (start-rel (c .before .before .before) .args .bytes .now)) (c .enum-told3 .given .1)))
@@ -199,7 +200,7 @@ enum-told-4 : tie.Need-enum-told-4
 enum-told-4 c = c .match4 .keys2
 
 returns-4 : tie.Need-returns-4
-returns-4 c = sym
+returns-4 c = answers
     (gone-wrong (to-read (c .before .before .before))
     (sym (c .before .before .next-set .ensures)
     ∙ ap (stepAnswer (start-to (c .before .before .before) .args .bytes .now)) (c .enum-told4 .given .1)))
@@ -214,7 +215,7 @@ enum-told-5 : tie.Need-enum-told-5
 enum-told-5 c = c .match5 .keys2
 
 returns-5 : tie.Need-returns-5
-returns-5 c = sym
+returns-5 c = answers
     (gone-wrong (reads-read (c .before .before .before))
     (sym (c .before .before .next-set2 .ensures)
     ∙ ap (stepAnswer (start-reads (c .before .before .before) .args .bytes .now)) (c .enum-told5 .given .1)))
@@ -229,14 +230,14 @@ enum-told-6 : tie.Need-enum-told-6
 enum-told-6 c = c .match6 .keys2
 
 returns-6 : tie.Need-returns-6
-returns-6 c = sym
+returns-6 c = answers
     (gone-wrong (writes-read (c .before .before .before))
     (sym (c .before .before .next-set3 .ensures)
     ∙ ap (stepAnswer (start-writes (c .before .before .before) .args .bytes .now)) (c .enum-told6 .given .1)))
 
 returns-7 : tie.Need-returns-7
 returns-7 c =
-    sym
+    answers
     (gone-over (start-tests (c .before) .args .bytes .now) (c .before .before .tests .given .0 .1 .0) (tests-read (c .before))
     (c .if1 .taken))
 
@@ -252,7 +253,7 @@ cast-t27 c = record { fits = to-small (before-to (before-reads (before-writes (c
 returns-8 : tie.Need-returns-8
 unfolding lineWith
 returns-8 c =
-    sym
+    answers
     (gone-through (start-tests (c .before) .args .bytes .now) (c .before .before .tests .given .0 .1 .0) (tests-read (c .before))
     (c .if1 .left))
 

@@ -3,6 +3,7 @@ use mathlib.Core.Path.{_≡_, ap, sym, _∙_}
 use native.Mathlib.Omega.{arith}
 use lib.Seq.{length-take-le}
 use borrow.Author.Needs.{needs}
+use Rattle.fields.specs.AnswerLaws.{answers}
 use Rattle.fields.specs.Step.{kindAnswer}
 use Rattle.fields.specs.Field.{fieldLength}
 use Rattle.fields.specs.FieldLaws.{length-field, line-none, line-some}
@@ -36,7 +37,7 @@ returns c = let bytes = c .before .before .before .before .before .before .befor
     in
     c .line-behind .ensures
     ∙ rw ends
-    (sym
+    (answers
     (line-some bytes
     (rw (← ends) (sym (c .before .before .before .before .kind-of .ensures) ∙ ap kindAnswer (c .before .before .r .given .1)))))
 
@@ -45,7 +46,7 @@ returns-2 c = let bytes = c .before .before .before .before .before .before .arg
     let ends : c .before .before .before .before .field-end .result ≡ fieldLength bytes =
     omega (arith, c .before .before .before .before .field-end .ensures)
     in
-    sym (line-none bytes (rw (← ends) (sym (c .before .before .kind-of .ensures) ∙ ap kindAnswer (c .enum-told .given .1))))
+    answers (line-none bytes (rw (← ends) (sym (c .before .before .kind-of .ensures) ∙ ap kindAnswer (c .enum-told .given .1))))
 
 pub line-of-spec : {M : Type 1} → statement M
 line-of-spec =

@@ -1,18 +1,18 @@
--- Between two lines the value and the words hold the lines taken, and reading on from here gives what the whole gives (`Going`): a line without
--- fault joins them (going-next), a fault is the answer (going-refused), and at the end only an open block is left to refuse (going-open,
--- going-closed).
-use Rattle.reader.specs.Parse.{parsedAs, EndsAt, Going}
-use Rattle.reader.specs.ParseLaws.{going-first, going-here, going-few, going-refused, going-room, going-next, going-open, going-closed}
-use Rattle.lines.specs.SpanLaws.{span-end, span-past}
-use mathlib.Core.Path.{_≡_, refl, sym, ap, _∙_}
+-- Each line that the reader comes to is the first of those left (`came`): a fault ends reading with its number, else the line is taken and
+-- those left stand from the next place on; where the reader comes to the end none is left (`ended`).
+use mathlib.Core.Path.{_≡_, sym, ap, _∙_}
+use mathlib.Core.List.{[]}
 use native.Mathlib.Omega.{arith}
-use Prim.Native.Nat.{ℕ, _+_, _-_}
-use lib.ListN.{length, length-replicate}
+use Prim.Native.Nat.{ℕ, _-_}
+use lib.ListN.{length, drop, length-replicate}
 use borrow.Author.Needs.{needs}
+use Rattle.text.specs.Text.{linesIn}
+use Rattle.lines.specs.Going.{Came}
+use Rattle.lines.specs.GoingLaws.{came, ended}
+use Rattle.reader.specs.Parse.{parsedAs, Going}
+use Rattle.reader.specs.ParseLaws.{going-first, going-few, going-refused, going-room, going-next, going-open, going-closed}
 use Rattle.reader.proofs.read_lines.Statement.{statement}
 use Rattle.reader.proofs.read_lines.Tie as tie
-use Rattle.reader.proofs.read_lines.Reads as reads
-use Rattle.reader.proofs.read_lines.Lts as lts
 
 abbrev Inv-loop : tie.InvT-loop
 Inv-loop text start w₀ words₀ at₀ line₀ w words at line = (length words ≡ 424) × Going text start w words at line
@@ -20,8 +20,17 @@ Inv-loop text start w₀ words₀ at₀ line₀ w words at line = (length words 
 abbrev μ-loop : tie.MeasureT-loop
 μ-loop text start w₀ words₀ at₀ line₀ w words at line = length text - at
 
-empty-workload-requires : tie.Need-empty-workload-requires Inv-loop μ-loop
-empty-workload-requires c κs = search needs
+-- where the reader has come to a line
+came-at : (c : tie.After-known-told Inv-loop μ-loop)
+    → Came (c .before .before .before .before .before .before .before .before .before .before .args .text .now) (c .before .before .before .before .loop .at) (c .before .before .before .before .loop .line) (c .before .span .given .0 .0)
+came-at c = came _ _ _ (sym (c .before .span .given .1) ∙ c .before .before .before .line-from .ensures)
+
+-- where it has come to the end
+ended-at : (c : tie.After-enum-told Inv-loop μ-loop) → linesIn (drop (c .before .before .before .loop .at) (c .before .before .before .before .before .before .before .before .before .args .text .now)) ≡ []
+ended-at c = ended _ _ _ (sym (c .enum-told .given .1) ∙ c .before .before .line-from .ensures)
+
+unused-cells-requires : tie.Need-unused-cells-requires Inv-loop μ-loop
+unused-cells-requires c κs = search needs
 
 slice-aggregate-start : tie.Need-slice-aggregate-start Inv-loop μ-loop
 slice-aggregate-start c = search needs
@@ -32,46 +41,30 @@ start-requires c κs = search needs
 loop-holds : tie.Need-loop-holds Inv-loop μ-loop
 loop-holds c = (
   search needs,
-  going-first (c .before .before .before .before .before .args .text .now)
-      (c .before .before .before .before .before .args .start) (c .before .before .before .before .before .pre)
-      (c .before .before .before .empty-workload .ensures) (c .before .start .ensures .1 (omega (arith, length-replicate {A = ℕ} 424 0))),
+  going-first (c .before .before .before .before .before .args .text .now) (c .before .before .before .before .before .args .start) (c .before .before .before .unused-cells .ensures)
+      (c .before .start .ensures .1 (omega (arith, length-replicate {A = ℕ} 424 0))),
 )
 
-line-span-requires : tie.Need-line-span-requires Inv-loop μ-loop
-line-span-requires c κs = search needs
+line-from-requires : tie.Need-line-from-requires Inv-loop μ-loop
+line-from-requires c κs = search needs
+
+enum-known-span : tie.Need-enum-known-span Inv-loop μ-loop
+enum-known-span c = search needs
+
+enum-told : tie.Need-enum-told Inv-loop μ-loop
+enum-told c = search needs
 
 slice-aggregate-see-bytes : tie.Need-slice-aggregate-see-bytes Inv-loop μ-loop
 slice-aggregate-see-bytes c = search needs
 
 sub-see-bytes : tie.Need-sub-see-bytes Inv-loop μ-loop
-sub-see-bytes c = omega (
-  arith,
-  (going-here (c .before .before .before .loop .inv .1) (c .before .before .loop-test .taken)
-      (c .before .line-span .ensures)) .inside,
-  span-end
-      (c .before .before .before .before .before .before .before .before .before .args .text .now) (c .before .before .before .loop .at)
-      (c .before .before .before .loop .line) (c .before .line-span .ensures),
-)
+sub-see-bytes c = came-at (c .before) .starts
 
 part-see-bytes-start : tie.Need-part-see-bytes-start Inv-loop μ-loop
-part-see-bytes-start c = omega (
-  arith,
-  (going-here (c .before .before .before .loop .inv .1) (c .before .before .loop-test .taken)
-      (c .before .line-span .ensures)) .inside,
-  span-end
-      (c .before .before .before .before .before .before .before .before .before .args .text .now) (c .before .before .before .loop .at)
-      (c .before .before .before .loop .line) (c .before .line-span .ensures),
-)
+part-see-bytes-start c = let here = came-at (c .before) in omega arith
 
 part-see-bytes-end : tie.Need-part-see-bytes-end Inv-loop μ-loop
-part-see-bytes-end c = omega (
-  arith,
-  (going-here (c .before .before .before .loop .inv .1) (c .before .before .loop-test .taken)
-      (c .before .line-span .ensures)) .inside,
-  span-end
-      (c .before .before .before .before .before .before .before .before .before .args .text .now) (c .before .before .before .loop .at)
-      (c .before .before .before .loop .line) (c .before .line-span .ensures),
-)
+part-see-bytes-end c = let here = came-at (c .before) in omega arith
 
 see-bytes-requires : tie.Need-see-bytes-requires Inv-loop μ-loop
 see-bytes-requires c κs = search needs
@@ -80,62 +73,27 @@ refused-requires : tie.Need-refused-requires Inv-loop μ-loop
 refused-requires c κs = search needs
 
 returns : tie.Need-returns Inv-loop μ-loop
-returns c = c .refused .ensures ∙ ap parsedAs
-    (going-refused (c .before .before .before .before .before .before .before .before .loop .inv .1)
-    (going-here (c .before .before .before .before .before .before .before .before .loop .inv .1)
-    (c .before .before .before .before .before .before .before .loop-test .taken)
-    (c .before .before .before .before .before .before .line-span .ensures)) (c .before .before .before .see-bytes .ensures)
-    (c .before .if1 .taken))
+returns c =
+    c .refused .ensures
+    ∙ ap parsedAs
+    (going-refused (c .before .before .before .before .before .before .before .before .before .before .loop .inv .1) (came-at (c .before .before .before .before .before .before)) (c .before .before .before .see-bytes .ensures) (c .before .if1 .taken))
 
 mul-l : tie.Need-mul-l Inv-loop μ-loop
-mul-l c = omega (
-  arith,
-  going-room (c .before .before .before .before .before .before .before .before .loop .inv .1)
-      (c .before .before .before .see-bytes .ensures) (c .before .if1 .left),
-)
+mul-l c = omega (arith, going-room (c .before .before .before .before .before .before .before .before .before .before .loop .inv .1) (c .before .before .before .see-bytes .ensures) (c .before .if1 .left))
 
 element-set-from-l : tie.Need-element-set-from-l Inv-loop μ-loop
-element-set-from-l c = omega (
-  arith,
-  going-room (c .before .before .before .before .before .before .before .before .loop .inv .1)
-      (c .before .before .before .see-bytes .ensures) (c .before .if1 .left),
-)
+element-set-from-l c = omega (arith, going-room (c .before .before .before .before .before .before .before .before .before .before .loop .inv .1) (c .before .before .before .see-bytes .ensures) (c .before .if1 .left))
 
 add-w : tie.Need-add-w Inv-loop μ-loop
-add-w c = omega (
-  arith,
-  going-room (c .before .before .before .before .before .before .before .before .loop .inv .1)
-      (c .before .before .before .see-bytes .ensures) (c .before .if1 .left),
-)
+add-w c = omega (arith, going-room (c .before .before .before .before .before .before .before .before .before .before .loop .inv .1) (c .before .before .before .see-bytes .ensures) (c .before .if1 .left))
 
 loop-less : tie.Need-loop-less Inv-loop μ-loop
-loop-less c = omega (
-  arith,
-  c .before .before .before .before .before .before .before .loop-test .taken,
-  span-end
-      (c .before .before .before .before .before .before .before .before .before .before .before .before .before .before .args .text .now)
-      (c .before .before .before .before .before .before .before .before .loop .at)
-      (c .before .before .before .before .before .before .before .before .loop .line)
-      (c .before .before .before .before .before .before .line-span .ensures),
-  span-past
-      (c .before .before .before .before .before .before .before .before .before .before .before .before .before .before .args .text .now)
-      (c .before .before .before .before .before .before .before .before .loop .at)
-      (c .before .before .before .before .before .before .before .before .loop .line)
-      (c .before .before .before .before .before .before .line-span .ensures)
-      ((going-here (c .before .before .before .before .before .before .before .before .loop .inv .1)
-      (c .before .before .before .before .before .before .before .loop-test .taken)
-      (c .before .before .before .before .before .before .line-span .ensures)) .inside),
-)
+loop-less c = let here = came-at (c .before .before .before .before .before .before) in omega arith
 
 loop-again : tie.Need-loop-again Inv-loop μ-loop
 loop-again c = (
   search needs,
-  going-next (c .before .before .before .before .before .before .before .before .loop .inv .1)
-      (c .before .before .before .before .before .before .line-span .ensures)
-      (going-here (c .before .before .before .before .before .before .before .before .loop .inv .1)
-      (c .before .before .before .before .before .before .before .loop-test .taken)
-      (c .before .before .before .before .before .before .line-span .ensures)) (c .before .before .before .see-bytes .ensures)
-      (c .before .if1 .left),
+  going-next (c .before .before .before .before .before .before .before .before .before .before .loop .inv .1) (came-at (c .before .before .before .before .before .before)) (c .before .before .before .see-bytes .ensures) (c .before .if1 .left),
 )
 
 slice-aggregate-depth : tie.Need-slice-aggregate-depth Inv-loop μ-loop
@@ -145,18 +103,18 @@ depth-requires : tie.Need-depth-requires Inv-loop μ-loop
 depth-requires c κs = search needs
 
 sub-refused : tie.Need-sub-refused Inv-loop μ-loop
-sub-refused c = omega (arith, going-few (c .before .before .before .before .loop .inv .1) .1)
+sub-refused c = omega (arith, going-few (c .before .before .before .before .before .before .loop .inv .1) .1)
 
 refused-requires-2 : tie.Need-refused-requires-2 Inv-loop μ-loop
 refused-requires-2 c κs = search needs
 
 returns-2 : tie.Need-returns-2 Inv-loop μ-loop
-returns-2 c = c .refused2 .ensures ∙ ap parsedAs (going-open (c .before .before .before .before .before .loop .inv .1)
-    (c .before .before .before .before .loop-test .left) (c .before .before .depth .ensures .1) (c .before .if2 .taken))
+returns-2 c =
+    c .refused2 .ensures
+    ∙ ap parsedAs (going-open (c .before .before .before .before .before .before .before .loop .inv .1) (ended-at (c .before .before .before .before)) (c .before .before .depth .ensures .1) (c .before .if2 .taken))
 
 returns-3 : tie.Need-returns-3 Inv-loop μ-loop
-returns-3 c = going-closed (c .before .before .before .before .loop .inv .1) (c .before .before .before .loop-test .left)
-    (c .before .depth .ensures .1) (c .if2 .left)
+returns-3 c = going-closed (c .before .before .before .before .before .before .loop .inv .1) (ended-at (c .before .before .before)) (c .before .depth .ensures .1) (c .if2 .left)
 
 pub read-lines-spec : {M : Type 1} → statement M
 read-lines-spec =
@@ -164,11 +122,13 @@ read-lines-spec =
     (tie.spec
     Inv-loop
     μ-loop
-    empty-workload-requires
+    unused-cells-requires
     slice-aggregate-start
     start-requires
     loop-holds
-    line-span-requires
+    line-from-requires
+    enum-known-span
+    enum-told
     slice-aggregate-see-bytes
     sub-see-bytes
     part-see-bytes-start

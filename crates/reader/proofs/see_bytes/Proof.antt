@@ -1,6 +1,9 @@
 -- Bytes that are a line are seen as `see_value` sees that line; bytes that are none have fault 4 (saw-wrong).
 use Rattle.reader.specs.ParseLaws.{saw-wrong}
-use mathlib.Core.Path.{refl}
+use mathlib.Core.Path.{refl, sym, ap, _∙_}
+use Rattle.text.specs.Text.{lineOf}
+use Rattle.fields.specs.Answer.{lineAnswer}
+use Rattle.fields.specs.AnswerLaws.{answered-value, answered-refusal}
 use borrow.Author.Needs.{needs}
 use Rattle.reader.proofs.see_bytes.Statement.{statement}
 use Rattle.reader.proofs.see_bytes.Tie as tie
@@ -23,13 +26,17 @@ same-length : tie.Need-same-length
 same-length c = search needs
 
 returns : tie.Need-returns
-returns c = rw (
-  ← c .before .before .before .before .before .before .before .line-of .ensures,
-  c .before .before .before .before .before .r .given .1,
-) (c .before .before .see-value .ensures)
+returns c =
+    let line = answered-value {o = lineOf (c .before .before .before .before .before .before .before .before .before .before .args .bytes .now)}
+    (ap lineAnswer (sym (c .before .before .before .before .before .r .given .1))
+    ∙ c .before .before .before .before .before .before .before .line-of .ensures)
+    in
+    rw line (c .before .before .see-value .ensures)
 
 returns-2 : tie.Need-returns-2
-returns-2 c = rw (← c .before .before .line-of .ensures, c .enum-told .given .1) (saw-wrong _ refl)
+returns-2 c =
+    let none-read = answered-refusal {o = lineOf (c .before .before .before .before .before .args .bytes .now)} (ap lineAnswer (sym (c .enum-told .given .1)) ∙ c .before .before .line-of .ensures) in
+    rw none-read (saw-wrong _ refl)
 
 pub see-bytes-spec : {M : Type 1} → statement M
 see-bytes-spec =
