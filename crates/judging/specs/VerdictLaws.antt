@@ -4,7 +4,7 @@ use mathlib.Core.List.{List, [], _∷_}
 use mathlib.Core.Logic.{_⊎_, inl, inr}
 use mathlib.Core.Option.{Option, none, some}
 use mathlib.Core.Path.{_≡_, refl, sym, ap, subst, _∙_}
-use Prim.Native.Nat.{ℕ, zero, suc, _*_, _/_, _≤_, _<_}
+use Prim.Native.Nat.{ℕ, suc, pred, _*_, _/_, _≤_, _<_}
 use native.Mathlib.Omega.{arith}
 use lib.Dec.{eqb}
 use lib.ListN.{length, take}
@@ -19,8 +19,9 @@ use Rattle.report.specs.State.StateRefusal.{too-short, taken}
 use Rattle.detector.specs.Table.{tableWalk, shownWalk, shownIn, Shown, Answered}
 use Rattle.detector.specs.ShowLaws.{shown-empty}
 use Rattle.rows.specs.declared.Rows.{Rows}
+use Rattle.rows.specs.declared.Rows.the-variants.{Refused}
 use Rattle.rows.specs.Rows.{RowsSettled}
-use Rattle.rows.specs.Whole.{Whole, whole-refused, whole-filled}
+use Rattle.rows.specs.Whole.{Whole, number-some, whole-refused}
 use Rattle.picking.specs.declared.PickedEdges.{PickedEdges}
 use Rattle.picking.specs.Picks.{picksOf}
 use Rattle.deciding.specs.Verdict.{PickedVerdict, given-picked}
@@ -111,39 +112,37 @@ module _ (w : Workload) (given : Given w) (few : tooMany (linesOf w) ≡ false) 
           rw (same, no-step) word
 
 -- a refusal of the table of places is the verdict's
-pub judged-rows : (w : Workload) (table : List ℕ) (f : Rows) (filled before : List ℕ) (r : Verdict) → RowsSettled w table f filled
-    → length table ≡ 4096 → (f .refusal ≡ 0 → ⊥) → r ≡ refusedWith (f .refusal) → Judged w before r before
-judged-rows w table f filled before r settled long ne e = go (f .refusal) refl
-  where
-    go : (n : ℕ) → f .refusal ≡ n → Judged w before r before
-    go zero z = absurd (ne z)
-    go (suc n) z =
-        judged-refused w before r n (whole-refused w table f filled settled long n (shortForWalk (length before / 4)) z) (e ∙ ap refusedWith z)
+pub judged-rows : (w : Workload) (table : List ℕ) (f : Rows) (filled before : List ℕ) (r : Verdict) (n : ℕ) → RowsSettled w table f filled
+    → f ≡ Refused n → r ≡ refusedWith n → Judged w before r before
+judged-rows w table f filled before r n settled e same =
+    let refusal = whole-refused (shortForWalk (length before / 4)) settled e in
+    let d = number-some refl refusal in
+    let m : n ≡ suc (pred n) = omega arith in
+    judged-refused w before r (pred n) (subst (λ (k : ℕ). StateRefusal w (shortForWalk (length before / 4)) (some k)) m refusal) (same ∙ ap refusedWith m)
 
 -- S20: an area under 65 steps, which is tested behind 21 and 22
-pub judged-short : (w : Workload) (table : List ℕ) (f : Rows) (filled before : List ℕ) (r : Verdict) → RowsSettled w table f filled
-    → length table ≡ 4096 → f .refusal ≡ 0 → length before < 260 → r ≡ refusedWith 20 → Judged w before r before
+pub judged-short : (w : Workload) (programs nodes places : ℕ) (filled before : List ℕ) (r : Verdict) → Whole w programs nodes places filled
+    → length before < 260 → r ≡ refusedWith 20 → Judged w before r before
 unfolding shortForWalk
-judged-short w table f filled before r settled long z short e =
-    let whole = whole-filled w table f filled settled long z in
+judged-short w programs nodes places filled before r whole short e =
     judged-refused w before r 19 (too-short (whole .given) (whole .few) (lt-ltb (length before / 4) 65 (omega arith))) e
 
 -- the counts told are the workload's
-counts-same : (w : Workload) (f : Rows) (table : List ℕ) (p : PickedEdges) → Whole w f table → PickedVerdict (linesOf w) p
-    → (steps : ℕ) → told (f .programs) (f .nodes) (p .edges) (p .back) steps ≡ toldOf (countsOf (linesOf w)) steps
+counts-same : (w : Workload) (programs nodes places : ℕ) (table : List ℕ) (p : PickedEdges) → Whole w programs nodes places table
+    → PickedVerdict (linesOf w) p → (steps : ℕ) → told programs nodes (p .edges) (p .back) steps ≡ toldOf (countsOf (linesOf w)) steps
 unfolding countsOf
-counts-same w f table p whole picked steps = rw (whole .programs, whole .nodes, picked .edges, picked .back) refl
+counts-same w programs nodes places table p whole picked steps =
+    rw (whole .programs-are, whole .nodes-are, picked .edges, picked .back) refl
 
 -- what is picked from the table, and the walk that is found in it, are the verdict
-pub judged-picked : (w : Workload) (table : List ℕ) (f : Rows) (filled before after : List ℕ) (p : PickedEdges) (walk : WalkFound) (r : Verdict)
-    → RowsSettled w table f filled → length table ≡ 4096 → f .refusal ≡ 0 → 260 ≤ length before
-    → p ≡ picksOf (take (f .places * 8) filled) → Answered (p .ahead) (p .behind) before after walk
-    → r ≡ told (f .programs) (f .nodes) (p .edges) (p .back) (walk .steps) → Judged w before r after
+pub judged-picked : (w : Workload) (programs nodes places : ℕ) (filled before after : List ℕ) (p : PickedEdges) (walk : WalkFound) (r : Verdict)
+    → Whole w programs nodes places filled → 260 ≤ length before
+    → p ≡ picksOf (take (places * 8) filled) → Answered (p .ahead) (p .behind) before after walk
+    → r ≡ told programs nodes (p .edges) (p .back) (walk .steps) → Judged w before r after
 unfolding shortForWalk
-judged-picked w table f filled before after p walk r settled long z room picked answered e =
-    let whole = whole-filled w table f filled settled long z in
+judged-picked w programs nodes places filled before after p walk r whole room picked answered e =
     let verdict = given-picked w p (whole .given) (whole .few) (picked ∙ ap picksOf (whole .rows)) in
     subst (λ (v : Verdict). Judged w before v after)
-    (sym (e ∙ counts-same w f filled p whole verdict (walk .steps)))
+    (sym (e ∙ counts-same w programs nodes places filled p whole verdict (walk .steps)))
     (judged-given w (whole .given) (whole .few) before (p .ahead) (p .behind) (le-ltb (length before / 4) 65 (omega arith)) (verdict .verdict)
     after (walk .steps) (answered .shown))

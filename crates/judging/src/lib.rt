@@ -33,14 +33,14 @@ fn refused(number: u8) -> Verdict
 }
 
 // The verdict without a refusal: danger where the shown walk has a step.
-fn judged(f: Rows, edges: u64, back: u64, steps: usize) -> Verdict
-    ensures { λ r. ⌜ r ≡ told (f .programs) (f .nodes) edges back steps ⌝ }
+fn judged(programs: u64, nodes: u64, edges: u64, back: u64, steps: usize) -> Verdict
+    ensures { λ r. ⌜ r ≡ told programs nodes edges back steps ⌝ }
 {
     Verdict {
         refusal: 0,
         danger: steps != 0,
-        programs: f.programs,
-        nodes: f.nodes,
+        programs: programs,
+        nodes: nodes,
         edges: edges,
         back: back,
         steps: steps as u64,
@@ -54,17 +54,24 @@ pub fn verdict_of(w: Workload, area: &mut [u64]) -> Verdict
 {
     let mut table = [0u64; 4096];
     let f = rows::fill_rows(w, &mut table);
-    let refusal = f.refusal;
-    if refusal != 0 {
-        return refused(refusal);
+    match f {
+        Rows::Refused(number) => {
+            return refused(number);
+        }
+        Rows::Filled {
+            programs,
+            nodes,
+            places,
+        } => {
+            if area.len() < 260 {
+                return refused(20);
+            }
+            let n = (places * 8) as usize;
+            let p = picking::pick_edges(&table[..n]);
+            let ahead = p.ahead;
+            let behind = p.behind;
+            let walk = detector::find_walk(&ahead, &behind, area);
+            return judged(programs, nodes, p.edges, p.back, walk.steps);
+        }
     }
-    if area.len() < 260 {
-        return refused(20);
-    }
-    let n = (f.places * 8) as usize;
-    let p = picking::pick_edges(&table[..n]);
-    let ahead = p.ahead;
-    let behind = p.behind;
-    let walk = detector::find_walk(&ahead, &behind, area);
-    judged(f, p.edges, p.back, walk.steps)
 }
