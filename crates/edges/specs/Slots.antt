@@ -1,12 +1,12 @@
 -- Slots: each row of a table has 1024 slots, two for each row that an edge of it can enter, the forward edge's first.
 -- So a slot's rows and flow are told without dividing by the number of rows. Slots past the table's last row stay empty.
-use mathlib.Core.Bool.{Bool, true, false, cond, _&&_}
+use mathlib.Core.Bool.{Bool, cond, _&&_}
 use mathlib.Core.Option.{Option, none, some}
-use mathlib.Core.List.{List, _++_, map}
+use mathlib.Core.List.{List}
 use mathlib.Core.Path.{_≡_}
 use Prim.Native.Nat.{ℕ, zero, suc, _+_, _-_, _*_, _/_, _%_, _<_}
-use lib.Dec.{eqb, ltb, leb}
-use lib.ListN.{length, drop}
+use lib.Dec.{eqb, ltb}
+use lib.ListN.{length}
 use Rattle.base.specs.Basic.{count}
 use Rattle.graph.specs.Graph as G
 use Rattle.graph.specs.Edge as E
@@ -15,6 +15,7 @@ use Rattle.tables.specs.Table.{rowAt, rowCount, rowStands, rowEdge, tableRows, 
 use Rattle.edges.specs.declared.Edge.{Edge}
 use Rattle.edges.specs.declared.Counts.{Counts}
 use Rattle.edges.specs.declared.Found.{Found}
+use Rattle.edges.specs.declared.Found.the-variants.{There, Absent}
 
 -- ---- what the answers stand for
 
@@ -44,13 +45,10 @@ coded e = record {
   letter = letterByte (e .letter);
 }
 
--- E5: one edge asked for by its number; where there is none, all numbers are 0 and flow and letter are the first ones
-abbrev pub noEdge : Edge
-noEdge = record { node = 0; leaves = 0; into = 0; enters = 0; sharing = 0; lowest = 0; flow = 0x66; letter = 0x41 }
-
+-- E5: one edge asked for by its number, or that there is none
 unfoldable pub foundAs : Option E.Edge → Found
-foundAs none = record { found = false; edge = noEdge }
-foundAs (some e) = record { found = true; edge = coded e }
+foundAs none = Absent
+foundAs (some e) = There (coded e)
 
 -- the edges of a table, and how many they are
 unfoldable pub tableEdges : List ℕ → List E.Edge
@@ -58,10 +56,6 @@ tableEdges table = edgesOfRows (tableRows table)
 
 unfoldable pub tableCounts : List ℕ → Counts
 tableCounts table = record { edges = length (tableEdges table); back = count (λ e. G.isBack (e .flow)) (tableEdges table) }
-
--- edges put at the front of an area that has room for them; one that is too short stays as it is
-unfoldable pub putInto : List E.Edge → List Edge → List Edge
-putInto edges area = cond (leb (length edges) (length area)) (map coded edges ++ drop (length edges) area) area
 
 -- ---- slots
 

@@ -3,7 +3,7 @@
 
 ghost use mathlib.Core.Path.{_≡_};
 ghost use Prim.Native.Nat.{_+_, _*_, _<_};
-ghost use Rattle.edges.specs.Slots.{noEdge, tableCounts, one, countsBelow, CountedTo};
+ghost use Rattle.edges.specs.Slots.{tableCounts, one, countsBelow, CountedTo};
 use fetching::row_at;
 use fetching::row_count;
 use standing::back_stands;
@@ -23,32 +23,16 @@ pub struct Edge {
     pub letter: u8,
 }
 
-// The edge asked for, if there is one; else what `no_edge` gives.
-pub struct Found {
-    pub found: bool,
-    pub edge: Edge,
+// The edge asked for, or that there is none.
+pub enum Found {
+    There(Edge),
+    Absent,
 }
 
 // How many edges there are, and how many of them are back edges.
 pub struct Counts {
     pub edges: usize,
     pub back: usize,
-}
-
-// What stands for no edge: all numbers are 0, flow and letter are the first ones.
-pub fn no_edge() -> Edge
-    ensures { λ r. ⌜ r ≡ noEdge ⌝ }
-{
-    Edge {
-        node: 0,
-        leaves: 0,
-        into: 0,
-        enters: 0,
-        sharing: 0,
-        lowest: 0,
-        flow: b'f',
-        letter: b'A',
-    }
 }
 
 // One where an edge stands.

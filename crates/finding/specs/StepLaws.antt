@@ -21,6 +21,7 @@ use Rattle.tables.specs.declared.Row.{Row}
 use Rattle.tables.specs.Table.{rowAt, rowCount, rowStands, rowLetter, rowEdge}
 use Rattle.tables.specs.TableLaws.{onesIn-ones}
 use Rattle.finding.specs.declared.EdgeStep.{EdgeStep}
+use Rattle.edges.specs.declared.Found.{Found}
 use Rattle.edges.specs.Slots.{flowByte, coded, foundAs, tableEdges, slots, leftRow, rightRow}
 use Rattle.edges.specs.Slots.{standsAt, slotEdge, edgeAt, nextFrom, nextSlot, one, edgesBelow}
 use Rattle.finding.specs.Steps.{edgeFrom, letterIn, stands, sharedIn, byteIn, nothingTo, stepIn, Looked}
@@ -45,9 +46,8 @@ pub step-made : (x flow : ℕ) (p q : Row) (l : Option E.Letter) (m b : ℕ)
     → m < 2 ^ 64
     → _≡_ {A = EdgeStep}
     (record {
-      found = true;
       slot = x;
-      edge = record {
+      found = Found.There (record {
         node = p .node;
         leaves = p .place;
         into = q .node;
@@ -56,15 +56,14 @@ pub step-made : (x flow : ℕ) (p q : Row) (l : Option E.Letter) (m b : ℕ)
         lowest = trailingZeros 64 m;
         flow = flow;
         letter = b;
-      };
+      });
     })
     (stepIn x flow p q l)
 unfolding stepIn sharedIn
 step-made x flow p q none m b there e f small = absurd (true-false there refl)
 step-made x flow p q (some l) m b there e f small = λ i. record {
-  found = true;
   slot = x;
-  edge = record {
+  found = Found.There (record {
     node = p .node;
     leaves = p .place;
     into = q .node;
@@ -73,7 +72,7 @@ step-made x flow p q (some l) m b there e f small = λ i. record {
     lowest = trailingZeros 64 (e i);
     flow = flow;
     letter = f i;
-  };
+  });
 }
 
 pub step-none : (x flow : ℕ) (p q : Row) (l : Option E.Letter) → stands l ≡ false → nothingTo (x + 1) ≡ stepIn x flow p q l
@@ -152,10 +151,10 @@ module _ (table : List ℕ) where
   -- ---- the first edge from a slot on
 
   pub edge-here : (x : ℕ) → x < slots table → standsAt table x ≡ true
-      → _≡_ {A = EdgeStep} (record { found = true; slot = x; edge = edgeAt table x }) (edgeFrom table x)
+      → _≡_ {A = EdgeStep} (record { slot = x; found = Found.There (edgeAt table x) }) (edgeFrom table x)
   unfolding edgeFrom edgeAt foundAs
   edge-here x h e =
-      ap₂ (λ (a : Option E.Edge) (s : ℕ). record { found = foundAs a .found; slot = s; edge = foundAs a .edge })
+      ap₂ (λ (a : Option E.Edge) (s : ℕ). record { slot = s; found = foundAs a })
       (sym (number-here x h e)) (sym (next-here x h e))
 
   pub edge-skip : (x y : ℕ) → x ≤ y → y ≤ slots table → ((z : ℕ) → x ≤ z → z < y → standsAt table z ≡ false)
@@ -164,8 +163,7 @@ module _ (table : List ℕ) where
   edge-skip x y l m empty =
       let s : x + (y - x) ≡ y = omega arith in
       let none : Empty x (y - x) = λ z a b. empty z a (omega arith) in
-      ap₂ (λ (k s : ℕ). let answer = foundAs (getElem? (tableEdges table) k) in
-      record { found = answer .found; slot = s; edge = answer .edge })
+      ap₂ (λ (k s : ℕ). record { slot = s; found = foundAs (getElem? (tableEdges table) k) })
       (ap (edgesBelow table) (sym s) ∙ below-same x (y - x) none)
       (ap (nextSlot table) (sym s) ∙ sym (next-skip x (y - x) (omega arith) none))
 
@@ -176,7 +174,7 @@ module _ (table : List ℕ) where
       let m = below-more (slots table) (x - slots table) in
       let e = ap (edgesBelow table) s in
       let a = below-all in
-      ap₂ (λ (a : Option E.Edge) (s : ℕ). record { found = foundAs a .found; slot = s; edge = foundAs a .edge })
+      ap₂ (λ (a : Option E.Edge) (s : ℕ). record { slot = s; found = foundAs a })
       (sym (getElem?-past (tableEdges table) (edgesBelow table x) (omega arith))) (sym (next-end x h))
 
   -- ---- looking at a slot
@@ -238,7 +236,7 @@ module _ (table : List ℕ) where
               → Looked table x (stepIn x (flowByte flow) (leftRow table x) (rightRow table x)
               (cond b (some (rowLetter flow (leftRow table x) (rightRow table x))) none))
           go true t = record {
-            here = λ u. ap (λ (e : _). record { found = true; slot = x; edge = e }) f ∙ edge-here x (within left) t;
+            here = λ u. ap (λ (e : _). record { slot = x; found = Found.There e }) f ∙ edge-here x (within left) t;
             later = λ u. absurd (true-false refl u);
           }
           go false t =

@@ -10,7 +10,8 @@ use Rattle.graph.specs.Graph as G
 use Rattle.graph.specs.Edge as E
 use Rattle.tables.specs.declared.Row.{Row}
 use Rattle.tables.specs.Table.{rowStands, rowLetter, rowShared}
-use Rattle.edges.specs.Slots.{letterByte, noEdge, foundAs, tableEdges, edgesBelow, nextSlot}
+use Rattle.edges.specs.declared.Found.{Found}
+use Rattle.edges.specs.Slots.{letterByte, foundAs, tableEdges, edgesBelow, nextSlot}
 use Rattle.finding.specs.declared.Letter.{Letter}
 use Rattle.finding.specs.declared.Letter.the-variants.{A, B, C, D, E, Absent}
 use Rattle.finding.specs.declared.EdgeStep.{EdgeStep}
@@ -18,9 +19,7 @@ use Rattle.finding.specs.declared.EdgeStep.{EdgeStep}
 -- E5: the first edge from slot x on. Its number is how many edges stand in the slots before; its slot is the first in which one stands,
 -- or the number of slots.
 unfoldable pub edgeFrom : List ℕ → ℕ → EdgeStep
-edgeFrom table x =
-    let answer = foundAs (getElem? (tableEdges table) (edgesBelow table x)) in
-    record { found = answer .found; slot = nextSlot table x; edge = answer .edge }
+edgeFrom table x = record { slot = nextSlot table x; found = foundAs (getElem? (tableEdges table) (edgesBelow table x)) }
 
 -- the letter that a code names, if it names one
 abbrev pub letterMeant : Letter → Option E.Letter
@@ -50,15 +49,14 @@ byteIn (some l) = letterByte l
 
 -- no edge so far: slot x is the next to look at
 abbrev pub nothingTo : ℕ → EdgeStep
-nothingTo x = record { found = false; slot = x; edge = noEdge }
+nothingTo x = record { slot = x; found = Found.Absent }
 
 -- the edge in slot x with this byte for its flow and this letter, if it has one
 unfoldable pub stepIn : ℕ → ℕ → Row → Row → Option E.Letter → EdgeStep
 stepIn x flow p q none = nothingTo (x + 1)
 stepIn x flow p q (some l) = record {
-  found = true;
   slot = x;
-  edge = record {
+  found = Found.There (record {
     node = p .node;
     leaves = p .place;
     into = q .node;
@@ -67,10 +65,15 @@ stepIn x flow p q (some l) = record {
     lowest = trailingZeros 64 (rowShared l p q);
     flow = flow;
     letter = letterByte l;
-  };
+  });
 }
+
+-- an edge is found
+abbrev pub isThere : Found → Bool
+isThere (Found.There e) = true
+isThere Found.Absent = false
 
 -- from slot x on: the answer, or a later slot with the same answer
 pub record Looked (table : List ℕ) (x : ℕ) (r : EdgeStep) : Type 0 where
-  pub here : r .found ≡ true → r ≡ edgeFrom table x
-  pub later : r .found ≡ false → (x < r .slot) × (edgeFrom table (r .slot) ≡ edgeFrom table x)
+  pub here : isThere (r .found) ≡ true → r ≡ edgeFrom table x
+  pub later : isThere (r .found) ≡ false → (x < r .slot) × (edgeFrom table (r .slot) ≡ edgeFrom table x)

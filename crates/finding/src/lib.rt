@@ -6,9 +6,9 @@ ghost use mathlib.Core.Bool.{not};
 ghost use Prim.Native.Nat.{_<_};
 ghost use lib.Dec.{eqb};
 ghost use Rattle.graph.specs.Graph as G;
-ghost use Rattle.finding.specs.Steps.{letterMeant, letterIn, stands, sharedIn, byteIn, nothingTo, stepIn, edgeFrom, Looked};
+ghost use Rattle.finding.specs.Steps.{letterMeant, letterIn, stands, sharedIn, byteIn, nothingTo, stepIn, isThere, edgeFrom, Looked};
 use edges::Edge;
-use edges::no_edge;
+use edges::Found;
 use fetching::row_at;
 use fetching::row_count;
 use standing::back_stands;
@@ -29,11 +29,10 @@ enum Letter {
     Absent,
 }
 
-// The first edge from some slot on, and its slot; where there is none, what `no_edge` gives and the number of slots.
+// The first edge from some slot on, and its slot; where there is none, the number of slots.
 pub struct EdgeStep {
-    pub found: bool,
     pub slot: usize,
-    pub edge: Edge,
+    pub found: Found,
 }
 
 // Whether two rows are of two relations: no edge stands between them. Most pairs of rows differ there.
@@ -127,12 +126,8 @@ fn letter_byte(l: Letter) -> u8
 fn nothing_to(slot: usize) -> EdgeStep
     ensures { λ r. ⌜ r ≡ nothingTo slot ⌝ }
 {
-    let edge = no_edge();
-    EdgeStep {
-        found: false,
-        slot,
-        edge,
-    }
+    let found = Found::Absent;
+    EdgeStep { slot, found }
 }
 
 // The edge between two rows with this flow and letter, in its slot. There are 524288 slots: 512 rows of 1024.
@@ -153,11 +148,8 @@ fn step_with(slot: usize, flow: u8, l: Letter, p: Row, q: Row) -> EdgeStep
             flow,
             letter,
         };
-        return EdgeStep {
-            found: true,
-            slot,
-            edge,
-        };
+        let found = Found::There(edge);
+        return EdgeStep { slot, found };
     }
     nothing_to(slot + 1)
 }
@@ -190,6 +182,17 @@ fn look_at(table: &[u64], slot: usize) -> EdgeStep
     step_with(slot, b'b', l, p, q)
 }
 
+// Whether a step has found an edge.
+fn is_found(step: EdgeStep) -> bool
+    ensures { λ r. ⌜ r ≡ isThere (step .found) ⌝ }
+{
+    let found = step.found;
+    match found {
+        Found::There(_) => true,
+        Found::Absent => false,
+    }
+}
+
 // The first edge from a slot on: from 0, and from behind each edge's slot, it gives all edges of a table in order.
 pub fn edge_from(table: &[u64], from: usize) -> EdgeStep
     ensures { λ r. ⌜ r ≡ edgeFrom (now (table .entry)) from ⌝ }
@@ -197,7 +200,7 @@ pub fn edge_from(table: &[u64], from: usize) -> EdgeStep
     let mut x = from;
     while x < 524288 {
         let step = look_at(table, x);
-        if step.found {
+        if is_found(step) {
             return step;
         }
         x = step.slot;

@@ -23,13 +23,15 @@ pub enum Verdict {
     Refused(u8),
 }
 
-// The answer for what the search for a walk found.
-fn judged(f: Rows, edges: u64, back: u64, found: WalkFound) -> Verdict
-    ensures { λ r. ⌜ told r ≡ toldFor (counted (f .programs) (f .nodes) edges back) found ⌝ }
+// The verdict without a refusal: danger where the shown walk has a step.
+fn judged(programs: u64, nodes: u64, edges: u64, back: u64, steps: usize) -> Verdict
+    ensures { λ r. ⌜ r ≡ told programs nodes edges back steps ⌝ }
 {
-    let counts = Totals {
-        programs: f.programs,
-        nodes: f.nodes,
+    Verdict {
+        refusal: 0,
+        danger: steps != 0,
+        programs: programs,
+        nodes: nodes,
         edges: edges,
         back: back,
     };
@@ -47,14 +49,24 @@ pub fn verdict_of(w: Workload, area: &mut [u64]) -> Verdict
 {
     let mut table = [0u64; 4096];
     let f = rows::fill_rows(w, &mut table);
-    let refusal = f.refusal;
-    if refusal != 0 {
-        return Verdict::Refused(refusal);
+    match f {
+        Rows::Refused(number) => {
+            return refused(number);
+        }
+        Rows::Filled {
+            programs,
+            nodes,
+            places,
+        } => {
+            if area.len() < 260 {
+                return refused(20);
+            }
+            let n = (places * 8) as usize;
+            let p = picking::pick_edges(&table[..n]);
+            let ahead = p.ahead;
+            let behind = p.behind;
+            let walk = detector::find_walk(&ahead, &behind, area);
+            return judged(programs, nodes, p.edges, p.back, walk.steps);
+        }
     }
-    let n = (f.places * 8) as usize;
-    let p = picking::pick_edges(&table[..n]);
-    let ahead = p.ahead;
-    let behind = p.behind;
-    let found = detector::find_walk(&ahead, &behind, area);
-    judged(f, p.edges, p.back, found)
 }

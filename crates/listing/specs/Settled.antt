@@ -1,6 +1,7 @@
 -- What the open functions promise for every workload value.
-use mathlib.Core.Bool.{true, false}
+use mathlib.Core.Bool.{false}
 use mathlib.Core.List.{List, _++_, map}
+use mathlib.Core.Logic.{_⊎_, inl, inr}
 use mathlib.Core.Option.{Option, none, some}
 use mathlib.Core.Path.{_≡_}
 use Prim.Native.Nat.{ℕ}
@@ -9,9 +10,11 @@ use Rattle.text.specs.declared.Workload.{Workload}
 use Rattle.text.specs.Value.{linesOf}
 use Rattle.graph.specs.Unfolding.{nodesOf}
 use Rattle.graph.specs.Edge as E
-use Rattle.report.specs.State.{StateRefusal, countsOf, shortForEdges, refusalOf}
+use Rattle.report.specs.State.{StateRefusal, countsOf, shortForEdges}
 use Rattle.edges.specs.declared.Edge.{Edge}
-use Rattle.edges.specs.Slots.{coded, noEdge}
+use Rattle.edges.specs.Slots.{coded}
+use Rattle.putting.specs.declared.Put.{Put}
+use Rattle.putting.specs.Put.{putSaid}
 use Rattle.listing.specs.declared.EdgeCounts.{EdgeCounts}
 use Rattle.listing.specs.declared.EdgeAnswer.{EdgeAnswer}
 
@@ -19,32 +22,30 @@ use Rattle.listing.specs.declared.EdgeAnswer.{EdgeAnswer}
 abbrev pub edgesIn : Workload → List E.Edge
 edgesIn w = E.edgesOf (nodesOf (linesOf w))
 
--- a refusal gives its number alone
-unfoldable pub countsRefused : ℕ → EdgeCounts
-countsRefused number = record { refusal = number; edges = 0; back = 0 }
+-- N3: what the answers say: a refusal's number, or how many edges there are and how many of them are back edges
+unfoldable pub countsSaid : EdgeCounts → ℕ ⊎ (ℕ × ℕ)
+countsSaid (EdgeCounts.Refused number) = inl number
+countsSaid (EdgeCounts.Counted edges back) = inr (edges, back)
 
-unfoldable pub edgeRefused : ℕ → EdgeAnswer
-edgeRefused number = record { refusal = number; found = false; edge = noEdge }
-
--- an edge asked for by its number: the edge, or that there is none
-unfoldable pub edgeTold : Option E.Edge → EdgeAnswer
-edgeTold none = record { refusal = 0; found = false; edge = noEdge }
-edgeTold (some e) = record { refusal = 0; found = true; edge = coded e }
+-- N3: a refusal's number, or the edge asked for, if there is one
+unfoldable pub edgeSaid : EdgeAnswer → ℕ ⊎ Option Edge
+edgeSaid (EdgeAnswer.Refused number) = inl number
+edgeSaid (EdgeAnswer.There edge) = inr (some edge)
+edgeSaid EdgeAnswer.Absent = inr none
 
 -- S21 or S22, else the edges and the back edges counted (P1)
-pub record CountsSettled (w : Workload) (r : EdgeCounts) : Type 0 where
-  pub refusal : StateRefusal w false (refusalOf (r .refusal))
-  pub refused : (n : ℕ) → refusalOf (r .refusal) ≡ some n → r ≡ countsRefused n
-  pub counted : refusalOf (r .refusal) ≡ none → (r .edges ≡ countsOf (linesOf w) .edges) × (r .back ≡ countsOf (linesOf w) .back)
+pub data CountsSettled (w : Workload) (r : EdgeCounts) : Type 0 where
+  refused : (n : ℕ) → StateRefusal w false (some n) → countsSaid r ≡ inl n → CountsSettled w r
+  counted : StateRefusal w false none → countsSaid r ≡ inr (countsOf (linesOf w) .edges, countsOf (linesOf w) .back) → CountsSettled w r
 
 -- S21 or S22, else edge number k in the order of E5, or that there is none
-pub record EdgeSettled (w : Workload) (k : ℕ) (r : EdgeAnswer) : Type 0 where
-  pub refusal : StateRefusal w false (refusalOf (r .refusal))
-  pub refused : (n : ℕ) → refusalOf (r .refusal) ≡ some n → r ≡ edgeRefused n
-  pub told : refusalOf (r .refusal) ≡ none → r ≡ edgeTold (getElem? (edgesIn w) k)
+pub data EdgeSettled (w : Workload) (k : ℕ) (r : EdgeAnswer) : Type 0 where
+  refused : (n : ℕ) → StateRefusal w false (some n) → edgeSaid r ≡ inl n → EdgeSettled w k r
+  told : StateRefusal w false none → edgeSaid r ≡ inr (getElem? (map coded (edgesIn w)) k) → EdgeSettled w k r
 
--- S21, S22 or S20, which leave the area; else the edges stand at the area's front, and the rest of it is as it was (E5, E6)
-pub record PutSettled (w : Workload) (before : List Edge) (r : ℕ) (after : List Edge) : Type 0 where
-  pub refusal : StateRefusal w (shortForEdges (linesOf w) (length before)) (refusalOf r)
-  pub refused : (n : ℕ) → refusalOf r ≡ some n → after ≡ before
-  pub put : refusalOf r ≡ none → after ≡ map coded (edgesIn w) ++ drop (length (edgesIn w)) before
+-- S21, S22 or S20, which leave the area; else the edges stand at the area's front, as many as are told, and the rest of it is as it was (E5, E6)
+pub data PutSettled (w : Workload) (before : List Edge) (r : Put) (after : List Edge) : Type 0 where
+  refused : (n : ℕ) → StateRefusal w (shortForEdges (linesOf w) (length before)) (some n) → putSaid r ≡ inl n → after ≡ before
+      → PutSettled w before r after
+  put : StateRefusal w (shortForEdges (linesOf w) (length before)) none → putSaid r ≡ inr (length (edgesIn w))
+      → after ≡ map coded (edgesIn w) ++ drop (length (edgesIn w)) before → PutSettled w before r after

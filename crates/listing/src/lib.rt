@@ -1,27 +1,29 @@
 // The edges of any workload value: counted, told one by one, or put into the caller's list.
 
 use edges::Edge;
+use edges::Found;
 use edges::count_edges;
-use edges::no_edge;
+use putting::Put;
 use putting::edge_of_number;
 use putting::put_edges;
+use rows::Rows;
 use rows::fill_rows;
 use text::Workload;
+ghost use mathlib.Core.Path.{_≡_};
 ghost use Rattle.listing.specs.Settled.{CountsSettled, EdgeSettled, PutSettled};
-ghost use Rattle.listing.specs.Steps.{TabledFor, PreparedFor};
+ghost use Rattle.listing.specs.Steps.{TabledFor, answerWith};
 
-// The number of the refusal, or 0 and how many edges there are, and how many of them are back edges.
-pub struct EdgeCounts {
-    pub refusal: u8,
-    pub edges: u64,
-    pub back: u64,
+// How many edges there are, and how many of them are back edges; or the number of the refusal.
+pub enum EdgeCounts {
+    Counted { edges: u64, back: u64 },
+    Refused(u8),
 }
 
-// The number of the refusal, or 0 and the edge asked for, if there is one; else what `no_edge` gives.
-pub struct EdgeAnswer {
-    pub refusal: u8,
-    pub found: bool,
-    pub edge: Edge,
+// The edge asked for, or that there is none; or the number of the refusal.
+pub enum EdgeAnswer {
+    There(Edge),
+    Absent,
+    Refused(u8),
 }
 
 // A workload's table: the number of the refusal, or 0; the words of the table that count.
@@ -37,18 +39,26 @@ fn tabled(w: Workload) -> Prepared
 {
     let mut table = [0u64; 4096];
     let r = fill_rows(w, &mut table);
-    if r.refusal != 0 {
-        return Prepared {
-            refusal: r.refusal,
-            words: 0,
-            table: table,
-        };
-    }
-    let n = (r.places * 8) as usize;
-    Prepared {
-        refusal: 0,
-        words: n,
-        table: table,
+    match r {
+        Rows::Refused(number) => {
+            return Prepared {
+                refusal: number,
+                words: 0,
+                table: table,
+            };
+        }
+        Rows::Filled {
+            programs: _,
+            nodes: _,
+            places,
+        } => {
+            let n = (places * 8) as usize;
+            return Prepared {
+                refusal: 0,
+                words: n,
+                table: table,
+            };
+        }
     }
 }
 
@@ -58,17 +68,12 @@ pub fn edge_counts(w: Workload) -> EdgeCounts
 {
     let t = tabled(w);
     if t.refusal != 0 {
-        return EdgeCounts {
-            refusal: t.refusal,
-            edges: 0,
-            back: 0,
-        };
+        return EdgeCounts::Refused(t.refusal);
     }
     let n = t.words;
     let table = t.table;
     let c = count_edges(&table[..n]);
-    EdgeCounts {
-        refusal: 0,
+    EdgeCounts::Counted {
         edges: c.edges as u64,
         back: c.back as u64,
     }
@@ -80,52 +85,39 @@ pub fn edge_number(w: Workload, k: u64) -> EdgeAnswer
 {
     let t = tabled(w);
     if t.refusal != 0 {
-        let none = no_edge();
-        return EdgeAnswer {
-            refusal: t.refusal,
-            found: false,
-            edge: none,
-        };
+        return EdgeAnswer::Refused(t.refusal);
     }
     let n = t.words;
     let table = t.table;
     let f = edge_of_number(&table[..n], k as usize);
-    let e = f.edge;
-    EdgeAnswer {
-        refusal: 0,
-        found: f.found,
-        edge: e,
+    match f {
+        Found::There(e) => {
+            return EdgeAnswer::There(e);
+        }
+        Found::Absent => {
+            return EdgeAnswer::Absent;
+        }
     }
 }
 
-// The table of a workload whose edges have room, or the refusal and no words of the table.
-fn prepare(w: Workload, room: usize) -> Prepared
-    ensures { λ r. ⌜ PreparedFor w room r ⌝ }
+// The refusal of a workload, if there is one; else what became of its edges.
+fn put_answer(refusal: u8, put: Put) -> Put
+    ensures { λ r. ⌜ r ≡ answerWith refusal put ⌝ }
 {
-    let t = tabled(w);
-    if t.refusal != 0 {
-        return t;
+    if refusal != 0 {
+        return Put::Refused(refusal);
     }
-    let n = t.words;
-    let table = t.table;
-    let c = count_edges(&table[..n]);
-    if room < c.edges {
-        return Prepared {
-            refusal: 20,
-            words: 0,
-            table: table,
-        };
-    }
-    t
+    put
 }
 
-// Puts the edges of a workload at the front of an area; the rest of the area stays as it was. A refusal leaves all of it.
-pub fn put_workload_edges<'a>(w: Workload, out: &'a mut [Edge]) -> u8
+// Puts the edges of a workload at the front of an area; the rest of the area stays as it was. A refusal leaves all of it: the table of a
+// workload that is refused has no words, so no edges are put.
+pub fn put_workload_edges<'a>(w: Workload, out: &'a mut [Edge]) -> Put
     ensures { λ r. ⌜ PutSettled w (now (out .entry)) r (now (out .exit)) ⌝ }
 {
-    let p = prepare(w, out.len());
-    let n = p.words;
-    let table = p.table;
-    let _count = put_edges(&table[..n], out);
-    p.refusal
+    let t = tabled(w);
+    let n = t.words;
+    let table = t.table;
+    let put = put_edges(&table[..n], out);
+    put_answer(t.refusal, put)
 }

@@ -1,15 +1,18 @@
 -- Edges by their numbers, and edges put into a list.
 use mathlib.Core.Path.{_≡_}
 use mathlib.Core.Bool.{cond}
+use mathlib.Core.Logic.{_⊎_, inl, inr}
 use mathlib.Core.Option.{some}
 use mathlib.Core.List.{List, _++_, map}
-use Prim.Native.Nat.{ℕ, _+_, _<_}
-use lib.Dec.{leb}
+use Prim.Native.Nat.{ℕ, _+_, _≤_, _<_}
+use lib.Dec.{eqb, leb}
 use lib.ListN.{length, take, drop, getElem?}
 use Rattle.graph.specs.Edge as E
 use Rattle.edges.specs.declared.Edge.{Edge}
-use Rattle.finding.specs.declared.EdgeStep.{EdgeStep}
-use Rattle.edges.specs.Slots.{coded, tableEdges, putInto, edgesBelow}
+use Rattle.putting.specs.declared.Next.{Next}
+use Rattle.putting.specs.declared.Put.{Put}
+use Rattle.putting.specs.declared.Put.the-variants.{All, Refused}
+use Rattle.edges.specs.Slots.{coded, tableEdges, edgesBelow}
 
 -- E5: all edges of a table, as the code holds them
 abbrev pub records : List ℕ → List Edge
@@ -21,7 +24,7 @@ pub record Ahead (table : List ℕ) (k x : ℕ) : Type 0 where
   pub there : k < length (tableEdges table)
 
 -- the step tells edge number k, and a slot behind which the edges with higher numbers stand
-pub record Numbered (table : List ℕ) (k : ℕ) (step : EdgeStep) : Type 0 where
+pub record Numbered (table : List ℕ) (k : ℕ) (step : Next) : Type 0 where
   pub edge : getElem? (records table) k ≡ some (step .edge)
   pub behind : edgesBelow table (step .slot + 1) ≡ k + 1
   pub few : step .slot < 524288
@@ -34,7 +37,17 @@ fittingIn n room = cond (leb n room) n 0
 abbrev pub putFirst : List Edge → List Edge → ℕ → List Edge
 putFirst list area k = take k list ++ drop k area
 
--- edges put into an area: how many there are, and the area afterwards
-pub record PutAs (edges : List E.Edge) (area : List Edge) (count : ℕ) (after : List Edge) : Type 0 where
-  pub counted : count ≡ length edges
-  pub put : after ≡ putInto edges area
+-- the answer where n of all edges are put
+unfoldable pub answerFor : ℕ → ℕ → Put
+answerFor total n = cond (eqb n total) (All total) (Refused 20)
+
+-- N3: what the answer says: a refusal's number, or how many edges are put
+unfoldable pub putSaid : Put → ℕ ⊎ ℕ
+putSaid (Refused number) = inl number
+putSaid (All count) = inr count
+
+-- S20: an area shorter than the edges is left as it was; else they stand at its front, and the rest of it is as it was (E5, E6)
+pub data PutAs (edges : List E.Edge) (area : List Edge) (r : Put) (after : List Edge) : Type 0 where
+  short : length area < length edges → putSaid r ≡ inl 20 → after ≡ area → PutAs edges area r after
+  put : length edges ≤ length area → putSaid r ≡ inr (length edges) → after ≡ map coded edges ++ drop (length edges) area
+      → PutAs edges area r after

@@ -5,28 +5,28 @@ use mathlib.Core.Option.{some}
 use mathlib.Core.Path.{_≡_, refl, ap, subst, _∙_}
 use Prim.Native.Nat.{ℕ, _+_, _*_, _-_, _/_, _≤_, _<_}
 use native.Mathlib.Omega.{arith}
-use lib.Dec.{ltb}
 use lib.ListN.{length, getD, getElem?, take, drop, replicate, length-take, length-map, List·getD-append}
-use borrow.Author.Tests.{lt-ltb, le-ltb}
+use borrow.Author.Tests.{le-ltb}
 use Rattle.base.specs.ListLaws.{getElem?-lt, getElem?-member, getElem?-map-some}
 use Rattle.text.specs.declared.Line.{Line}
 use Rattle.text.specs.declared.Workload.{Workload}
 use Rattle.text.specs.Value.{Given, linesOf}
 use Rattle.reading.specs.ValueLaws.{given-read, given-fits, given-cells}
 use Rattle.graph.specs.Unfolding.{Node, nodesOf}
-use Rattle.report.specs.State.{StateRefusal, statementsIn, tooMany, shortForUnfoldings, refusalOf}
-use Rattle.report.specs.State.StateRefusal.{too-short, taken}
+use Rattle.report.specs.State.{StateRefusal, statementsIn, tooMany, shortForUnfoldings}
+use Rattle.report.specs.State.StateRefusal.{taken}
 use Rattle.tables.specs.Table.{rowsOf, tableOf}
 use Rattle.unfolder.specs.declared.Unfolded.{Unfolded}
-use Rattle.unfolder.specs.Result.{cells, nodesTold}
-use Rattle.unfolder.specs.Settled.{PlacesSettled}
-use Rattle.unfolder.specs.Stand.{PlacesStand, places-stand}
-use Rattle.report.specs.Refusals.{refusal-some, refusal-none, same-number, not-both, places-few, taken-given, other-area}
+use Rattle.unfolder.specs.Result.{nodesTold}
+use Rattle.unfolder.specs.Settled.{PlacesStand, PlacesSettled}
+use Rattle.report.specs.Refusals.{refusal-some, refusal-none, places-few, taken-given, other-area}
 use Rattle.rows.specs.declared.Begun.{Begun}
 use Rattle.rows.specs.declared.Rows.{Rows}
+use Rattle.rows.specs.declared.Rows.the-variants.{Refused, Filled}
 use Rattle.rows.specs.Lines.{lineTable}
 use Rattle.rows.specs.Words.{putAt, totalOf, allRows, begunBefore, begunIn, rowsTold, FilledBy}
-use Rattle.rows.specs.Rows.{rowsRefused, RowsSettled}
+use Rattle.rows.specs.Rows.{rowsSaid, RowsSettled}
+use Rattle.rows.specs.Rows.RowsSettled.{refused, filled}
 use Rattle.rows.proofs.PutLaws.{all-length}
 use Rattle.rows.proofs.RowLaws.{element-default}
 use Rattle.rows.proofs.NodeLaws.{Told, table-filled, places-told}
@@ -42,27 +42,15 @@ pub filled-by : (w : Workload) (words : List ℕ) → take (w .count * 8) words 
     (before : List ℕ) (b : Begun) → b ≡ begunBefore (take (w .count * 8) words) (length (take (w .count * 8) words) / 8)
     → (total : ℕ) → total ≡ totalOf lengths n → (after : List ℕ)
     → after ≡ putAt before 0 (allRows (take (w .count * 8) words) (b .firsts) programs lengths places n)
-    → FilledBy (lineTable (linesOf w)) programs lengths places n before (record { refusal = 0; programs = b .programs; nodes = n; places = total })
-    after
+    → FilledBy (lineTable (linesOf w)) programs lengths places n before (Filled (b .programs) n total) after
 unfolding rowsTold begunIn
 filled-by w words e programs lengths places n before b h total t after s =
     subst
-    (λ (l : List ℕ). FilledBy l programs lengths places n before (record { refusal = 0; programs = b .programs; nodes = n; places = total }) after)
+    (λ (l : List ℕ). FilledBy l programs lengths places n before (Filled (b .programs) n total) after)
     e
     (record { tells = rw (h, t) refl; stands = s ∙ rw h refl })
 
 -- ---- refusals
-
-refused-at : (w : Workload) (before : List ℕ) (m : ℕ) (r : Rows)
-    → StateRefusal w (ltb (length before) (8 * statementsIn (nodesOf (linesOf w)))) (refusalOf m) → (m ≡ 0 → ⊥) → r ≡ rowsRefused m
-    → RowsSettled w before r before
-unfolding rowsRefused
-refused-at w before m r h d e =
-    rw e (record {
-      refusal = h;
-      refused = λ n p. (ap rowsRefused (same-number d p), refl);
-      filled = λ p. absurd (not-both (refusal-some m d) p);
-    })
 
 -- 512 words are never too few
 roomy : (w : Workload) (room : ℕ) → room ≡ 512 → tooMany (linesOf w) ≡ false → shortForUnfoldings (linesOf w) room ≡ false
@@ -72,10 +60,11 @@ roomy w room e t = let most = places-few w t in le-ltb room (statementsIn (nodes
 module _ (w : Workload) (zeros : List ℕ) (size : length zeros ≡ 512) (told : Unfolded) (area : List ℕ) (settled : PlacesSettled w zeros told area)
     (before : List ℕ) where
   -- S21, S22
-  pub refused-number : (told .refusal ≡ 0 → ⊥) → (r : Rows) → r ≡ rowsRefused (told .refusal) → RowsSettled w before r before
-  refused-number d r e =
-      refused-at w before (told .refusal) r
-      (other-area (roomy w (length zeros) size) (ltb (length before) (8 * statementsIn (nodesOf (linesOf w)))) (refusal-some (told .refusal) d) (settled .refusal)) d e
+  pub refused-number : (told .refusal ≡ 0 → ⊥) → RowsSettled w before (Refused (told .refusal)) before
+  unfolding rowsSaid
+  refused-number d =
+      let number = refusal-some (told .refusal) d in
+      refused (told .refusal) (subst (StateRefusal w false) number (other-area (roomy w (length zeros) size) false number (settled .refusal))) refl refl
 
   module _ (none-told : told .refusal ≡ 0) where
     abbrev lines : List Line
@@ -133,14 +122,6 @@ module _ (w : Workload) (zeros : List ℕ) (size : length zeros ≡ 512) (told :
     pub workload-count : w .count ≤ 1616
     workload-count = given-fits (both .0)
 
-    -- S20
-    pub refused-short : (places : ℕ) → places ≡ totalOf (told .length) (told .count) → length before < places * 8 → (r : Rows) → r ≡ rowsRefused 20
-        → RowsSettled w before r before
-    unfolding refusalOf
-    refused-short places p h r e =
-        let a = total-told in
-        refused-at w before 20 r (too-short (both .0) (both .1) (lt-ltb (length before) (8 * statementsIn nodes) (omega arith))) (λ d. omega arith) e
-
     abbrev firsts : List ℕ
     firsts = begunIn (lineTable lines) .firsts
 
@@ -155,22 +136,15 @@ module _ (w : Workload) (zeros : List ℕ) (size : length zeros ≡ 512) (told :
         ∙ table-filled (both .0 .text) lines (given-read (both .0)) nodes (stand .words) rest firsts (told .program) (told .length) (stand .fits) all-told
 
     -- the table is filled
-    pub filled-table : (places : ℕ) → places ≡ totalOf (told .length) (told .count) → places * 8 ≤ length before → (r : Rows) (after : List ℕ)
+    pub filled-table : (r : Rows) (after : List ℕ)
         → FilledBy (lineTable lines) (told .program) (told .length) area (told .count) before r after → RowsSettled w before r after
-    unfolding rowsTold putAt refusalOf
-    filled-table places p room r after f =
+    unfolding rowsSaid rowsTold putAt
+    filled-table r after f =
         let total = total-told in
         let size = all-length (lineTable lines) firsts (told .program) (told .length) area (told .count) in
-        let long : 0 + length rows ≡ 8 * totalOf (told .length) (told .count) = omega arith in
-        rw (f .tells) (record {
-          refusal = taken (both .0) (both .1) (le-ltb (length before) (8 * statementsIn nodes) (omega arith));
-          refused = λ n e. let z : _≡_ {A = ℕ} 0 1 = cc in absurd (omega arith);
-          filled = λ e. (
-            programs-counted lines,
-            count-told,
-            total,
-            f .stands
-                ∙ ap (λ (k : ℕ). rows ++ drop k before) long
-                ∙ ap (λ (l : List ℕ). l ++ drop (8 * totalOf (told .length) (told .count)) before) rows-same,
-          );
-        })
+        let long : 0 + length rows ≡ 8 * statementsIn nodes = omega arith in
+        filled (taken (both .0) (both .1) refl)
+        (ap rowsSaid (f .tells) ∙ rw (programs-counted lines, total, count-told) refl)
+        (f .stands
+        ∙ ap (λ (k : ℕ). rows ++ drop k before) long
+        ∙ ap (λ (l : List ℕ). l ++ drop (8 * statementsIn nodes) before) rows-same)

@@ -1,29 +1,30 @@
 -- What the open function promises for every workload value and every table.
+use mathlib.Core.Bool.{false}
 use mathlib.Core.List.{List, _++_}
+use mathlib.Core.Logic.{_⊎_, inl, inr}
 use mathlib.Core.Option.{none, some}
 use mathlib.Core.Path.{_≡_}
 use Prim.Native.Nat.{ℕ, _*_}
-use lib.Dec.{ltb}
 use lib.ListN.{length, drop}
 use Rattle.text.specs.declared.Workload.{Workload}
 use Rattle.text.specs.Value.{linesOf}
 use Rattle.graph.specs.Program.{programsOf}
 use Rattle.graph.specs.Unfolding.{nodesOf}
-use Rattle.report.specs.State.{StateRefusal, statementsIn, refusalOf}
+use Rattle.report.specs.State.{StateRefusal, statementsIn}
 use Rattle.tables.specs.Table.{rowsOf, tableOf}
 use Rattle.rows.specs.declared.Rows.{Rows}
+use Rattle.rows.specs.declared.Rows.the-variants.{Refused, Filled}
 
--- a refusal gives its number alone
-unfoldable pub rowsRefused : ℕ → Rows
-rowsRefused number = record { refusal = number; programs = 0; nodes = 0; places = 0 }
+-- N3: what the answer says: a refusal's number, or how many programs, nodes and places there are
+unfoldable pub rowsSaid : Rows → ℕ ⊎ (ℕ × ℕ × ℕ)
+rowsSaid (Refused number) = inl number
+rowsSaid (Filled programs nodes places) = inr (programs, nodes, places)
 
--- a refusal (S21, S22, S20) gives its number alone and leaves the table; else programs, nodes and places are counted,
--- and the rows of all places stand from the table's start on; past them it is as it was
-pub record RowsSettled (w : Workload) (before : List ℕ) (r : Rows) (after : List ℕ) : Type 0 where
-  pub refusal : StateRefusal w (ltb (length before) (8 * statementsIn (nodesOf (linesOf w)))) (refusalOf (r .refusal))
-  pub refused : (n : ℕ) → refusalOf (r .refusal) ≡ some n → (r ≡ rowsRefused n) × (after ≡ before)
-  pub filled : refusalOf (r .refusal) ≡ none
-      → (r .programs ≡ length (programsOf (linesOf w)))
-      × (r .nodes ≡ length (nodesOf (linesOf w)))
-      × (r .places ≡ statementsIn (nodesOf (linesOf w)))
-      × (after ≡ tableOf (rowsOf (nodesOf (linesOf w))) ++ drop (8 * r .places) before)
+-- S21 or S22, which leaves the table; else programs, nodes and places are counted, and the rows of all places stand from the table's start on;
+-- past them it is as it was. No table is too short (S20): 4096 words are 512 places.
+pub data RowsSettled (w : Workload) (before : List ℕ) (r : Rows) (after : List ℕ) : Type 0 where
+  refused : (n : ℕ) → StateRefusal w false (some n) → rowsSaid r ≡ inl n → after ≡ before → RowsSettled w before r after
+  filled : StateRefusal w false none
+      → rowsSaid r ≡ inr (length (programsOf (linesOf w)), length (nodesOf (linesOf w)), statementsIn (nodesOf (linesOf w)))
+      → after ≡ tableOf (rowsOf (nodesOf (linesOf w))) ++ drop (8 * statementsIn (nodesOf (linesOf w))) before
+      → RowsSettled w before r after

@@ -1,79 +1,83 @@
--- A table of 4096 words is long enough for every workload that is not too large: what is refused then is the value, and what is filled is whole.
+-- What a table's answer is worth: a refusal stands for every other area too, and what is filled is whole.
 use mathlib.Core.Bool.{Bool, false}
 use mathlib.Core.List.{List}
-use mathlib.Core.Option.{some}
-use mathlib.Core.Path.{_≡_, ap, ap₂, subst, _∙_}
-use Prim.Native.Nat.{ℕ, suc, _*_, _≤_}
+use mathlib.Core.Option.{Option, some}
+use mathlib.Core.Path.{_≡_, refl, ap, ap₂, _∙_}
+use Prim.Native.Nat.{ℕ, _*_, _≤_}
 use native.Mathlib.Omega.{arith}
-use lib.Dec.{ltb}
-use lib.ListN.{length, length-append, length-drop, take, drop}
+use lib.ListN.{length, length-append, take, drop}
 use lib.Seq.{take-append-seam}
-use borrow.Author.Tests.{le-ltb}
 use Rattle.text.specs.declared.Workload.{Workload}
 use Rattle.text.specs.Value.{Given, linesOf}
 use Rattle.reading.specs.ValueLaws.{given-read}
 use Rattle.graph.specs.Program.{programsOf}
 use Rattle.graph.specs.Unfolding.{nodesOf}
 use Rattle.graph.specs.Edge.{edgesOf}
-use Rattle.report.specs.State.{StateRefusal, statementsIn, tooMany, refusalOf}
+use Rattle.report.specs.State.{StateRefusal, statementsIn, tooMany}
+use Rattle.report.specs.State.StateRefusal.{not-given, too-many, too-short, taken}
 use Rattle.tables.specs.Table.{rowsOf, tableOf}
 use Rattle.tables.specs.TableLaws.{tableOf-length}
 use Rattle.edges.specs.Slots.{tableEdges}
 use Rattle.placing.specs.Placed.{rowsOf-length, accepted-edges}
 use Rattle.rows.specs.declared.Rows.{Rows}
-use Rattle.rows.specs.Rows.{RowsSettled}
-use Rattle.report.specs.Refusals.{refusal-some, refusal-none, places-few, taken-given, other-area}
+use Rattle.rows.specs.declared.Rows.the-variants.{Refused, Filled}
+use Rattle.rows.specs.Rows.{rowsSaid, RowsSettled}
+use Rattle.rows.specs.Rows.RowsSettled.{refused, filled}
+use Rattle.report.specs.Refusals.{not-both, places-few, taken-given, other-area}
 
 -- the value is given and not too large, and the table begins with the rows of all its places
-pub record Whole (w : Workload) (r : Rows) (table : List ℕ) : Type 0 where
+pub record Whole (w : Workload) (programs nodes places : ℕ) (table : List ℕ) : Type 0 where
   pub given : Given w
   pub few : tooMany (linesOf w) ≡ false
-  pub short : r .places ≤ 512
-  pub long : length table ≡ 4096
-  pub programs : r .programs ≡ length (programsOf (linesOf w))
-  pub nodes : r .nodes ≡ length (nodesOf (linesOf w))
-  pub rows : take (r .places * 8) table ≡ tableOf (rowsOf (nodesOf (linesOf w)))
+  pub short : places ≤ 512
+  pub inside : places * 8 ≤ length table
+  pub programs-are : programs ≡ length (programsOf (linesOf w))
+  pub nodes-are : nodes ≡ length (nodesOf (linesOf w))
+  pub rows : take (places * 8) table ≡ tableOf (rowsOf (nodesOf (linesOf w)))
 
 -- E5: its edges are the workload's
-pub whole-edges : (w : Workload) (r : Rows) (table : List ℕ) → Whole w r table
-    → tableEdges (take (r .places * 8) table) ≡ edgesOf (nodesOf (linesOf w))
-whole-edges w r table whole =
+pub whole-edges : (w : Workload) (programs nodes places : ℕ) (table : List ℕ) → Whole w programs nodes places table
+    → tableEdges (take (places * 8) table) ≡ edgesOf (nodesOf (linesOf w))
+whole-edges w programs nodes places table whole =
     ap tableEdges (whole .rows) ∙ accepted-edges (whole .given .text) (linesOf w) (given-read (whole .given)) (whole .few)
 
-module _ (w : Workload) (before : List ℕ) (r : Rows) (after : List ℕ) (settled : RowsSettled w before r after) (long : length before ≡ 4096) where
+-- no refusal has number 0
+pub number-some : {w : Workload} {short : Bool} {o : Option ℕ} {n : ℕ} → o ≡ some n → StateRefusal w short o → (n ≡ 0 → ⊥)
+number-some {n = n} e (not-given h) z = let m : n ≡ 21 = cc in omega arith
+number-some {n = n} e (too-many g t) z = let m : n ≡ 22 = cc in omega arith
+number-some {n = n} e (too-short g t s) z = let m : n ≡ 20 = cc in omega arith
+number-some {n = n} e (taken g t s) z = not-both e refl
+
+module _ {w : Workload} {before : List ℕ} {r : Rows} {after : List ℕ} where
   -- a refusal is one of the value, so it stands for every other area too
-  pub whole-refusal : (short : Bool) → (r .refusal ≡ 0 → ⊥) → StateRefusal w short (refusalOf (r .refusal))
-  whole-refusal short h = other-area room short (refusal-some (r .refusal) h) (settled .refusal)
-    where
-      room : tooMany (linesOf w) ≡ false → ltb (length before) (8 * statementsIn (nodesOf (linesOf w))) ≡ false
-      room t = let few = places-few w t in le-ltb (length before) (8 * statementsIn (nodesOf (linesOf w))) (omega arith)
+  pub whole-refused : {n : ℕ} (short : Bool) → RowsSettled w before r after → r ≡ Refused n → StateRefusal w short (some n)
+  unfolding rowsSaid
+  whole-refused {n} short (refused m refusal said same) e =
+      let number : n ≡ m = cc in
+      rw number (other-area (λ _. refl) short refl refusal)
+  whole-refused short (filled refusal said same) e = absurd (let z : _≡_ {A = ℕ} 0 1 = cc in omega arith)
 
-  pub whole-refused : (n : ℕ) (short : Bool) → r .refusal ≡ suc n → StateRefusal w short (some (suc n))
-  unfolding refusalOf
-  whole-refused n short e = subst (λ (m : ℕ). StateRefusal w short (refusalOf m)) e (whole-refusal short (λ z. omega arith))
-
-  -- and leaves the table
-  pub whole-kept : (r .refusal ≡ 0 → ⊥) → length after ≡ 4096
-  whole-kept h = ap length (settled .refused (r .refusal) (refusal-some (r .refusal) h) .1) ∙ long
-
-  pub whole-filled : r .refusal ≡ 0 → Whole w r after
-  whole-filled e =
-      let passed = refusal-none (r .refusal) e in
-      let ok = taken-given (settled .refusal) passed in
-      let told = settled .filled passed in
+  pub whole-filled : {programs nodes places : ℕ} → RowsSettled w before r after → r ≡ Filled programs nodes places
+      → Whole w programs nodes places after
+  unfolding rowsSaid
+  whole-filled (refused m refusal said same) e = absurd (let z : _≡_ {A = ℕ} 0 1 = cc in omega arith)
+  whole-filled {programs} {nodes} {places} (filled refusal said same) e =
+      let ok = taken-given refusal refl in
       let table = tableOf (rowsOf (nodesOf (linesOf w))) in
+      let rest = drop (8 * statementsIn (nodesOf (linesOf w))) before in
       let a = tableOf-length (rowsOf (nodesOf (linesOf w))) in
       let b = rowsOf-length (nodesOf (linesOf w)) in
-      let c = told .2 in
+      let told : _≡_ {A = ℕ × ℕ × ℕ} (programs, nodes, places) (length (programsOf (linesOf w)), length (nodesOf (linesOf w)), statementsIn (nodesOf (linesOf w))) = cc in
+      let c = ap (λ (t : ℕ × ℕ × ℕ). t .2) told in
       let most = places-few w (ok .1) in
-      let d = length-drop (8 * r .places) before in
-      let n : r .places * 8 ≡ length table = omega arith in
+      let n : places * 8 ≡ length table = omega arith in
+      let long = ap length same ∙ length-append table rest in
       record {
         given = ok .0;
         few = ok .1;
         short = omega arith;
-        long = ap length (told .3) ∙ length-append table (drop (8 * r .places) before) ∙ (omega arith);
-        programs = told .0;
-        nodes = told .1;
-        rows = ap₂ (λ (k : ℕ) (t : List ℕ). take k t) n (told .3) ∙ take-append-seam table (drop (8 * r .places) before);
+        inside = omega arith;
+        programs-are = ap (λ (t : ℕ × ℕ × ℕ). t .0) told;
+        nodes-are = ap (λ (t : ℕ × ℕ × ℕ). t .1) told;
+        rows = ap₂ (λ (k : ℕ) (t : List ℕ). take k t) n same ∙ take-append-seam table rest;
       }

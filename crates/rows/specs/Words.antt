@@ -9,6 +9,7 @@ use Rattle.graph.specs.Program.{Link}
 use Rattle.guarding.specs.Keys.{withLink}
 use Rattle.rows.specs.declared.Begun.{Begun}
 use Rattle.rows.specs.declared.Rows.{Rows}
+use Rattle.rows.specs.declared.Rows.the-variants.{Filled}
 
 -- words put into an area at a place; the rest is as it was
 unfoldable pub putAt : List ℕ → ℕ → List ℕ → List ℕ
@@ -84,7 +85,7 @@ unfoldable pub begunIn : List ℕ → Begun
 begunIn lines = begunBefore lines (length lines / 8)
 
 unfoldable pub rowsTold : List ℕ → List ℕ → ℕ → Rows
-rowsTold lines lengths n = record { refusal = 0; programs = begunIn lines .programs; nodes = n; places = totalOf lengths n }
+rowsTold lines lengths n = Filled (begunIn lines .programs) n (totalOf lengths n)
 
 pub record FilledBy (lines programs lengths words : List ℕ) (n : ℕ) (before : List ℕ) (r : Rows) (after : List ℕ) : Type 0 where
   pub tells : r ≡ rowsTold lines lengths n

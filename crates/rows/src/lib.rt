@@ -16,14 +16,16 @@ ghost use Rattle.guarding.specs.Keys.{withLink};
 ghost use Rattle.rows.specs.Lines.{lineNumber, readsBy, writesBy, testsBy, lineTable};
 ghost use Rattle.rows.specs.Words.{putAt, begunWith, begunLine, begunBefore, linkOf, keyAt, keysFrom};
 ghost use Rattle.rows.specs.Words.{rowWords, nodeRows, totalOf, allRows, FilledBy};
-ghost use Rattle.rows.specs.Rows.{rowsRefused, RowsSettled};
+ghost use Rattle.rows.specs.Rows.{RowsSettled};
 
-// The answer: the number of the refusal, or 0 and how many programs, nodes and places there are.
-pub struct Rows {
-    pub refusal: u8,
-    pub programs: u64,
-    pub nodes: u64,
-    pub places: u64,
+// The answer: the number of the refusal, or how many programs, nodes and places there are.
+pub enum Rows {
+    Refused(u8),
+    Filled {
+        programs: u64,
+        nodes: u64,
+        places: u64,
+    },
 }
 
 // The programs so far, and the line behind the `pr` of each.
@@ -403,21 +405,6 @@ fn put_nodes(
     at
 }
 
-// The places of the first nodes, of which there are few.
-fn total(lengths: &[u64], n: usize) -> usize
-    requires { ⌜ totalOf (now lengths) n ≤ 512 ⌝ }
-    ensures { λ r. ⌜ r ≡ totalOf (now (lengths .entry)) n ⌝ }
-{
-    let mut at: usize = 0;
-    let mut j: usize = 0;
-    while j < n {
-        let places = word_at(lengths, j) as usize;
-        at += places;
-        j += 1;
-    }
-    at
-}
-
 // The table of a workload value whose unfoldings are told, where it has room.
 fn fill_table(
     w: Workload,
@@ -436,41 +423,26 @@ fn fill_table(
     let b = programs_in(&lines[..n]);
     let firsts = b.firsts;
     let places = put_nodes(&lines[..n], &firsts, programs, lengths, words, nodes, table);
-    Rows {
-        refusal: 0,
+    Rows::Filled {
         programs: b.programs as u64,
         nodes: nodes as u64,
         places: places as u64,
     }
 }
 
-fn rows_refused(number: u8) -> Rows
-    ensures { λ r. ⌜ r ≡ rowsRefused number ⌝ }
-{
-    Rows {
-        refusal: number,
-        programs: 0,
-        nodes: 0,
-        places: 0,
-    }
-}
-
-// The rows of all places of a workload into the lent table, eight words a place; a refusal leaves the table as it is.
-pub fn fill_rows(w: Workload, table: &mut [u64]) -> Rows
+// The rows of all places of a workload into the lent table, eight words a place; a refusal leaves the table as it is. A table has room for
+// every workload that is not refused: it cannot be too short.
+pub fn fill_rows(w: Workload, table: &mut [u64; 4096]) -> Rows
     ensures { λ r. ⌜ RowsSettled w (now (table .entry)) r (now (table .exit)) ⌝ }
 {
     let mut area = [0u64; 512];
     let told = unfolder::unfold_places(w, &mut area);
     let number = told.refusal;
     if number != 0 {
-        return rows_refused(number);
+        return Rows::Refused(number);
     }
     let nodes = told.count as usize;
     let lengths = told.length;
-    let places = total(&lengths, nodes);
-    if table.len() < places * 8 {
-        return rows_refused(20);
-    }
     let programs = told.program;
     fill_table(w, nodes, &programs, &lengths, &area, table)
 }

@@ -1,6 +1,4 @@
--- The first edge from slot x on is the first from `from` on: where `look_at` finds none it names a later slot with the same first edge. Past the
--- last slot there is none (edge-none).
-use mathlib.Core.Path.{_≡_, refl, _∙_}
+use mathlib.Core.Path.{_≡_, refl, sym, _∙_}
 use Prim.Native.Nat.{_-_}
 use native.Mathlib.Omega.{arith}
 use Rattle.finding.specs.Steps.{edgeFrom}
@@ -22,14 +20,21 @@ loop-holds c = refl
 look-at-requires : tie.Need-look-at-requires Inv-loop μ-loop
 look-at-requires c κs = search needs
 
+is-found-requires : tie.Need-is-found-requires Inv-loop μ-loop
+is-found-requires c κs = search needs
+
 returns : tie.Need-returns Inv-loop μ-loop
-returns c = c .before .look-at .ensures .here (c .if1 .taken) ∙ c .before .before .before .loop .inv
+returns c = c .before .before .look-at .ensures .here (sym (c .before .is-found .ensures) ∙ c .if1 .taken) ∙ c .before .before .before .before .loop .inv
 
 loop-less : tie.Need-loop-less Inv-loop μ-loop
-loop-less c = let h = c .before .look-at .ensures .later (c .if1 .left) .0 in let l = c .before .before .loop-test .taken in omega arith
+loop-less c =
+    let h = c .before .before .look-at .ensures .later (sym (c .before .is-found .ensures) ∙ c .if1 .left) .0 in
+    let l = c .before .before .before .loop-test .taken in
+    omega arith
 
 loop-again : tie.Need-loop-again Inv-loop μ-loop
-loop-again c = c .before .look-at .ensures .later (c .if1 .left) .1 ∙ c .before .before .before .loop .inv
+loop-again c =
+    c .before .before .look-at .ensures .later (sym (c .before .is-found .ensures) ∙ c .if1 .left) .1 ∙ c .before .before .before .before .loop .inv
 
 row-count-requires : tie.Need-row-count-requires Inv-loop μ-loop
 row-count-requires c κs = search needs
@@ -53,6 +58,7 @@ edge-from-spec =
     μ-loop
     loop-holds
     look-at-requires
+    is-found-requires
     returns
     loop-less
     loop-again

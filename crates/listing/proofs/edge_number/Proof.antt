@@ -1,21 +1,17 @@
--- A refusal is handed on (edge-refused); else the words that count are the table of the workload, in which `edge_of_number` finds the edge
--- (edge-told).
-use Rattle.listing.specs.Listed.{inside, part-long, edge-refused, edge-told}
+-- A refusal of the table is the answer; else the first words of the table have the workload's edges, and of these the edge is told.
 use borrow.Author.Needs.{needs}
+use Rattle.listing.specs.Listed.{part-long, edge-refused, edge-there, edge-absent}
 use Rattle.listing.proofs.edge_number.Statement.{statement}
 use Rattle.listing.proofs.edge_number.Tie as tie
 
 tabled-requires : tie.Need-tabled-requires
 tabled-requires c κs = search needs
 
-no-edge-requires : tie.Need-no-edge-requires
-no-edge-requires c κs = search needs
-
 returns : tie.Need-returns
-returns c = edge-refused _ _ (c .before .before .before .tabled .ensures) (c .before .if1 .taken) _ (c .no-edge .ensures) _
+returns c = edge-refused _ _ (c .before .before .tabled .ensures) (c .if1 .taken) _
 
 array-share-prefix-table : tie.Need-array-share-prefix-table
-array-share-prefix-table c = inside _ _ (c .before .before .before .tabled .ensures)
+array-share-prefix-table c = c .before .before .before .tabled .ensures .inside
 
 slice-aggregate-edge-of-number : tie.Need-slice-aggregate-edge-of-number
 slice-aggregate-edge-of-number c = part-long _ _ (c .before .before .before .before .tabled .ensures)
@@ -23,19 +19,32 @@ slice-aggregate-edge-of-number c = part-long _ _ (c .before .before .before .bef
 edge-of-number-requires : tie.Need-edge-of-number-requires
 edge-of-number-requires c κs = search needs
 
+enum-known-f : tie.Need-enum-known-f
+enum-known-f c = search needs
+
 returns-2 : tie.Need-returns-2
 returns-2 c =
-    edge-told _ _ (c .before .before .before .before .before .before .tabled .ensures) (c .before .before .before .before .if1 .left) _ _
-    (c .before .edge-of-number .ensures)
+    edge-there _ _ (c .before .before .before .before .before .before .before .before .tabled .ensures) (c .before .before .before .before .before .before .if1 .left) _ _
+    (c .before .before .before .edge-of-number .ensures) _ (c .before .f .given .1)
+
+enum-told : tie.Need-enum-told
+enum-told c = search needs
+
+returns-3 : tie.Need-returns-3
+returns-3 c =
+    edge-absent _ _ (c .before .before .before .before .before .before .before .tabled .ensures) (c .before .before .before .before .before .if1 .left) _ _
+    (c .before .before .edge-of-number .ensures) (c .enum-told .given .1)
 
 pub edge-number-spec : {M : Type 1} → statement M
 edge-number-spec =
     tie.close
     (tie.spec
     tabled-requires
-    no-edge-requires
     returns
     array-share-prefix-table
     slice-aggregate-edge-of-number
     edge-of-number-requires
-    returns-2)
+    enum-known-f
+    returns-2
+    enum-told
+    returns-3)

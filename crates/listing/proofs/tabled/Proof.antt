@@ -1,29 +1,28 @@
--- 4096 words have room for 512 places, so no table is too short and a refusal is 21 or 22 (tabled-refused); else eight words a place are the
--- workload's table (tabled-filled).
-use Prim.Native.Nat.{ℕ}
+-- A refused value leaves no words; a filled table begins with the rows of all places.
 use native.Mathlib.Omega.{arith}
-use lib.ListN.{length-replicate}
-use Rattle.listing.specs.Listed.{tabled-refused, few-words, tabled-filled}
 use borrow.Author.Needs.{needs}
+use Rattle.rows.specs.Whole.{whole-filled}
+use Rattle.listing.specs.Listed.{tabled-refused, tabled-filled}
 use Rattle.listing.proofs.tabled.Statement.{statement}
 use Rattle.listing.proofs.tabled.Tie as tie
-
-slice-aggregate-fill-rows : tie.Need-slice-aggregate-fill-rows
-slice-aggregate-fill-rows c = search needs
 
 fill-rows-requires : tie.Need-fill-rows-requires
 fill-rows-requires c κs = search needs
 
+enum-known-r : tie.Need-enum-known-r
+enum-known-r c = search needs
+
 returns : tie.Need-returns
-returns c = tabled-refused _ _ _ _ (c .before .before .before .fill-rows .ensures) (length-replicate {A = ℕ} 4096 0) (c .if1 .taken)
+returns c = tabled-refused (c .before .before .before .fill-rows .ensures) (c .before .r .given .1)
+
+enum-known-r-2 : tie.Need-enum-known-r-2
+enum-known-r-2 c = search needs
 
 mul-n : tie.Need-mul-n
-mul-n c =
-    let h = few-words _ _ _ _ (c .before .before .before .before .fill-rows .ensures) (length-replicate {A = ℕ} 4096 0) (c .before .if1 .left) in
-    record { fits = omega arith }
+mul-n c = let h = whole-filled (c .before .before .before .fill-rows .ensures) (c .before .r2 .given .1) .short in record { fits = omega arith }
 
 returns-2 : tie.Need-returns-2
-returns-2 c = tabled-filled _ _ _ _ (c .before .before .before .before .fill-rows .ensures) (length-replicate {A = ℕ} 4096 0) (c .before .if1 .left)
+returns-2 c = tabled-filled (c .before .before .before .fill-rows .ensures) (c .before .r2 .given .1)
 
 pub tabled-spec : {M : Type 1} → statement M
-tabled-spec = tie.close (tie.spec slice-aggregate-fill-rows fill-rows-requires returns mul-n returns-2)
+tabled-spec = tie.close (tie.spec fill-rows-requires enum-known-r returns enum-known-r-2 mul-n returns-2)

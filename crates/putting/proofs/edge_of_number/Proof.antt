@@ -19,13 +19,10 @@ abbrev μ-loop : tie.MeasureT-loop
 edge-count-requires : tie.Need-edge-count-requires Inv-loop μ-loop
 edge-count-requires c κs = search needs
 
-no-edge-requires : tie.Need-no-edge-requires Inv-loop μ-loop
-no-edge-requires c κs = search needs
-
 returns : tie.Need-returns Inv-loop μ-loop
 returns c =
-    let past = c .before .if1 .taken in
-    found-none _ _ _ _ (c .no-edge .ensures) (c .before .before .edge-count .ensures) (omega arith)
+    let past = c .if1 .taken in
+    found-none _ _ _ (c .before .edge-count .ensures) (omega arith)
 
 loop-holds : tie.Need-loop-holds Inv-loop μ-loop
 loop-holds c = (omega arith, ahead-first _)
@@ -64,7 +61,6 @@ edge-of-number-spec =
     Inv-loop
     μ-loop
     edge-count-requires
-    no-edge-requires
     returns
     loop-holds
     edge-next-requires

@@ -1,10 +1,10 @@
 -- `putting::put_edges` meets its contract: a walk of its code by hand. `edge_count` tells how many edges there are and `fitting` how many are
 -- put; each turn of the loop calls `edge_next` and stores the edge that it gives. The borrow is opened once, before the loop, and closed
--- once, after it.
+-- once, after it; then `answered` gives the answer.
 use mathlib.Core.Bool.{not}
 use mathlib.Core.Path.{_≡_, refl, sym, ap, subst, _∙_}
 use Prim.Native.Nat.{ℕ, _+_, _-_, _≤_, _<_, _*_, _^_, zero-le}
-use native.Mathlib.Nat.{le-antisymm}
+use native.Mathlib.Nat.{le-refl, le-antisymm}
 use native.Mathlib.Numerals.{add-one-le, add-one-dec}
 use native.Mathlib.Omega.{arith}
 use mathlib.Core.WellFounded.{WellFounded, InvImage·wf}
@@ -37,7 +37,8 @@ use denote.Ref.{RefT}
 use denote.Slice.{sliceVal, sliceTy, slice-vals, MutSlice, Room, heres, codedHoleys, at-slice, mut-slice-tells, mut-slice-lawful, ShrSlice, shr-slice-tells, shr-slice-lawful, shr-slice-copy}
 use denote.Lend.{Held}
 use denote.Index.{row, place-is, elem-out, elem-put, opens-slice, closes-slice}
-use denote.Steps.{owned, nothing, facts, heard}
+use denote.Steps.{owned, nothing, facts, peeks, heard}
+use denote.Enum.Laws as EL
 use denote.Struct.Laws as LL
 use denote.Triple.Statement.{Contract, Triple}
 use denote.Triple.Call.{calls-at}
@@ -50,13 +51,20 @@ use denote.Exit.{yes}
 use denote.Signature.{plain}
 use Rattle.edges.specs.Slots.{tableEdges, edgesBelow}
 use Rattle.edges.specs.declared.Edge.{Edge}
-use Rattle.finding.specs.declared.EdgeStep.{EdgeStep}
-use Rattle.putting.specs.Put.{records, Ahead, Numbered, fittingIn, putFirst, PutAs}
+use Rattle.putting.specs.declared.Next.{Next as Found}
+use Rattle.putting.specs.declared.Put.{Put}
+use Rattle.putting.specs.Put.{records, Ahead, Numbered, fittingIn, putFirst, answerFor, PutAs}
 use Rattle.putting.specs.PutLaws.{ahead-first, fitting-le, put-none, put-length, put-more, put-fitting}
 use Rattle.edges.proofs.Edge as T
 use Rattle.edges.proofs.Edge.Laws as T′
-use Rattle.finding.proofs.EdgeStep as S
-use Rattle.finding.proofs.EdgeStep.Laws as S′
+use Rattle.putting.proofs.Next as S
+use Rattle.putting.proofs.Next.Laws as S′
+use Rattle.putting.proofs.Put as R
+use Rattle.putting.proofs.Put.Laws as R′
+use Rattle.putting.proofs.answered as answered-fn
+use Rattle.putting.proofs.answered.Symbol as answered-def
+use Rattle.putting.proofs.answered.Symbol.{name as #putting·answered}
+use Rattle.putting.proofs.answered.Met as answered-thm
 use Rattle.putting.proofs.edge_count as count-fn
 use Rattle.putting.proofs.edge_count.Symbol as count-def
 use Rattle.putting.proofs.edge_count.Symbol.{name as #putting·edge-count}
@@ -119,6 +127,9 @@ module _ {M : Type 1} (𝓤 : URA M) (H : Heap 𝓤) (A : Atoms 𝓤) (mem : Mem
   abbrev Fitting : Contract 𝓤
   Fitting = tripleOf 𝓤 H A fitting-fn.signature (fitting-fn.spec 𝓤 H A mem run)
 
+  abbrev Answer : Contract 𝓤
+  Answer = tripleOf 𝓤 H A answered-fn.signature (answered-fn.spec 𝓤 H A mem run)
+
 module _ {M : Type 1} (𝓤 : URA M) (H : Heap 𝓤) (A : Atoms 𝓤) (W : Given 𝓤 H A) (mem : Memory → SProp 𝓤) (run : Routine → Fun 𝓤) (κ κ₁ : Lft) (q q₁ : Share) (ar : RefT (List ℕ)) (b o : ℕ) (γ : GName) (ys : List Edge) where
   -- the borrow at the list l
   abbrev x : List Edge → RefT (List Edge)
@@ -160,14 +171,13 @@ module _ {M : Type 1} (𝓤 : URA M) (H : Heap 𝓤) (A : Atoms 𝓤) (W : Given
   abbrev Post : Val → SProp 𝓤
   Post = walkOf 𝓤 H A f.ended stayed (f.clauses 𝓤 H A mem run) .post (((κ, (κ₁, tt)), (q, (q₁, tt)), tt, a, vals), tt)
 
-  exits : (r : ℕ) (zs : List Edge) → r < 2 ^ 64 → length zs ≡ length ys → PutAs (tableEdges seed) ys r zs → Room T.the-row (length ys) → ent 𝓤 (⋆ 𝓤 H A (‵ (fobs γ (codedHoleys T.the-row .code (heres T.the-row zs))) ∷ ‵ (fbor κ₁ (Held T.the-row (length zs) b o γ)) ∷ ‵ (flft κ₁ q₁) ∷ ‵ (flft κ q) ∷ ‵ OwnA ∷ [])) (Post (vint w64 r))
-  exits r zs fits same e room =
-      qed W (‵ (fobs γ (codedHoleys T.the-row .code (heres T.the-row zs))) ∷ ‵ (fbor κ₁ (Held T.the-row (length zs) b o γ)) ∷ ‵ (flft κ₁ q₁) ∷ ‵ (flft κ q) ∷ ‵ OwnA ∷ []) ∵
-      suffices ! _ (ends-at 𝓤 H A f.ended stayed (f.clauses 𝓤 H A mem run) W (((κ, (κ₁, tt)), (q, (q₁, tt)), tt, a, vals), tt) (vint w64 r) r (tt, (zs, tt)) (tt, (same, tt))) $ says ! e $
-      nothing ! $ move ! (3 ∷ 0 ∷ []) $ join ! $ move ! (3 ∷ 0 ∷ []) $ join ! $ frame ! $
+  exits : (r : Put) (u : Val) (zs : List Edge) → length zs ≡ length ys → PutAs (tableEdges seed) ys r zs → Room T.the-row (length ys) → ent 𝓤 (⋆ 𝓤 H A (‵ (R.the-row .own r (u ∷ [])) ∷ ‵ ftrue ∷ ‵ (fobs γ (codedHoleys T.the-row .code (heres T.the-row zs))) ∷ ‵ (fbor κ₁ (Held T.the-row (length zs) b o γ)) ∷ ‵ (flft κ₁ q₁) ∷ ‵ (flft κ q) ∷ ‵ OwnA ∷ [])) (Post u)
+  exits r u zs same e room =
+      qed W (‵ (R.the-row .own r (u ∷ [])) ∷ ‵ ftrue ∷ ‵ (fobs γ (codedHoleys T.the-row .code (heres T.the-row zs))) ∷ ‵ (fbor κ₁ (Held T.the-row (length zs) b o γ)) ∷ ‵ (flft κ₁ q₁) ∷ ‵ (flft κ q) ∷ ‵ OwnA ∷ []) ∵
+      suffices ! _ (ends-at 𝓤 H A f.ended stayed (f.clauses 𝓤 H A mem run) W (((κ, (κ₁, tt)), (q, (q₁, tt)), tt, a, vals), tt) u r (tt, (zs, tt)) (tt, (same, tt))) $ says ! e $
+      move ! (1 ∷ 2 ∷ 3 ∷ 4 ∷ 5 ∷ 6 ∷ 0 ∷ []) $ move ! (3 ∷ 0 ∷ []) $ join ! $ move ! (3 ∷ 0 ∷ []) $ join ! $ frame ! $
       fjoin ! $ pureI ! (at-slice T.the-row (x zs) (s ∷ [])) (tt, (tt, tt)) (ap (λ (m : ℕ). sliceVal (b, o) m ∷ []) (sym same), subst (Room T.the-row) (sym same) room) $ fjoin ! $
-      nothing ! $ move ! (1 ∷ 0 ∷ []) $ fjoin ! $ move ! (1 ∷ 0 ∷ []) $ fjoin ! $
-      owned ! usize (Is usize) (uint-makes 𝓤 H A W w64) r _ (refl, fits) $ move ! (1 ∷ 0 ∷ []) $ done !
+      nothing ! $ move ! (1 ∷ 0 ∷ []) $ fjoin ! $ move ! (1 ∷ 0 ∷ []) $ fjoin ! $ done !
 
   -- `edge_count` is passed the table
   abbrev to-count : Count 𝓤 H A mem run .Ghost
@@ -192,6 +202,19 @@ module _ {M : Type 1} (𝓤 : URA M) (H : Heap 𝓤) (A : Atoms 𝓤) (W : Given
   said-fitting : (r : ℕ) → ent 𝓤 (ensured 𝓤 H A fitting-fn.ended (fitting-fn.clauses 𝓤 H A mem run) tt (total, (length ys, tt)) tt r) (fact 𝓤 (r ≡ n))
   said-fitting r = exE 𝓤 _ (λ ws. snd∗ 𝓤 (sem 𝓤 H A (lasts fitting-fn.ended tt (total, (length ys, tt)) ws)) (fact 𝓤 (r ≡ n)))
 
+  -- `answered` is passed how many edges there are and how many are put
+  abbrev counts : List Val × (List Val × Unit {0})
+  counts = (vint w64 total ∷ [], (vint w64 n ∷ [], tt))
+
+  abbrev to-answer : Answer 𝓤 H A mem run .Ghost
+  to-answer = ((tt, tt, tt, (total, (n, tt)), counts), tt)
+
+  asked-answer : ent 𝓤 (onEntry 𝓤 H A answered-fn.signature tt tt (total, (n, tt)) counts) (Answer 𝓤 H A mem run .pre to-answer)
+  asked-answer = qed W (‵ ftrue ∷ ‵ (owns (usize ∷ usize ∷ []) (total, (n, tt)) counts) ∷ []) ∵ join ! $ frame ! $ done !
+
+  said-answer : (r : Put) → ent 𝓤 (ensured 𝓤 H A answered-fn.ended (answered-fn.clauses 𝓤 H A mem run) tt (total, (n, tt)) tt r) (fact 𝓤 (r ≡ answerFor total n))
+  said-answer r = exE 𝓤 _ (λ ws. snd∗ 𝓤 (sem 𝓤 H A (lasts answered-fn.ended tt (total, (n, tt)) ws)) (fact 𝓤 (r ≡ answerFor total n)))
+
   -- `edge_next` is passed the table, a number and a slot
   abbrev given : ℕ → ℕ → List Val × (List Val × (List Val × Unit {0}))
   given k j = (sv ∷ [], (vint w64 k ∷ [], (vint w64 j ∷ [], tt)))
@@ -202,7 +225,7 @@ module _ {M : Type 1} (𝓤 : URA M) (H : Heap 𝓤) (A : Atoms 𝓤) (W : Given
   asked-next : (k j : ℕ) → Ahead seed k j → ent 𝓤 (onEntry 𝓤 H A next-fn.signature (κ, tt) (q, tt) (ar, (k, (j, tt))) (given k j)) (Next 𝓤 H A mem run .pre (to-next k j))
   asked-next k j ahead = qed W ((‵ (flft κ q) ⊛ ‵ ftrue) ∷ ‵ (owns (ShrSlice (named 0) κ u64 ∷ usize ∷ usize ∷ []) (ar, (k, (j, tt))) (given k j)) ∷ []) ∵ says ! ahead $ join ! $ done !
 
-  said-next : (k j : ℕ) (r : EdgeStep) → ent 𝓤 (ensured 𝓤 H A next-fn.ended (next-fn.clauses 𝓤 H A mem run) (κ, tt) (ar, (k, (j, tt))) tt r) (fact 𝓤 (Numbered seed k r))
+  said-next : (k j : ℕ) (r : Found) → ent 𝓤 (ensured 𝓤 H A next-fn.ended (next-fn.clauses 𝓤 H A mem run) (κ, tt) (ar, (k, (j, tt))) tt r) (fact 𝓤 (Numbered seed k r))
   said-next k j r = exE 𝓤 _ (λ ws. snd∗ 𝓤 (sem 𝓤 H A (lasts next-fn.ended (κ, tt) (ar, (k, (j, tt))) ws)) (fact 𝓤 (Numbered seed k r)))
 
   -- before a turn: how many edges are put, and a slot before which they stand
@@ -222,7 +245,7 @@ module _ {M : Type 1} (𝓤 : URA M) (H : Heap 𝓤) (A : Atoms 𝓤) (W : Given
   abbrev start : Upto
   start = record { done-to = 0; most = zero-le; slot = 0; below = ahead-first seed; few = zero-le }
 
-  module _ (𝓣 : Tables 𝓤 H) (known-next : Triple 𝓤 (𝓣 .C #putting·edge-next) (Next 𝓤 H A mem run)) (room : Room T.the-row (length ys)) (total-fits : total < 2 ^ 64) (l₀ l₁ l₂ l₃ l₄ l₅ l₆ l₇ l₈ l₉ l₁₀ l₁₁ : ℕ) where
+  module _ (𝓣 : Tables 𝓤 H) (known-next : Triple 𝓤 (𝓣 .C #putting·edge-next) (Next 𝓤 H A mem run)) (known-answer : Triple 𝓤 (𝓣 .C #putting·answered) (Answer 𝓤 H A mem run)) (room : Room T.the-row (length ys)) (total-fits : total < 2 ^ 64) (l₀ l₁ l₂ l₃ l₄ l₅ l₆ l₇ l₈ l₉ l₁₀ l₁₁ : ℕ) where
     abbrev C : Calls 𝓤 H
     C = 𝓣 .C
 
@@ -230,14 +253,14 @@ module _ {M : Type 1} (𝓤 : URA M) (H : Heap 𝓤) (A : Atoms 𝓤) (W : Given
     Λ = 𝓣 .Λ
 
     abbrev En : Env 𝓤 H
-    En = (word, l₀) ∷ (shared, l₁) ∷ (slice, l₂) ∷ (word, l₃) ∷ (word, l₄) ∷ (word, l₅) ∷ (word, l₆) ∷ (S′.mir, l₇) ∷ (word, l₈) ∷ (tyBool, l₉) ∷ (word, l₁₀) ∷ (tyPtr, l₁₁) ∷ []
+    En = (R′.mir, l₀) ∷ (shared, l₁) ∷ (slice, l₂) ∷ (word, l₃) ∷ (word, l₄) ∷ (word, l₅) ∷ (word, l₆) ∷ (S′.mir, l₇) ∷ (word, l₈) ∷ (tyBool, l₉) ∷ (word, l₁₀) ∷ (tyPtr, l₁₁) ∷ []
 
     -- the invariant: so many edges are put, and the slot is one before which they stand
     abbrev At : Upto → List (Item 𝓤)
     At i = ‵ (row T.the-row fullShare (put (i .done-to)) b o) ∷ ‵ (fobor κ₁ q₁ (Held T.the-row (length ys) b o γ)) ∷ ‵ (fobs γ (codedHoleys T.the-row .code (heres T.the-row ys))) ∷ ‵ (fauth γ (codedHoleys T.the-row .code (heres T.the-row ys)))
         ∷ ‵ (flft κ q) ∷ ‵ OwnA ∷ ‵ (froom tyPtr l₁₁ 0) ∷ ‵ (fdies tyPtr l₁₁) ∷ ‵ (froom word l₁₀ 0) ∷ ‵ (fdies word l₁₀) ∷ ‵ (froom tyBool l₉ 0) ∷ ‵ (fdies tyBool l₉) ∷ ‵ (froom word l₈ 0) ∷ ‵ (fdies word l₈) ∷ ‵ (froom S′.mir l₇ 0) ∷ ‵ (fdies S′.mir l₇)
         ∷ ‵ (fat fullShare word l₆ 0 (vint w64 (i .done-to))) ∷ ‵ (fdies word l₆) ∷ ‵ (fat fullShare word l₅ 0 (vint w64 (i .slot))) ∷ ‵ (fdies word l₅) ∷ ‵ (fat fullShare word l₄ 0 (vint w64 n)) ∷ ‵ (fdies word l₄) ∷ ‵ (fat fullShare word l₃ 0 (vint w64 total)) ∷ ‵ (fdies word l₃)
-        ∷ ‵ (fat fullShare slice l₂ 0 s) ∷ ‵ (fdies slice l₂) ∷ ‵ (fat fullShare shared l₁ 0 sv) ∷ ‵ (fdies shared l₁) ∷ ‵ (froom word l₀ 0) ∷ ‵ (fdies word l₀) ∷ []
+        ∷ ‵ (fat fullShare slice l₂ 0 s) ∷ ‵ (fdies slice l₂) ∷ ‵ (fat fullShare shared l₁ 0 sv) ∷ ‵ (fdies shared l₁) ∷ ‵ (froom R′.mir l₀ 0) ∷ ‵ (fdies R′.mir l₀) ∷ []
 
     -- a turn's postcondition: it ends nearer to n, or the loop is left and the rest of the body runs
     abbrev Turned : Upto → Out → SProp 𝓤
@@ -256,7 +279,7 @@ module _ {M : Type 1} (𝓤 : URA M) (H : Heap 𝓤) (A : Atoms 𝓤) (W : Given
         use2 W (raw (Next 𝓤 H A mem run .pre (to-next (i .done-to) (i .slot)))) (asked-next (i .done-to) (i .slot) (ahead less)) $
         -- [what the callee asks; the table's; the row; the open borrow; obs; auth; _11; …]
         calls-at ! (fmOf 𝓤 H (W .laws) 𝓣) (Next 𝓤 H A mem run) known-next (to-next (i .done-to) (i .slot)) (and-then ! (load ! (from ! (stop !)) (look ! 26 refl)) (and-then ! (load ! (from ! (stop !)) (look ! 16 refl)) (and-then ! (load ! (from ! (stop !)) (look ! 18 refl)) (no-more !)))) (λ u.
-        use1 W (later (some (λ (r : EdgeStep). ((‵ (flft κ q) ⊛ ‵ ftrue) ⊛ ‵ (S.the-row .own r (u ∷ []))) ⊛ raw (ensured 𝓤 H A next-fn.ended (next-fn.clauses 𝓤 H A mem run) (κ, tt) (ar, (i .done-to, (i .slot, tt))) tt r)))) (id⊢ 𝓤 _) $ await ! tt $ pick ! (λ r.
+        use1 W (later (some (λ (r : Found). ((‵ (flft κ q) ⊛ ‵ ftrue) ⊛ ‵ (S.the-row .own r (u ∷ []))) ⊛ raw (ensured 𝓤 H A next-fn.ended (next-fn.clauses 𝓤 H A mem run) (κ, tt) (ar, (i .done-to, (i .slot, tt))) tt r)))) (id⊢ 𝓤 _) $ await ! tt $ pick ! (λ r.
         split ! $ move ! (1 ∷ []) $ use1 W (raw (fact 𝓤 (Numbered seed (i .done-to) r))) (said-next (i .done-to) (i .slot) r) $ heard ! (Numbered seed (i .done-to) r) (λ e. split ! $ move ! (1 ∷ []) $
         facts ! S.the-row (Is S.the-row) (shows 𝓤 H A S.the-row) r (u ∷ []) (λ is.
         -- [the token; the table's; the row; the open borrow; obs; auth; _11; …; _10; …; _9; …; _8; …; _7; …]
@@ -267,11 +290,11 @@ module _ {M : Type 1} (𝓤 : URA M) (H : Heap 𝓤) (A : Atoms 𝓤) (W : Given
         rewrite ! 6 (λ (p : ℕ). ‵ (fat fullShare tyPtr l₁₁ 0 (vptr b p))) (sym (place-is 48 o (i .done-to))) refl $
         move ! (2 ∷ []) $ elem-out ! T.the-row (Is T.the-row) (shows 𝓤 H A T.the-row) (LL.vals T.the-type T′.the-laws) (LL.tells T.the-type T′.the-laws) fullShare (put (i .done-to)) (i .done-to) (r .edge) b o (within less) (λ _.
         -- [out[k]; what it owns; the others; the token; the table's; the open borrow; obs; auth; _11; …; _10; …; _9; …; _8; …; _7; …]
-        assigns ! (of-opd ! (load ! (from ! (fld ! refl (stop !))) (look-in ! 16 (sub ! 2 refl (whole !))))) (from ! (hop ! (look ! 8 refl) (stop !))) (store-raw ! 0 refl (LL.lawful T.the-type T′.the-laws 𝓤 H A W .typed (r .edge) _ (edge-is r is) .0)) $
+        assigns ! (of-opd ! (load ! (from ! (fld ! refl (stop !))) (look-in ! 16 (sub ! 1 refl (whole !))))) (from ! (hop ! (look ! 8 refl) (stop !))) (store-raw ! 0 refl (LL.lawful T.the-type T′.the-laws 𝓤 H A W .typed (r .edge) _ (edge-is r is) .0)) $
         owned ! T.the-row (Is T.the-row) (LL.makes T.the-type T′.the-plain 𝓤 H A) (r .edge) (edgeVal (r .edge)) (edge-is r is) $ move ! (1 ∷ 0 ∷ 3 ∷ []) $
         elem-put ! T.the-row fullShare (put (i .done-to)) (i .done-to) (r .edge) (edgeVal (r .edge)) b o (within less) $
         -- [the row; what was there owns; the token; the table's; the open borrow; obs; auth; _11; …; _10; …; _9; …; _8; …; _7; …; _6; …; _5; …]
-        assigns ! (bin ! (load ! (from ! (fld ! refl (stop !))) (look-in ! 15 (sub ! 1 refl (whole !)))) (lit ! tt) (record { fits = slot-next e })) (from ! (stop !)) (store ! 19 refl (tt, record { fits = slot-next e })) $
+        assigns ! (bin ! (load ! (from ! (fld ! refl (stop !))) (look-in ! 15 (sub ! 0 refl (whole !)))) (lit ! tt) (record { fits = slot-next e })) (from ! (stop !)) (store ! 19 refl (tt, record { fits = slot-next e })) $
         assigns-last ! (bin ! (load ! (from ! (stop !)) (look ! 17 refl)) (lit ! tt) (record { fits = next-fits less })) (from ! (stop !)) (store ! 17 refl (tt, record { fits = next-fits less })) $
         forget ! 7 refl $ forget ! 9 refl $ forget ! 11 refl $ forget ! 15 refl $
         rewrite ! 0 (λ (ws : List Edge). ‵ (row T.the-row fullShare ws b o)) (put-more seed ys (i .done-to) r (ltb→lt (i .done-to) n less) e) refl $ move ! (2 ∷ []) $ split ! $
@@ -280,10 +303,18 @@ module _ {M : Type 1} (𝓤 : URA M) (H : Heap 𝓤) (A : Atoms 𝓤) (W : Given
         (λ over. jumps ! $ exec ! C Λ En parts.t-7 (atRet En Post) $
         closes-slice ! tt T.the-row ys (put (i .done-to)) (put-length seed ys (i .done-to) (i .most)) b o $
         -- [obs; the borrow; its token; the token; the table's; _11; …; _10; …; _9; …; _8; …; _7; …; _6; …; _5; …; _4; …; _3; …; _2; …; _1; …; room for _0; …]
-        assigns ! (of-opd ! (load ! (from ! (stop !)) (look ! 21 refl))) (from ! (stop !)) (init ! 27 refl (tt, record { fits = total-fits })) $
-        returns ! (look ! 27 refl) $ forget ! 9 refl $ forget ! 15 refl $ forget ! 17 refl $ forget ! 19 refl $ forget ! 21 refl $ forget ! 23 refl $ forget ! 25 refl $ forget ! 27 refl $
-        move ! (27 ∷ 28 ∷ []) $ free1 ! $ move ! (25 ∷ 26 ∷ []) $ free1 ! $ move ! (23 ∷ 24 ∷ []) $ free1 ! $ move ! (21 ∷ 22 ∷ []) $ free1 ! $ move ! (19 ∷ 20 ∷ []) $ free1 ! $ move ! (17 ∷ 18 ∷ []) $ free1 ! $ move ! (15 ∷ 16 ∷ []) $ free1 ! $ move ! (13 ∷ 14 ∷ []) $ free1 ! $ move ! (11 ∷ 12 ∷ []) $ free1 ! $ move ! (9 ∷ 10 ∷ []) $ free1 ! $ move ! (7 ∷ 8 ∷ []) $ free1 ! $ move ! (5 ∷ 6 ∷ []) $ free1 ! $ free0 ! $
-        by ! (exits total (put (i .done-to)) total-fits (put-length seed ys (i .done-to) (i .most)) (all-put over) room))
+        nothing ! $ owned ! usize (Is usize) (uint-makes 𝓤 H A W w64) n _ (refl, fits n (le-refl n)) $ fjoin ! $ owned ! usize (Is usize) (uint-makes 𝓤 H A W w64) total _ (refl, total-fits) $ fjoin ! $ nothing ! $
+        use2 W (raw (Answer 𝓤 H A mem run .pre to-answer)) asked-answer $
+        -- [what the callee asks; obs; the borrow; its token; the token; the table's; _11; …]
+        calls-at ! (fmOf 𝓤 H (W .laws) 𝓣) (Answer 𝓤 H A mem run) known-answer to-answer (and-then ! (load ! (from ! (stop !)) (look ! 22 refl)) (and-then ! (load ! (from ! (stop !)) (look ! 20 refl)) (no-more !))) (λ v.
+        use1 W (later (some (λ (r : Put). (‵ ftrue ⊛ ‵ (R.the-row .own r (v ∷ []))) ⊛ raw (ensured 𝓤 H A answered-fn.ended (answered-fn.clauses 𝓤 H A mem run) tt (total, (n, tt)) tt r)))) (id⊢ 𝓤 _) $ await ! tt $ pick ! (λ r.
+        split ! $ move ! (1 ∷ []) $ use1 W (raw (fact 𝓤 (r ≡ answerFor total n))) (said-answer r) $ heard ! (r ≡ answerFor total n) (λ d. split ! $ move ! (1 ∷ []) $
+        peeks ! R.the-row (Is R.the-row) (shows 𝓤 H A R.the-row) r (v ∷ []) (λ is.
+        -- [the result; true; obs; the borrow; its token; the token; the table's; _11; …; _10; …; _9; …; _8; …; _7; …; _6; …; _5; …; _4; …; _3; …; _2; …; _1; …; room for _0; …]
+        land ! (from ! (stop !)) (init ! 29 refl (EL.lawful R.the-type R′.the-laws 𝓤 H A W tt .typed r _ is .0)) $
+        returns ! (look ! 29 refl) $ forget ! 11 refl $ forget ! 17 refl $ forget ! 19 refl $ forget ! 21 refl $ forget ! 23 refl $ forget ! 25 refl $ forget ! 27 refl $ forget ! 29 refl $
+        move ! (29 ∷ 30 ∷ []) $ free1 ! $ move ! (27 ∷ 28 ∷ []) $ free1 ! $ move ! (25 ∷ 26 ∷ []) $ free1 ! $ move ! (23 ∷ 24 ∷ []) $ free1 ! $ move ! (21 ∷ 22 ∷ []) $ free1 ! $ move ! (19 ∷ 20 ∷ []) $ free1 ! $ move ! (17 ∷ 18 ∷ []) $ free1 ! $ move ! (15 ∷ 16 ∷ []) $ free1 ! $ move ! (13 ∷ 14 ∷ []) $ free1 ! $ move ! (11 ∷ 12 ∷ []) $ free1 ! $ move ! (9 ∷ 10 ∷ []) $ free1 ! $ move ! (7 ∷ 8 ∷ []) $ free1 ! $ free0 ! $
+        by ! (exits r v (put (i .done-to)) (put-length seed ys (i .done-to) (i .most)) (all-put over r d) room))))))
       where
         fits : (k : ℕ) → k ≤ n → k < 2 ^ 64
         fits k h = let l = fitting-le total (length ys) .1 in let r : length ys * 48 < 2 ^ 63 = room .1 in omega arith
@@ -291,13 +322,13 @@ module _ {M : Type 1} (𝓤 : URA M) (H : Heap 𝓤) (A : Atoms 𝓤) (W : Given
         slot-fits : i .slot < 2 ^ 64
         slot-fits = let l = i .few in omega arith
 
-        slot-next : {r : EdgeStep} → Numbered seed (i .done-to) r → r .slot + 1 < 2 ^ 64
+        slot-next : {r : Found} → Numbered seed (i .done-to) r → r .slot + 1 < 2 ^ 64
         slot-next e = let l = e .few in omega arith
 
         ahead : Holds (ltb (i .done-to) n) → Ahead seed (i .done-to) (i .slot)
         ahead less = record { below = i .below; there = let h = ltb→lt (i .done-to) n less in let l = fitting-le total (length ys) .0 in omega arith }
 
-        next : Holds (ltb (i .done-to) n) → (r : EdgeStep) → Numbered seed (i .done-to) r → Upto
+        next : Holds (ltb (i .done-to) n) → (r : Found) → Numbered seed (i .done-to) r → Upto
         next less r e = record { done-to = i .done-to + 1; most = add-one-le (ltb→lt (i .done-to) n less); slot = r .slot + 1; below = e .behind; few = let l = e .few in omega arith }
 
         next-fits : Holds (ltb (i .done-to) n) → i .done-to + 1 < 2 ^ 64
@@ -309,14 +340,19 @@ module _ {M : Type 1} (𝓤 : URA M) (H : Heap 𝓤) (A : Atoms 𝓤) (W : Given
         scaled : Holds (ltb (i .done-to) n) → i .done-to * 48 < 2 ^ 64
         scaled less = let h = ltb→lt (i .done-to) n less in let l = fitting-le total (length ys) .1 in let r : length ys * 48 < 2 ^ 63 = room .1 in omega arith
 
-        edge-is : (r : EdgeStep) {v : List Val} → Is S.the-row r v → Is T.the-row (r .edge) (edgeVal (r .edge))
-        edge-is r {v} is = LL.owed S.the-type S′.the-laws r v is .1 .1 .0
+        edge-is : (r : Found) {v : List Val} → Is S.the-row r v → Is T.the-row (r .edge) (edgeVal (r .edge))
+        edge-is r {v} is = LL.owed S.the-type S′.the-laws r v is .1 .0
 
-        all-put : Holds (not (ltb (i .done-to) n)) → PutAs (tableEdges seed) ys total (put (i .done-to))
-        all-put over = record { counted = refl; put = ap put (le-antisymm (i .most) (nltb→le (i .done-to) n over)) ∙ put-fitting seed ys }
+        all-put : Holds (not (ltb (i .done-to) n)) → (r : Put) → r ≡ answerFor total n → PutAs (tableEdges seed) ys r (put (i .done-to))
+        all-put over r e =
+            subst (λ (k : ℕ). PutAs (tableEdges seed) ys r (put k)) (le-antisymm (nltb→le (i .done-to) n over) (i .most)) (put-fitting seed ys r e)
 
-  walk : (𝓣 : Tables 𝓤 H) → Triple 𝓤 (𝓣 .C #putting·edge-count) (Count 𝓤 H A mem run) → Triple 𝓤 (𝓣 .C #putting·fitting) (Fitting 𝓤 H A mem run) → Triple 𝓤 (𝓣 .C #putting·edge-next) (Next 𝓤 H A mem run) → Is (ShrSlice (named 0) κ u64) ar (sv ∷ []) → Is (MutSlice (named 1) κ₁ T.the-row) (x ys) (s ∷ []) → Room T.the-row (length ys) → ent 𝓤 (onEntry 𝓤 H A f.signature (κ, (κ₁, tt)) (q, (q₁, tt)) a vals) (WpFn 𝓤 H (𝓣 .C) (𝓣 .Λ) code.function (sv ∷ s ∷ []) Post)
-  walk 𝓣 known-count known-fitting known-next ga g room =
+    -- the loop and what follows it
+    looped : Sq W (At start) (runs C Λ En parts.t-6 (atRet En Post))
+    looped = first ! $ blocks ! $ loops ! 𝓣 Nearer Nearer-wf At turns start
+
+  walk : (𝓣 : Tables 𝓤 H) → Triple 𝓤 (𝓣 .C #putting·edge-count) (Count 𝓤 H A mem run) → Triple 𝓤 (𝓣 .C #putting·fitting) (Fitting 𝓤 H A mem run) → Triple 𝓤 (𝓣 .C #putting·edge-next) (Next 𝓤 H A mem run) → Triple 𝓤 (𝓣 .C #putting·answered) (Answer 𝓤 H A mem run) → Is (ShrSlice (named 0) κ u64) ar (sv ∷ []) → Is (MutSlice (named 1) κ₁ T.the-row) (x ys) (s ∷ []) → Room T.the-row (length ys) → ent 𝓤 (onEntry 𝓤 H A f.signature (κ, (κ₁, tt)) (q, (q₁, tt)) a vals) (WpFn 𝓤 H (𝓣 .C) (𝓣 .Λ) code.function (sv ∷ s ∷ []) Post)
+  walk 𝓣 known-count known-fitting known-next known-answer ga g room =
       qed W ((‵ (flft κ q) ⊛ (‵ (flft κ₁ q₁) ⊛ ‵ ftrue)) ∷ ‵ (owns (ShrSlice (named 0) κ u64 ∷ MutSlice (named 1) κ₁ T.the-row ∷ []) a vals) ∷ []) ∵ enter ! (𝓣 .C) (𝓣 .Λ) code.function (sv ∷ s ∷ []) _ $
       alloc1 ! (λ l₀. alloc1 ! (λ l₁. alloc1 ! (λ l₂. alloc1 ! (λ l₃. alloc1 ! (λ l₄. alloc1 ! (λ l₅. alloc1 ! (λ l₆. alloc1 ! (λ l₇. alloc1 ! (λ l₈. alloc1 ! (λ l₉. alloc1 ! (λ l₁₀. alloc1 ! (λ l₁₁. alloc0 ! $ params1 ! $
       pass1 ! (init ! 20 refl (shr-slice-lawful 𝓤 H A W (named 0) κ u64 .typed ar (sv ∷ []) ga .0)) $ pass1 ! (init ! 18 refl (mut-slice-lawful 𝓤 H A W (named 1) κ₁ T.the-row .typed (x ys) (s ∷ []) g .0)) $ pass0 ! $
@@ -352,17 +388,17 @@ module _ {M : Type 1} (𝓤 : URA M) (H : Heap 𝓤) (A : Atoms 𝓤) (W : Given
       -- [the token; true; the row; the open borrow; obs; auth; true; out's fact; true; true; the table's; _11; …]
       rewrite ! 2 (λ (ws : List Edge). ‵ (row T.the-row fullShare ws b o)) (sym (put-none seed ys)) refl $
       keep ! (2 ∷ 3 ∷ 4 ∷ 5 ∷ 0 ∷ 10 ∷ 11 ∷ 12 ∷ 13 ∷ 14 ∷ 15 ∷ 16 ∷ 17 ∷ 18 ∷ 19 ∷ 20 ∷ 21 ∷ 22 ∷ 23 ∷ 24 ∷ 25 ∷ 26 ∷ 27 ∷ 28 ∷ 29 ∷ 30 ∷ 31 ∷ 32 ∷ 33 ∷ 34 ∷ []) $
-      first ! $ blocks ! $ loops ! 𝓣 Nearer Nearer-wf (At 𝓣 known-next room (few r e is) l₀ l₁ l₂ l₃ l₄ l₅ l₆ l₇ l₈ l₉ l₁₀ l₁₁) (turns 𝓣 known-next room (few r e is) l₀ l₁ l₂ l₃ l₄ l₅ l₆ l₇ l₈ l₉ l₁₀ l₁₁) start))))))))))))))))))))
+      looped 𝓣 known-next known-answer room (few r e is) l₀ l₁ l₂ l₃ l₄ l₅ l₆ l₇ l₈ l₉ l₁₀ l₁₁))))))))))))))))))))
     where
       few : (r : ℕ) → r ≡ total → {v : List Val} → Is usize r v → total < 2 ^ 64
       few r e is = let h = is .1 in omega arith
 
-module _ {M : Type 1} (𝓤 : URA M) (H : Heap 𝓤) (A : Atoms 𝓤) (W : Given 𝓤 H A) (mem : Memory → SProp 𝓤) (run : Routine → Fun 𝓤) (𝓣 : Tables 𝓤 H) (known-count : Triple 𝓤 (𝓣 .C #putting·edge-count) (Count 𝓤 H A mem run)) (known-fitting : Triple 𝓤 (𝓣 .C #putting·fitting) (Fitting 𝓤 H A mem run)) (known-next : Triple 𝓤 (𝓣 .C #putting·edge-next) (Next 𝓤 H A mem run)) where
+module _ {M : Type 1} (𝓤 : URA M) (H : Heap 𝓤) (A : Atoms 𝓤) (W : Given 𝓤 H A) (mem : Memory → SProp 𝓤) (run : Routine → Fun 𝓤) (𝓣 : Tables 𝓤 H) (known-count : Triple 𝓤 (𝓣 .C #putting·edge-count) (Count 𝓤 H A mem run)) (known-fitting : Triple 𝓤 (𝓣 .C #putting·fitting) (Fitting 𝓤 H A mem run)) (known-next : Triple 𝓤 (𝓣 .C #putting·edge-next) (Next 𝓤 H A mem run)) (known-answer : Triple 𝓤 (𝓣 .C #putting·answered) (Answer 𝓤 H A mem run)) where
   put-walks : Walks 𝓤 H A f.ended stayed (WpFn 𝓤 H (𝓣 .C) (𝓣 .Λ) code.function) (f.clauses 𝓤 H A mem run)
   put-walks = walked 𝓤 H A f.ended stayed (f.clauses 𝓤 H A mem run) (WpFn 𝓤 H (𝓣 .C) (𝓣 .Λ) code.function)
       (λ κs. (slice-vals, (slice-vals, tt))) (λ κs. (shr-slice-tells (named 0) (κs .0) u64, (mut-slice-tells (named 1) (κs .1 .0) T.the-row, tt)))
       (λ κs qs bounds a g are. via 𝓤 _ (fst∗ 𝓤 _ (emp 𝓤))
-      (walk 𝓤 H A W mem run (κs .0) (κs .1 .0) (qs .0) (qs .1 .0) (a .0) (a .1 .0 .ptr .0) (a .1 .0 .ptr .1) (a .1 .0 .name) (a .1 .0 .now) 𝓣 known-count known-fitting known-next (are .0) (are .1 .0) (are .1 .0 .0 .1)))
+      (walk 𝓤 H A W mem run (κs .0) (κs .1 .0) (qs .0) (qs .1 .0) (a .0) (a .1 .0 .ptr .0) (a .1 .0 .ptr .1) (a .1 .0 .name) (a .1 .0 .now) 𝓣 known-count known-fitting known-next known-answer (are .0) (are .1 .0) (are .1 .0 .0 .1)))
 
   put-meets : Meets 𝓤 H A f.signature (WpFn 𝓤 H (𝓣 .C) (𝓣 .Λ) code.function) (f.spec 𝓤 H A mem run)
   put-meets =
@@ -377,4 +413,5 @@ put-edges-spec 𝓤 H 𝓜 𝓖 𝓡 =
     (put-meets 𝓤 H (𝓖 .A) (givenOf 𝓤 H 𝓜 𝓖) (𝓜 .mem) (𝓡 .run) (tablesOf 𝓤 H 𝓜 (tables 𝓤 H 𝓜 𝓡 code.env))
     (cited 𝓤 H (Count 𝓤 H (𝓖 .A) (𝓜 .mem) (𝓡 .run)) 𝓜 𝓡 code.env #putting·edge-count count-def.routine code.calls-putting·edge-count (count-thm.met 𝓤 H 𝓜 𝓖 𝓡))
     (cited 𝓤 H (Fitting 𝓤 H (𝓖 .A) (𝓜 .mem) (𝓡 .run)) 𝓜 𝓡 code.env #putting·fitting fitting-def.routine code.calls-putting·fitting (fitting-thm.met 𝓤 H 𝓜 𝓖 𝓡))
-    (cited 𝓤 H (Next 𝓤 H (𝓖 .A) (𝓜 .mem) (𝓡 .run)) 𝓜 𝓡 code.env #putting·edge-next next-def.routine code.calls-putting·edge-next (next-thm.met 𝓤 H 𝓜 𝓖 𝓡)))
+    (cited 𝓤 H (Next 𝓤 H (𝓖 .A) (𝓜 .mem) (𝓡 .run)) 𝓜 𝓡 code.env #putting·edge-next next-def.routine code.calls-putting·edge-next (next-thm.met 𝓤 H 𝓜 𝓖 𝓡))
+    (cited 𝓤 H (Answer 𝓤 H (𝓖 .A) (𝓜 .mem) (𝓡 .run)) 𝓜 𝓡 code.env #putting·answered answered-def.routine code.calls-putting·answered (answered-thm.met 𝓤 H 𝓜 𝓖 𝓡)))
