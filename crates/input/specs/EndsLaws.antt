@@ -44,15 +44,15 @@ lent {t} {before} answer m less e = record {
 
 -- The cases of an answer: below 0, 0, more than 0. The area is as long afterwards, and the code tests the answer read out, z below.
 module _
-  {t : Received}
-  {before after : List ℕ}
-  {r : Received}
-  {size : ℕ}
-  {z : ℤ}
-  (same : size ≡ length before)
-  (m : ReadMore t before after r)
-  (less : t .count < length before)
-  (told : z ≡ r .last) where
+    {t : Received}
+    {before after : List ℕ}
+    {r : Received}
+    {size : ℕ}
+    {z : ℤ}
+    (same : size ≡ length before)
+    (m : ReadMore t before after r)
+    (less : t .count < length before)
+    (told : z ≡ r .last) where
   pub failed-ends : ltZ z (pos 0) ≡ true → Negative (r .last) × (r .count + r .room ≡ size)
   failed-ends h = go (r .last) refl (rw (sym told) h)
     where

@@ -1,5 +1,6 @@
 // Standard input into a lent area, and how reading it ended.
 pub mod reads;
+
 pub use reads::Received;
 ghost use lib.ListN.{length};
 ghost use Rattle.input.specs.Ends.{Ends};

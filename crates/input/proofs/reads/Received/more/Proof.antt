@@ -1,7 +1,7 @@
+-- The rest of the area that is lent has as many bytes as the area has left, and the bytes before it stay as they were.
 use native.Mathlib.Omega.{arith}
-use mathlib.Core.Path.{_≡_, refl, ap, sym, _∙_}
-use Prim.Native.Nat.{ℕ, _+_, _-_, _*_, _≤_, _<_}
-use lib.ListN.{length, set, getD, length-set, take, drop}
+use Prim.Native.Nat.{_-_, _<_}
+use lib.ListN.{length}
 use borrow.Author.Needs.{needs}
 use mir.Syntax.{w64}
 use mir.ValLaws.{toZ-ofZ}
@@ -9,35 +9,25 @@ use borrow.Rule.Slice.PartMut.{take-put, mid-len}
 use Rattle.input.specs.ReadsLaws.{no-more, one-more, brought-fits}
 use Rattle.input.proofs.reads.Received.more.Statement.{statement}
 use Rattle.input.proofs.reads.Received.more.Tie as tie
-use Rattle.input.proofs.reads.Received.more.Reads as reads
-use Rattle.input.proofs.reads.Received.more.Lts as lts
-use Rattle.input.proofs.reads.read_once.Reads as read-once-reads
 
--- src/reads.rt:63:13
 returns : tie.Need-returns
 returns c = no-more _ _ (c .if1 .taken)
 
--- src/reads.rt:65:20
 sub-room : tie.Need-sub-room
 sub-room c = search needs
 
--- src/reads.rt:66:29
 sub-read-once : tie.Need-sub-read-once
 sub-read-once c = search needs
 
--- src/reads.rt:66:29
 part-read-once-start : tie.Need-part-read-once-start
 part-read-once-start c = search needs
 
--- src/reads.rt:66:29
 part-read-once-end : tie.Need-part-read-once-end
 part-read-once-end c = search needs
 
--- src/reads.rt:66:13
 read-once-requires : tie.Need-read-once-requires
 read-once-requires c κs = search needs
 
--- src/reads.rt:68:20
 add-t6 : tie.Need-add-t6
 add-t6 c =
     let r = c .before .before .before in
@@ -46,11 +36,9 @@ add-t6 c =
     let part = mid-len (r .before .before .before .before .args .self .count) (length bytes) bytes (omega arith) in
     record { fits = omega (arith, fits, part, r .before .before .if1 .left) }
 
--- src/reads.rt:58:5
 same-length : tie.Need-same-length
 same-length c = search needs
 
--- src/reads.rt:58:5
 returns-2 : tie.Need-returns-2
 returns-2 c =
     let r = c .before .before .before .before in
