@@ -5,6 +5,7 @@
 pub mod areas;
 pub mod damage;
 pub mod edges;
+pub mod feeding;
 pub mod generator;
 pub mod lines;
 pub mod outcome;

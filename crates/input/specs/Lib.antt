@@ -1,4 +1,4 @@
-pub mod Input
-pub mod InputLaws
-pub mod Reading
-pub mod ReadingLaws
+pub mod Reads
+pub mod ReadsLaws
+pub mod Ends
+pub mod EndsLaws

@@ -1,62 +1,88 @@
--- n is at most the area's length: a read adds no more than has room (read-fits), and one that does not end adds something (read-further), so the
--- measure, the room left, falls. What ends the reading is within the area (read-within).
+-- As long as every answer was more than 0 there are more bytes each time (`Going`); an answer of 0 or below ends reading with what `Ends` says of it.
 use borrow.Author.Needs.{needs}
 use native.Mathlib.Omega.{arith}
-use mathlib.Core.Path.{_≡_}
-use Prim.Native.Nat.{_-_, _≤_}
+use mathlib.Core.Path.{_≡_, refl, sym, _∙_}
+use Prim.Native.Nat.{_-_}
 use lib.ListN.{length}
-use Rattle.input.specs.InputLaws.{count-within}
-use Rattle.input.specs.ReadingLaws.{read-within, read-fits, read-further}
+use Rattle.input.specs.EndsLaws.{Going, going-first, failed-ends, ended-ends, going-further, going-on, zero-of-bits, bits-of-zero}
+use mir.Syntax.{w64}
+use mir.ValLaws.{toZ-ofZ}
 use Rattle.input.proofs.read_input.Statement.{statement}
 use Rattle.input.proofs.read_input.Tie as tie
-use Rattle.input.proofs.read_input.Reads as reads
-use Rattle.input.proofs.read_input.Lts as lts
-use Rattle.input.proofs.behind.Reads as behind-reads
-use Rattle.input.proofs.read_once.Reads as read-once-reads
 
 abbrev Inv-loop : tie.InvT-loop
-Inv-loop area₀ n₀ area n = (length area ≡ length area₀) × (n ≤ length area)
+Inv-loop area₀ received₀ area received = (length area ≡ length area₀) × Going (length area) received
 
 abbrev μ-loop : tie.MeasureT-loop
-μ-loop area₀ n₀ area n = length area - n
+μ-loop area₀ received₀ area received = length area - received .count
+
+nothing-requires : tie.Need-nothing-requires Inv-loop μ-loop
+nothing-requires c κs = search needs
 
 loop-holds : tie.Need-loop-holds Inv-loop μ-loop
-loop-holds c = search needs
+loop-holds c = (refl, going-first _ (c .nothing .ensures))
 
-sub-read-once : tie.Need-sub-read-once Inv-loop μ-loop
-sub-read-once c = search needs
+count-requires : tie.Need-count-requires Inv-loop μ-loop
+count-requires c κs = search needs
 
-part-read-once-start : tie.Need-part-read-once-start Inv-loop μ-loop
-part-read-once-start c = search needs
+more-requires : tie.Need-more-requires Inv-loop μ-loop
+more-requires c κs = search needs
 
-part-read-once-end : tie.Need-part-read-once-end Inv-loop μ-loop
-part-read-once-end c = search needs
-
-read-once-requires : tie.Need-read-once-requires Inv-loop μ-loop
-read-once-requires c κs = search needs
-
-behind-requires : tie.Need-behind-requires Inv-loop μ-loop
-behind-requires c κs = search needs
+last-requires : tie.Need-last-requires Inv-loop μ-loop
+last-requires c κs = search needs
 
 same-length : tie.Need-same-length Inv-loop μ-loop
 same-length c = search needs
 
 returns : tie.Need-returns Inv-loop μ-loop
-returns c = read-within _ _ (search needs) (c .before .before .behind .ensures)
-
-loop-less : tie.Need-loop-less Inv-loop μ-loop
-loop-less c =
-    let further = read-further _ _ (c .before .before .behind .ensures) (c .if1 .left) in
-    omega arith
-
-loop-again : tie.Need-loop-again Inv-loop μ-loop
-loop-again c = (search needs, read-fits _ _ (search needs) (c .before .before .behind .ensures))
+returns c =
+    let m = c .before .before .before .before in
+    failed-ends (search needs) (m .more .ensures) (omega (arith, m .before .before .if1 .taken, m .before .before .before .count .ensures))
+    (toZ-ofZ w64 _ (record { sfits = c .before .last .ok }) ∙ c .before .last .ensures)
+    (c .if2 .taken)
 
 same-length-2 : tie.Need-same-length-2 Inv-loop μ-loop
 same-length-2 c = search needs
 
 returns-2 : tie.Need-returns-2 Inv-loop μ-loop
-returns-2 c = count-within (search needs)
+returns-2 c =
+    let m = c .before .before .before .before .before in
+    ended-ends (search needs) (m .more .ensures) (omega (arith, m .before .before .if1 .taken, m .before .before .before .count .ensures))
+    (c .before .before .last .ensures)
+    (zero-of-bits (record { sfits = c .before .before .last .ok }) (c .if3 .taken))
+
+loop-less : tie.Need-loop-less Inv-loop μ-loop
+loop-less c =
+    let m = c .before .before .before .before .before in
+    let last = toZ-ofZ w64 _ (record { sfits = c .before .before .last .ok }) in
+    let further = going-further {size = length (m .before .before .before .before .loop .area)} refl (m .more .ensures)
+    (omega (arith, m .before .before .if1 .taken, m .before .before .before .count .ensures))
+    (last ∙ c .before .before .last .ensures) (c .before .if2 .left) (λ h. c .if3 .left (bits-of-zero (sym last ∙ h))) in
+    let fits = going-on {size = length (m .before .before .before .before .loop .area)} refl (m .more .ensures)
+    (omega (arith, m .before .before .if1 .taken, m .before .before .before .count .ensures))
+    (last ∙ c .before .before .last .ensures) (c .before .if2 .left) (λ h. c .if3 .left (bits-of-zero (sym last ∙ h))) .fits in
+    let same : length (m .more .last .1 .0) ≡ length (m .before .before .before .before .loop .area) = search needs in
+    omega (arith, further, fits, same)
+
+loop-again : tie.Need-loop-again Inv-loop μ-loop
+loop-again c =
+    let m = c .before .before .before .before .before in
+    let last = toZ-ofZ w64 _ (record { sfits = c .before .before .last .ok }) in (
+      search needs,
+      going-on (search needs) (m .more .ensures)
+          (omega (arith, m .before .before .if1 .taken, m .before .before .before .count .ensures))
+          (last ∙ c .before .before .last .ensures) (c .before .if2 .left) (λ h. c .if3 .left (bits-of-zero (sym last ∙ h))),
+    )
+
+same-length-3 : tie.Need-same-length-3 Inv-loop μ-loop
+same-length-3 c = search needs
+
+returns-3 : tie.Need-returns-3 Inv-loop μ-loop
+returns-3 c =
+    let n = c .before .count .ensures in let l = c .if1 .left in
+    let inv = c .before .before .loop .inv .1 in
+    let full : c .before .before .loop .received .count ≡ length (c .before .before .loop .area) = omega (arith, n, l, inv .fits) in
+    (inv .full full, full)
 
 pub read-input-spec : {M : Type 1} → statement M
 read-input-spec =
@@ -64,15 +90,16 @@ read-input-spec =
     (tie.spec
     Inv-loop
     μ-loop
+    nothing-requires
     loop-holds
-    sub-read-once
-    part-read-once-start
-    part-read-once-end
-    read-once-requires
-    behind-requires
+    count-requires
+    more-requires
+    last-requires
     same-length
     returns
+    same-length-2
+    returns-2
     loop-less
     loop-again
-    same-length-2
-    returns-2)
+    same-length-3
+    returns-3)
