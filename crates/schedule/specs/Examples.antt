@@ -706,8 +706,8 @@ none-foreign s = go (s .transactions) refl
     go (x ∷ l) h = absurd (List·Memᴰ·not-nil (s .ofPrograms x (subst (List·Memᴰ x) (sym h) (List·Memᴰ·head refl))))
 
 -- each event obeys the rules, here the second
-none-against : {lines : List Line} (s : Schedule lines) (rest : List Event) → s .events ≡ does 1 0 commit 0 ∷ does 0 0 insert 0 ∷ rest
-    → s .start 0 0 ≡ false
+none-against : {lines : List Line} (s : Schedule lines) (rest : List Event)
+    → s .events ≡ event 1 0 0 commit 0 0 0 ∷ event 0 0 0 insert 0 0 everyAttribute ∷ rest → s .start 0 0 ≡ false
 unfolding openRules
 none-against s rest e = false-of (s .start 0 0) (λ h. false≢true (rw h at (subst (λ l. allObey (s .start) [] l ≡ true) e (s .obeyed))))
 
@@ -793,31 +793,33 @@ order-holds-once s e = let z : _≡_ {A = ℕ} 2 1 = subst (λ l. count (eqb 0) 
 order-holds-else : (s : SerialOrder 1 (does 0 0 commit 0 ∷ [])) → s .order ≡ 0 ∷ 1 ∷ [] → ⊥
 order-holds-else s e = let z : _≡_ {A = ℕ} 1 0 = subst (λ l. count (eqb 1) l ≡ 0) e (s .eachOnce 1) in omega arith
 
--- what a tuple of relation 0 ends with in the serial run in an order
-abbrev final : List Event → ℕ → List ℕ → List Event
-final events t order = stateAt (serialRun order events) (length (serialRun order events)) 0 t
+-- what a tuple ends with in the serial run in an order
+abbrev final : List Event → ℕ → ℕ → List ℕ → List Event
+final events r t order = stateAt (serialRun order events) (length (serialRun order events)) r t
 
--- transaction 0 writes tuple 0, then transaction 1 does
+-- transaction 0 writes tuple 5 of relation 3, then transaction 1 does
 abbrev overwrites : List Event
-overwrites = does 0 0 write 0 ∷ does 0 1 commit 0 ∷ does 1 0 write 0 ∷ does 1 1 commit 0 ∷ []
+overwrites =
+    event 0 0 0 write 3 5 everyAttribute ∷ does 0 1 commit 0 ∷ event 1 0 0 write 3 5 everyAttribute ∷ does 1 1 commit 0 ∷ []
 
 -- X8: each attribute ends with the same last write
 ends-same : (s : SerialOrder 2 overwrites) → s .order ≡ 1 ∷ 0 ∷ [] → ⊥
 unfolding openRules
 ends-same s e =
-    let z : some (does 1 0 write 0) ≡ some (does 0 0 write 0) =
-    subst (λ l. some (does 1 0 write 0) ≡ source (final overwrites 0 l) 0) e (s .ends 0 0 0) in
-    other-transaction (sym z)
+    let z : some (event 1 0 0 write 3 5 everyAttribute) ≡ some (event 0 0 0 write 3 5 everyAttribute) =
+    subst (λ l. some (event 1 0 0 write 3 5 everyAttribute) ≡ source (final overwrites 3 5 l) 63) e (s .ends 3 5 63) in
+    let y : _≡_ {A = ℕ} 1 0 = ap (λ (d : Event). d .transaction) (some-injective z) in
+    omega arith
 
--- transaction 0 inserts tuple 1, then transaction 1 deletes it
+-- transaction 0 inserts tuple 5 of relation 3, then transaction 1 deletes it
 abbrev removes : List Event
-removes = does 0 0 insert 1 ∷ does 0 1 commit 0 ∷ does 1 0 delete 1 ∷ does 1 1 commit 0 ∷ []
+removes = event 0 0 0 insert 3 5 everyAttribute ∷ does 0 1 commit 0 ∷ event 1 0 0 delete 3 5 everyAttribute ∷ does 1 1 commit 0 ∷ []
 
 -- X8: existence ends with the same insert or delete
 ends-existence : (s : SerialOrder 2 removes) → s .order ≡ 1 ∷ 0 ∷ [] → ⊥
 unfolding openRules
 ends-existence s e =
-    let z : some (does 1 0 delete 1) ≡ some (does 0 0 insert 1) =
-    subst (λ l. some (does 1 0 delete 1) ≡ existence (final removes 1 l)) e (s .endsExistence 0 1) in
+    let z : some (event 1 0 0 delete 3 5 everyAttribute) ≡ some (event 0 0 0 insert 3 5 everyAttribute) =
+    subst (λ l. some (event 1 0 0 delete 3 5 everyAttribute) ≡ existence (final removes 3 5 l)) e (s .endsExistence 3 5) in
     let y : _≡_ {A = ℕ} 1 0 = ap (λ (d : Event). d .transaction) (some-injective z) in
     omega arith

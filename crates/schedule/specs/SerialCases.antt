@@ -35,10 +35,10 @@ apart {d} {e} h f = true-false (eq-eqb (d .transaction) (e .transaction) (ap (λ
 
 -- transaction 2 writes and commits, transaction 0 writes, transaction 1 reads
 abbrev written : Event
-written = event 2 0 0 write 3 5 1
+written = event 2 0 0 write 3 5 everyAttribute
 
 abbrev unseen : Event
-unseen = event 0 0 0 write 3 5 1
+unseen = event 0 0 0 write 3 5 everyAttribute
 
 abbrev reading : Event
 reading = event 1 0 0 read 3 5 1
@@ -52,19 +52,26 @@ unfolding openRules
 read-committed zero h = refl
 read-committed (suc a) h = absurd (not-suc-le-zero (le-of-suc-le-suc (has-below 1 1 (suc a) (suc-le-suc (suc-le-suc zero-le)) h)))
 
--- not the latest, and not what transaction 0 sees
-read-latest : SameRead readLast 3 reading (λ r t. unseen ∷ written ∷ []) → ⊥
+-- attribute 63 alone is read
+abbrev highest : ℕ
+highest = 0x8000_0000_0000_0000
+
+abbrev readHighest : List Event
+readHighest = written ∷ event 2 1 1 commit 0 0 0 ∷ unseen ∷ event 1 0 0 read 3 5 highest ∷ []
+
+-- not the latest write, nor the one that transaction 0 sees
+read-latest : SameRead readHighest 3 (event 1 0 0 read 3 5 highest) (λ r t. unseen ∷ written ∷ []) → ⊥
 unfolding openRules
-read-latest f = apart (f 0 refl) refl
+read-latest f = apart (f 63 refl) refl
 
 -- not the start
-read-start : SameRead readLast 3 reading (λ r t. []) → ⊥
+read-start : SameRead readHighest 3 (event 1 0 0 read 3 5 highest) (λ r t. []) → ⊥
 unfolding openRules
-read-start f = Option·some-ne-none _ (f 0 refl)
+read-start f = Option·some-ne-none _ (f 63 refl)
 
 -- the same with a predicate read of the relation
 abbrev testing : Event
-testing = event 1 0 0 predicateRead 3 0 1
+testing = event 1 0 0 predicateRead 3 0 highest
 
 abbrev testLast : List Event
 testLast = written ∷ event 2 1 1 commit 0 0 0 ∷ unseen ∷ testing ∷ []
@@ -72,11 +79,11 @@ testLast = written ∷ event 2 1 1 commit 0 0 0 ∷ unseen ∷ testing ∷ []
 -- X5
 test-latest : SamePredicateRead testLast 3 testing (λ r t. writesOf r t (unseen ∷ written ∷ [])) → ⊥
 unfolding openRules
-test-latest f = apart (f .attributes 5 0 refl) refl
+test-latest f = apart (f .attributes 5 63 refl) refl
 
 test-start : SamePredicateRead testLast 3 testing (λ r t. []) → ⊥
 unfolding openRules
-test-start f = Option·some-ne-none _ (f .attributes 5 0 refl)
+test-start f = Option·some-ne-none _ (f .attributes 5 63 refl)
 
 -- a predicate read that tests nothing takes no attribute
 test-nothing : SamePredicateRead (written ∷ event 2 1 1 commit 0 0 0 ∷ []) 2 (event 1 0 0 predicateRead 3 0 0) (λ r t. [])
