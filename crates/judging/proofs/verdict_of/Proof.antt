@@ -26,13 +26,26 @@ returns : tie.Need-returns
 returns c = judged-rows _ _ _ _ _ (c .before .before .fill-rows .ensures) (length-replicate {A = ℕ} 4096 0) (c .if1 .taken)
 
 mul-n : tie.Need-mul-n
-mul-n c = let whole = whole-filled _ _ _ _ (c .before .before .before .fill-rows .ensures) (length-replicate {A = ℕ} 4096 0) (c .before .if1 .left) in let h = whole .short in record { fits = omega arith }
+mul-n c =
+    let whole = whole-filled _ _ _ _ (c .before .before .before .fill-rows .ensures)
+    (length-replicate {A = ℕ} 4096 0) (c .before .if1 .left) in
+    let h = whole .short in
+    record { fits = omega arith }
 
 array-share-prefix-table : tie.Need-array-share-prefix-table
-array-share-prefix-table c = let whole = whole-filled _ _ _ _ (c .before .before .before .fill-rows .ensures) (length-replicate {A = ℕ} 4096 0) (c .before .if1 .left) in let h = whole .short in omega arith
+array-share-prefix-table c =
+    let whole = whole-filled _ _ _ _ (c .before .before .before .fill-rows .ensures)
+    (length-replicate {A = ℕ} 4096 0) (c .before .if1 .left) in
+    let h = whole .short in
+    omega arith
 
 slice-aggregate-pick-edges : tie.Need-slice-aggregate-pick-edges
-slice-aggregate-pick-edges c = let whole = whole-filled _ _ _ _ (c .before .before .before .before .fill-rows .ensures) (length-replicate {A = ℕ} 4096 0) (c .before .before .if1 .left) in let h = whole .short in let l = whole .long in sym (length-take-le _ _ (omega arith))
+slice-aggregate-pick-edges c =
+    let whole = whole-filled _ _ _ _ (c .before .before .before .before .fill-rows .ensures)
+    (length-replicate {A = ℕ} 4096 0) (c .before .before .if1 .left) in
+    let h = whole .short in
+    let l = whole .long in
+    sym (length-take-le _ _ (omega arith))
 
 pick-edges-requires : tie.Need-pick-edges-requires
 pick-edges-requires c κs = search needs
