@@ -150,12 +150,14 @@ module _ (ahead behind before : List ℕ) where
       let few = walk-short ahead behind rows u x in
       let many : r ≡ length (tableWalk ahead behind) = t .count ∙ zero-add _ ∙ ap length (sym found) in
       let area : after ≡ shownIn (tableWalk ahead behind) before
-      = t .area ∙ put-shown (walkOn ahead behind rows u x) before (omega arith) ∙ ap (λ (w : List Step). shownIn w before) (sym found) in
+      = t .area ∙ put-shown (walkOn ahead behind rows u x) before (omega arith)
+      ∙ ap (λ (w : List Step). shownIn w before) (sym found) in
       let steps : length (tableWalk ahead behind) ≡ length (walkOn ahead behind rows u x) = ap length found in
       let some-step : 0 < length (walkOn ahead behind rows u x) = omega arith in
       rw (many, area)
       (shown (room-some (length before) h)
-      (λ g held. settles-some g (tableWalk ahead behind) (omega arith) (table-verdict ahead behind (held .isRegular) (held .small) (held .picks))) (omega arith) (omega arith))
+      (λ g held. settles-some g (tableWalk ahead behind) (omega arith) (table-verdict ahead behind (held .isRegular) (held .small) (held .picks)))
+      (omega arith) (omega arith))
 
 -- a node found has a pair
 pub found-pair : (ahead behind rows : List ℕ) {u x : ℕ} → u ≡ nodeIn ahead behind rows → u < 64 → x ≡ pairFor ahead behind rows u → x < 4096

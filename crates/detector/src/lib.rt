@@ -12,7 +12,8 @@ ghost use Rattle.base.specs.Basic.{has};
 ghost use Rattle.detecting.specs.Pick.{dangerousPicks};
 ghost use Rattle.detector.specs.Table.{aheadPick, behindPick, withBit, joinedRow, joinedRows, growsTo, grown, layersTo, closesAlong};
 ghost use Rattle.detector.specs.Table.{closingNode, pairIn, pairFor, nodeIn, lowest};
-ghost use Rattle.detector.specs.Table.{aheadStep, behindStep, wayOn, walkOn, putWords, putStep, writing, goOn, Written, refusalIn, stepsIn, Answered};
+ghost use Rattle.detector.specs.Table.{aheadStep, behindStep, wayOn, walkOn, putWords, putStep, writing, goOn, Written};
+ghost use Rattle.detector.specs.Table.{refusalIn, stepsIn, Answered};
 
 // Whether node k is one of the nodes of a word.
 fn has_bit(word: u64, k: usize) -> bool

@@ -70,7 +70,8 @@ report-one (danger lines r few walk d short) (robust others s little safe) =
     absurd (safe (subst (λ l. Danger l) (lines-one r s) (walk, d)))
 report-one (danger lines r few walk d short) (danger others s little other e least) =
     walks lines r (record { walk = walk; dangerous = d; short = short; shown = refl })
-    (subst (λ l. DangerShown l (dangerReport (countsOf others) other)) (lines-one s r) (record { walk = other; dangerous = e; short = least; shown = refl }))
+    (subst (λ l. DangerShown l (dangerReport (countsOf others) other)) (lines-one s r)
+    (record { walk = other; dangerous = e; short = least; shown = refl }))
 
 -- ---- the first two lines
 

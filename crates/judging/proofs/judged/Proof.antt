@@ -1,5 +1,5 @@
 -- `judged` meets its contract: each answer of the search has its own.
-use mathlib.Core.Path.{ap, sym}
+use mathlib.Core.Path.{refl}
 use borrow.Author.Needs.{needs}
 use Rattle.judging.specs.VerdictLaws.{toldFor}
 use Rattle.judging.proofs.judged.Statement.{statement}
@@ -16,15 +16,15 @@ enum-known-found c = search needs
 
 returns : tie.Need-returns
 unfolding toldFor
-returns c = sym (ap (toldFor _) (c .enum-told .given .1))
+returns c = rw (c .enum-told .given .1) refl
 
 returns-2 : tie.Need-returns-2
 unfolding toldFor
-returns-2 c = sym (ap (toldFor _) (c .enum-told2 .given .1))
+returns-2 c = rw (c .enum-told2 .given .1) refl
 
 returns-3 : tie.Need-returns-3
 unfolding toldFor
-returns-3 c = sym (ap (toldFor _) (c .before .found .given .1))
+returns-3 c = rw (c .before .found .given .1) refl
 
 pub judged-spec : {M : Type 1} → statement M
 judged-spec = tie.close (tie.spec enum-told enum-told-2 enum-known-found returns returns-2 returns-3)
