@@ -22,11 +22,14 @@ abbrev μ-loop : tie.MeasureT-loop
 
 -- where the reader has come to a line
 came-at : (c : tie.After-known-told Inv-loop μ-loop)
-    → Came (c .before .before .before .before .before .before .before .before .before .before .args .text .now) (c .before .before .before .before .loop .at) (c .before .before .before .before .loop .line) (c .before .span .given .0 .0)
+    → Came (c .before .before .before .before .before .before .before .before .before .before .args .text .now)
+    (c .before .before .before .before .loop .at) (c .before .before .before .before .loop .line) (c .before .span .given .0 .0)
 came-at c = came _ _ _ (sym (c .before .span .given .1) ∙ c .before .before .before .line-from .ensures)
 
 -- where it has come to the end
-ended-at : (c : tie.After-enum-told Inv-loop μ-loop) → linesIn (drop (c .before .before .before .loop .at) (c .before .before .before .before .before .before .before .before .before .args .text .now)) ≡ []
+ended-at : (c : tie.After-enum-told Inv-loop μ-loop)
+    → linesIn (drop (c .before .before .before .loop .at)
+    (c .before .before .before .before .before .before .before .before .before .args .text .now)) ≡ []
 ended-at c = ended _ _ _ (sym (c .enum-told .given .1) ∙ c .before .before .line-from .ensures)
 
 unused-cells-requires : tie.Need-unused-cells-requires Inv-loop μ-loop
@@ -41,7 +44,8 @@ start-requires c κs = search needs
 loop-holds : tie.Need-loop-holds Inv-loop μ-loop
 loop-holds c = (
   search needs,
-  going-first (c .before .before .before .before .before .args .text .now) (c .before .before .before .before .before .args .start) (c .before .before .before .unused-cells .ensures)
+  going-first (c .before .before .before .before .before .args .text .now) (c .before .before .before .before .before .args .start)
+      (c .before .before .before .unused-cells .ensures)
       (c .before .start .ensures .1 (omega (arith, length-replicate {A = ℕ} 424 0))),
 )
 
@@ -76,16 +80,29 @@ returns : tie.Need-returns Inv-loop μ-loop
 returns c =
     c .refused .ensures
     ∙ ap parsedAs
-    (going-refused (c .before .before .before .before .before .before .before .before .before .before .loop .inv .1) (came-at (c .before .before .before .before .before .before)) (c .before .before .before .see-bytes .ensures) (c .before .if1 .taken))
+    (going-refused (c .before .before .before .before .before .before .before .before .before .before .loop .inv .1)
+    (came-at (c .before .before .before .before .before .before)) (c .before .before .before .see-bytes .ensures) (c .before .if1 .taken))
 
 mul-l : tie.Need-mul-l Inv-loop μ-loop
-mul-l c = omega (arith, going-room (c .before .before .before .before .before .before .before .before .before .before .loop .inv .1) (c .before .before .before .see-bytes .ensures) (c .before .if1 .left))
+mul-l c = omega (
+  arith,
+  going-room (c .before .before .before .before .before .before .before .before .before .before .loop .inv .1)
+      (c .before .before .before .see-bytes .ensures) (c .before .if1 .left),
+)
 
 element-set-from-l : tie.Need-element-set-from-l Inv-loop μ-loop
-element-set-from-l c = omega (arith, going-room (c .before .before .before .before .before .before .before .before .before .before .loop .inv .1) (c .before .before .before .see-bytes .ensures) (c .before .if1 .left))
+element-set-from-l c = omega (
+  arith,
+  going-room (c .before .before .before .before .before .before .before .before .before .before .loop .inv .1)
+      (c .before .before .before .see-bytes .ensures) (c .before .if1 .left),
+)
 
 add-w : tie.Need-add-w Inv-loop μ-loop
-add-w c = omega (arith, going-room (c .before .before .before .before .before .before .before .before .before .before .loop .inv .1) (c .before .before .before .see-bytes .ensures) (c .before .if1 .left))
+add-w c = omega (
+  arith,
+  going-room (c .before .before .before .before .before .before .before .before .before .before .loop .inv .1)
+      (c .before .before .before .see-bytes .ensures) (c .before .if1 .left),
+)
 
 loop-less : tie.Need-loop-less Inv-loop μ-loop
 loop-less c = let here = came-at (c .before .before .before .before .before .before) in omega arith
@@ -93,7 +110,8 @@ loop-less c = let here = came-at (c .before .before .before .before .before .bef
 loop-again : tie.Need-loop-again Inv-loop μ-loop
 loop-again c = (
   search needs,
-  going-next (c .before .before .before .before .before .before .before .before .before .before .loop .inv .1) (came-at (c .before .before .before .before .before .before)) (c .before .before .before .see-bytes .ensures) (c .before .if1 .left),
+  going-next (c .before .before .before .before .before .before .before .before .before .before .loop .inv .1)
+      (came-at (c .before .before .before .before .before .before)) (c .before .before .before .see-bytes .ensures) (c .before .if1 .left),
 )
 
 slice-aggregate-depth : tie.Need-slice-aggregate-depth Inv-loop μ-loop
@@ -111,10 +129,14 @@ refused-requires-2 c κs = search needs
 returns-2 : tie.Need-returns-2 Inv-loop μ-loop
 returns-2 c =
     c .refused2 .ensures
-    ∙ ap parsedAs (going-open (c .before .before .before .before .before .before .before .loop .inv .1) (ended-at (c .before .before .before .before)) (c .before .before .depth .ensures .1) (c .before .if2 .taken))
+    ∙ ap parsedAs
+    (going-open (c .before .before .before .before .before .before .before .loop .inv .1) (ended-at (c .before .before .before .before))
+    (c .before .before .depth .ensures .1) (c .before .if2 .taken))
 
 returns-3 : tie.Need-returns-3 Inv-loop μ-loop
-returns-3 c = going-closed (c .before .before .before .before .before .before .loop .inv .1) (ended-at (c .before .before .before)) (c .before .depth .ensures .1) (c .if2 .left)
+returns-3 c =
+    going-closed (c .before .before .before .before .before .before .loop .inv .1) (ended-at (c .before .before .before))
+    (c .before .depth .ensures .1) (c .if2 .left)
 
 pub read-lines-spec : {M : Type 1} → statement M
 read-lines-spec =

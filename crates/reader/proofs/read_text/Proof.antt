@@ -23,12 +23,16 @@ read-lines-requires c κs = search needs
 returns : tie.Need-returns
 returns c =
     c .refused .ensures
-    ∙ ap parsedAs (ap (wholeGives (c .before .before .before .before .before .before .args .text .now)) (sym (c .before .before .whole .given .1)) ∙ c .before .before .before .before .whole-text .ensures)
+    ∙ ap parsedAs
+    (ap (wholeGives (c .before .before .before .before .before .before .args .text .now)) (sym (c .before .before .whole .given .1))
+    ∙ c .before .before .before .before .whole-text .ensures)
 
 returns-2 : tie.Need-returns-2
 returns-2 c =
     c .read-lines .ensures
-    ∙ ap parsedAs (ap (wholeGives (c .before .before .before .before .before .before .args .text .now)) (sym (c .before .before .whole2 .given .1)) ∙ c .before .before .before .before .whole-text .ensures)
+    ∙ ap parsedAs
+    (ap (wholeGives (c .before .before .before .before .before .before .args .text .now)) (sym (c .before .before .whole2 .given .1))
+    ∙ c .before .before .before .before .whole-text .ensures)
 
 pub read-text-spec : {M : Type 1} → statement M
 read-text-spec =

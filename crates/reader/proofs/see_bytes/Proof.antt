@@ -35,7 +35,8 @@ returns c =
 
 returns-2 : tie.Need-returns-2
 returns-2 c =
-    let none-read = answered-refusal {o = lineOf (c .before .before .before .before .before .args .bytes .now)} (ap lineAnswer (sym (c .enum-told .given .1)) ∙ c .before .before .line-of .ensures) in
+    let none-read = answered-refusal {o = lineOf (c .before .before .before .before .before .args .bytes .now)}
+    (ap lineAnswer (sym (c .enum-told .given .1)) ∙ c .before .before .line-of .ensures) in
     rw none-read (saw-wrong _ refl)
 
 pub see-bytes-spec : {M : Type 1} → statement M
