@@ -30,8 +30,9 @@ show-requires : tie.Need-show-requires
 show-requires c κs =
     let start = c .before .before .before .before .before in
     let r = c .before .before .report-of in
+    let bytes = take (r .result .length) (r .result .bytes) in
     report-shown (start .args .read) (start .pre .0) (start .pre .1 .0) (start .pre .1 .1)
-    (subst (λ (n : ℕ). Report (take n (start .args .area .now)) (take (r .result .length) (r .result .bytes))) (start .pre .1 .2) (r .ensures .report))
+    (subst (λ (n : ℕ). Report (take n (start .args .area .now)) bytes) (start .pre .1 .2) (r .ensures .report))
 
 returns : tie.Need-returns
 returns c = search needs
