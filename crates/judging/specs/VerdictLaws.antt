@@ -4,7 +4,7 @@ use mathlib.Core.List.{List, []}
 use mathlib.Core.Logic.{_⊎_, inl, inr}
 use mathlib.Core.Option.{Option, none, some}
 use mathlib.Core.Path.{_≡_, refl, sym, ap, subst, _∙_}
-use Prim.Native.Nat.{ℕ, suc, pred, _*_, _/_, _≤_, _<_}
+use Prim.Native.Nat.{ℕ, zero, suc, _*_, _/_, _≤_, _<_}
 use native.Mathlib.Omega.{arith}
 use lib.ListN.{length, take}
 use Rattle.text.specs.declared.Workload.{Workload}
@@ -22,7 +22,7 @@ use Rattle.detector.specs.Table.Answered.{no-room, no-walk, shown}
 use Rattle.rows.specs.declared.Rows.{Rows}
 use Rattle.rows.specs.declared.Rows.the-variants.{Refused}
 use Rattle.rows.specs.Rows.{RowsSettled}
-use Rattle.rows.specs.Whole.{Whole, number-some, whole-refused}
+use Rattle.rows.specs.Whole.{Whole, whole-refused}
 use Rattle.picking.specs.declared.PickedEdges.{PickedEdges}
 use Rattle.picking.specs.Picks.{picksOf}
 use Rattle.deciding.specs.Verdict.{PickedVerdict, given-picked}
@@ -65,11 +65,12 @@ danger-from : (w : Workload) (walk : List Step) → 0 < length walk
 danger-from w walk some-step (inl (d, short)) = d
 danger-from w walk some-step (inr (e, safe)) = let z = ap length e in absurd (omega arith)
 
-module _ (w : Workload) (f : Rows) (table : List ℕ) (p : PickedEdges) (whole : Whole w f table) (picked : PickedVerdict (linesOf w) p) where
+module _ (w : Workload) (programs nodes places : ℕ) (table : List ℕ) (p : PickedEdges) (whole : Whole w programs nodes places table)
+    (picked : PickedVerdict (linesOf w) p) where
   -- the counts told are the workload's
-  counts-same : counted (f .programs) (f .nodes) (p .edges) (p .back) ≡ countsOf (linesOf w)
+  counts-same : counted programs nodes (p .edges) (p .back) ≡ countsOf (linesOf w)
   unfolding countsOf
-  counts-same = rw (whole .programs, whole .nodes, picked .edges, picked .back) refl
+  counts-same = rw (whole .programs-are, whole .nodes-are, picked .edges, picked .back) refl
 
   -- what the search for a walk answers is the verdict, or S20
   judged-answer : {before : List ℕ} {refusal steps : Option ℕ} {after : List ℕ}
@@ -83,54 +84,52 @@ module _ (w : Workload) (f : Rows) (table : List ℕ) (p : PickedEdges) (whole :
       let walk = tableWalk (p .ahead) (p .behind) in
       judged (taken (whole .given) (whole .few) room) _ _ (danger walk (danger-from w walk some-step (picked .verdict)) short)
 
-      area : after ≡ shownIn (tableWalk ahead behind) before
-      area = shown .area ∙ ap (λ (steps : List Step). shownIn steps before) whole
-
-      go : ((isDangerous (summaryGraph (linesOf w)) (tableWalk ahead behind) ≡ true) × (length (tableWalk ahead behind) ≤ 65))
-          ⊎ ((tableWalk ahead behind ≡ []) × Robust (linesOf w))
-          → Word (linesOf w) before (toldOf (countsOf (linesOf w)) steps) after
-      go (inl (d, short)) =
-          let word = danger (tableWalk ahead behind) d short in
-          let some-step = not-empty (summaryGraph (linesOf w)) (tableWalk ahead behind) d steps many in
-          rw (area, some-step, many) word
-      go (inr (e, safe)) =
-          let word = robust safe (λ s. demand-3 w given safe s) in
-          let no-step : steps ≡ 0 = many ∙ ap length e in
-          let same : after ≡ before = area ∙ ap (λ (steps : List Step). shownIn steps before) e ∙ shown-empty before in
-          rw (same, no-step) word
-
--- a refusal of the table of places is the verdict's
-pub judged-rows : (w : Workload) (table : List ℕ) (f : Rows) (filled before : List ℕ) (r : Verdict) (n : ℕ) → RowsSettled w table f filled
-    → f ≡ Refused n → r ≡ refusedWith n → Judged w before r before
-judged-rows w table f filled before r n settled e same =
-    let refusal = whole-refused (shortForWalk (length before / 4)) settled e in
-    let d = number-some refl refusal in
-    let m : n ≡ suc (pred n) = omega arith in
-    judged-refused w before r (pred n) (subst (λ (k : ℕ). StateRefusal w (shortForWalk (length before / 4)) (some k)) m refusal) (same ∙ ap refusedWith m)
-
--- S20: an area under 65 steps, which is tested behind 21 and 22
-pub judged-short : (w : Workload) (programs nodes places : ℕ) (filled before : List ℕ) (r : Verdict) → Whole w programs nodes places filled
-    → length before < 260 → r ≡ refusedWith 20 → Judged w before r before
-unfolding shortForWalk
-judged-short w programs nodes places filled before r whole short e =
-    judged-refused w before r 19 (too-short (whole .given) (whole .few) (lt-ltb (length before / 4) 65 (omega arith))) e
-
--- the counts told are the workload's
-counts-same : (w : Workload) (programs nodes places : ℕ) (table : List ℕ) (p : PickedEdges) → Whole w programs nodes places table
-    → PickedVerdict (linesOf w) p → (steps : ℕ) → told programs nodes (p .edges) (p .back) steps ≡ toldOf (countsOf (linesOf w)) steps
-unfolding countsOf
-counts-same w programs nodes places table p whole picked steps =
-    rw (whole .programs-are, whole .nodes-are, picked .edges, picked .back) refl
+-- a refusal of the table of places is the verdict's, and leaves the area
+pub judged-rows : (w : Workload) (table : List ℕ) (f : Rows) (filled before : List ℕ) (n : ℕ) → RowsSettled w table f filled → f ≡ Refused n
+    → Judged w before (Told.refused n) before
+judged-rows w table f filled before n settled e = refused n (whole-refused (shortForWalk (length before / 4)) settled e)
 
 -- what is picked from the table, and the walk that is found in it, are the verdict
-pub judged-picked : (w : Workload) (programs nodes places : ℕ) (filled before after : List ℕ) (p : PickedEdges) (walk : WalkFound) (r : Verdict)
-    → Whole w programs nodes places filled → 260 ≤ length before
-    → p ≡ picksOf (take (places * 8) filled) → Answered (p .ahead) (p .behind) before after walk
-    → r ≡ told programs nodes (p .edges) (p .back) (walk .steps) → Judged w before r after
-unfolding shortForWalk
-judged-picked w programs nodes places filled before after p walk r whole room picked answered e =
+pub judged-picked : (w : Workload) (programs nodes places : ℕ) (filled before after : List ℕ) (p : PickedEdges) (found : WalkFound) (answer : Told)
+    → Whole w programs nodes places filled → p ≡ picksOf (take (places * 8) filled)
+    → Answered (p .ahead) (p .behind) before (refusalIn found) (stepsIn found) after
+    → answer ≡ toldFor (counted programs nodes (p .edges) (p .back)) found → Judged w before answer after
+judged-picked w programs nodes places filled before after p found answer whole picked answered e =
     let verdict = given-picked w p (whole .given) (whole .few) (picked ∙ ap picksOf (whole .rows)) in
-    subst (λ (v : Verdict). Judged w before v after)
-    (sym (e ∙ counts-same w programs nodes places filled p whole verdict (walk .steps)))
-    (judged-given w (whole .given) (whole .few) before (p .ahead) (p .behind) (le-ltb (length before / 4) 65 (omega arith)) (verdict .verdict)
-    after (walk .steps) (answered .shown))
+    let same = e
+    ∙ ap (λ (c : Counts). toldFor c found) (counts-same w programs nodes places filled p whole verdict)
+    ∙ answer-same (countsOf (linesOf w)) found in
+    subst (λ (t : Told). Judged w before t after) (sym same) (judged-answer w programs nodes places filled p whole verdict answered)
+
+-- ---- what the verdict says of a value that no text gives
+
+-- S21: the answer is the refusal 21, and the area stays as it was
+pub judged-not-given : {w : Workload} {before : List ℕ} {answer : Told} {after : List ℕ} → (Given w → ⊥) → Judged w before answer after
+    → (answer ≡ Told.refused 21) × (after ≡ before)
+judged-not-given {w} {before} h (refused number s) = (go s refl, refl)
+  where
+    go : {o : Option ℕ} → StateRefusal w (shortForWalk (length before / 4)) o → o ≡ some number → Told.refused number ≡ Told.refused 21
+    go (not-given n) e = let same : number ≡ 21 = cc in ap Told.refused same
+    go (too-many g many) e = absurd (h g)
+    go (too-short g few short) e = absurd (h g)
+    go (taken g few room) e = absurd (h g)
+judged-not-given {w} {before} h (judged s answer after word) = absurd (go s refl)
+  where
+    go : {o : Option ℕ} → StateRefusal w (shortForWalk (length before / 4)) o → o ≡ none → ⊥
+    go (not-given n) e = let z : _≡_ {A = ℕ} 0 1 = cc in absurd (omega arith)
+    go (too-many g many) e = h g
+    go (too-short g few short) e = h g
+    go (taken g few room) e = h g
+
+-- ---- what the word robust is worth
+
+-- N1: a text gives the value, the counts are its own, each of its schedules has a serial order, and the area stays as it was
+pub judged-robust : {w : Workload} {before : List ℕ} {answer : Told} {after : List ℕ} {c : Counts} → Judged w before answer after
+    → answer ≡ Told.robust c → Given w × (c ≡ countsOf (linesOf w)) × ((s : Schedule (linesOf w)) → Serialisable s) × (after ≡ before)
+judged-robust (refused number s) e = let z : _≡_ {A = ℕ} 0 1 = cc in absurd (omega arith)
+judged-robust {w} {before} {c = c} (judged s answer after word) e = go word e
+  where
+    go : {t : Told} {area : List ℕ} → Word (linesOf w) before t area → t ≡ Told.robust c
+        → Given w × (c ≡ countsOf (linesOf w)) × ((s : Schedule (linesOf w)) → Serialisable s) × (area ≡ before)
+    go (robust safe serial) f = let same : c ≡ countsOf (linesOf w) = cc in (taken-given s refl .0, same, serial, refl)
+    go (danger walk dangerous short) f = let z : _≡_ {A = ℕ} 0 1 = cc in absurd (omega arith)

@@ -23,13 +23,11 @@ pub enum Verdict {
     Refused(u8),
 }
 
-// The verdict without a refusal: danger where the shown walk has a step.
-fn judged(programs: u64, nodes: u64, edges: u64, back: u64, steps: usize) -> Verdict
-    ensures { λ r. ⌜ r ≡ told programs nodes edges back steps ⌝ }
+// The answer for what the search for a walk found.
+fn judged(programs: u64, nodes: u64, edges: u64, back: u64, found: WalkFound) -> Verdict
+    ensures { λ r. ⌜ told r ≡ toldFor (counted programs nodes edges back) found ⌝ }
 {
-    Verdict {
-        refusal: 0,
-        danger: steps != 0,
+    let counts = Totals {
         programs: programs,
         nodes: nodes,
         edges: edges,
@@ -51,22 +49,19 @@ pub fn verdict_of(w: Workload, area: &mut [u64]) -> Verdict
     let f = rows::fill_rows(w, &mut table);
     match f {
         Rows::Refused(number) => {
-            return refused(number);
+            return Verdict::Refused(number);
         }
         Rows::Filled {
             programs,
             nodes,
             places,
         } => {
-            if area.len() < 260 {
-                return refused(20);
-            }
             let n = (places * 8) as usize;
             let p = picking::pick_edges(&table[..n]);
             let ahead = p.ahead;
             let behind = p.behind;
-            let walk = detector::find_walk(&ahead, &behind, area);
-            return judged(programs, nodes, p.edges, p.back, walk.steps);
+            let found = detector::find_walk(&ahead, &behind, area);
+            return judged(programs, nodes, p.edges, p.back, found);
         }
     }
 }

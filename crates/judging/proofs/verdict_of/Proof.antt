@@ -1,97 +1,9 @@
--- A refusal of the table is the verdict's; an area under 65 steps is refused; else what is picked from the table and the walk found are the verdict.
+-- A refusal of the table is the verdict's (judged-rows); else what is picked from the table and found in it is the word (judged-picked).
 use native.Mathlib.Omega.{arith}
 use mathlib.Core.Path.{sym}
 use lib.Seq.{length-take-le}
 use borrow.Author.Needs.{needs}
 use Rattle.rows.specs.Whole.{whole-filled}
-use Rattle.judging.specs.VerdictLaws.{judged-rows, judged-short, judged-picked}
+use Rattle.judging.specs.VerdictLaws.{judged-rows, judged-picked}
 use Rattle.judging.proofs.verdict_of.Statement.{statement}
 use Rattle.judging.proofs.verdict_of.Tie as tie
-
-fill-rows-requires : tie.Need-fill-rows-requires
-fill-rows-requires c κs = search needs
-
-enum-known-f : tie.Need-enum-known-f
-enum-known-f c = search needs
-
-refused-requires : tie.Need-refused-requires
-refused-requires c κs = search needs
-
-returns : tie.Need-returns
-returns c = judged-rows _ _ _ _ _ _ _ (c .before .before .before .before .fill-rows .ensures) (c .before .before .f .given .1) (c .refused .ensures)
-
-enum-known-f-2 : tie.Need-enum-known-f-2
-enum-known-f-2 c = search needs
-
-refused-requires-2 : tie.Need-refused-requires-2
-refused-requires-2 c κs = search needs
-
-returns-2 : tie.Need-returns-2
-returns-2 c = judged-short _ _ _ _ _ _ _ (whole-filled (c .before .before .before .before .before .fill-rows .ensures) (c .before .before .before .f2 .given .1)) (c .before .if1 .taken) (c .refused2 .ensures)
-
-mul-n : tie.Need-mul-n
-mul-n c =
-    let whole = whole-filled _ _ _ _ (c .before .before .before .fill-rows .ensures)
-    (length-replicate {A = ℕ} 4096 0) (c .before .if1 .left) in
-    let h = whole .short in
-    record { fits = omega arith }
-
-array-share-prefix-table : tie.Need-array-share-prefix-table
-array-share-prefix-table c =
-    let whole = whole-filled _ _ _ _ (c .before .before .before .fill-rows .ensures)
-    (length-replicate {A = ℕ} 4096 0) (c .before .if1 .left) in
-    let h = whole .short in
-    omega arith
-
-slice-aggregate-pick-edges : tie.Need-slice-aggregate-pick-edges
-slice-aggregate-pick-edges c =
-    let whole = whole-filled _ _ _ _ (c .before .before .before .before .fill-rows .ensures)
-    (length-replicate {A = ℕ} 4096 0) (c .before .before .if1 .left) in
-    let h = whole .short in
-    let l = whole .long in
-    sym (length-take-le _ _ (omega arith))
-
-pick-edges-requires : tie.Need-pick-edges-requires
-pick-edges-requires c κs = search needs
-
-slice-aggregate-find-walk : tie.Need-slice-aggregate-find-walk
-slice-aggregate-find-walk c = search needs
-
-slice-aggregate-find-walk-2 : tie.Need-slice-aggregate-find-walk-2
-slice-aggregate-find-walk-2 c = search needs
-
-find-walk-requires : tie.Need-find-walk-requires
-find-walk-requires c κs = search needs
-
-judged-requires : tie.Need-judged-requires
-judged-requires c κs = search needs
-
-same-length : tie.Need-same-length
-same-length c = search needs
-
-returns-3 : tie.Need-returns-3
-returns-3 c =
-    judged-picked _ _ _ _ _ _ _ _ _ _ (whole-filled (c .before .before .before .before .before .before .before .before .before .before .before .before .before .before .before .fill-rows .ensures) (c .before .before .before .before .before .before .before .before .before .before .before .before .before .f2 .given .1))
-    (c .before .before .before .before .before .before .before .before .before .before .before .if1 .left) (c .before .before .before .before .before .before .before .before .before .pick-edges .ensures) (c .before .before .before .find-walk .ensures) (c .judged .ensures)
-
-pub verdict-of-spec : {M : Type 1} → statement M
-verdict-of-spec =
-    tie.close
-    (tie.spec
-    fill-rows-requires
-    enum-known-f
-    refused-requires
-    returns
-    enum-known-f-2
-    refused-requires-2
-    returns-2
-    mul-n
-    array-share-prefix-table
-    slice-aggregate-pick-edges
-    pick-edges-requires
-    slice-aggregate-find-walk
-    slice-aggregate-find-walk-2
-    find-walk-requires
-    judged-requires
-    same-length
-    returns-2)
