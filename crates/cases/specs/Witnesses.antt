@@ -1,5 +1,5 @@
 -- The schedules that show that the model is not empty, against the verdict. Each is of a workload that some accepted text gives; the interleaved one
--- is of a robust workload, so demand 3 speaks of it; the lost update and the phantom are of dangerous ones.
+-- is of a robust workload, so demand 3 speaks of it; the lost update, the phantom and the one with every kind are of dangerous ones.
 use mathlib.Core.Bool.{false}
 use mathlib.Core.Path.{_≡_, refl}
 use Rattle.text.specs.Value.{Given, valueOf}
@@ -10,6 +10,7 @@ use Rattle.report.specs.State.{summaryGraph, Robust}
 use Rattle.schedule.specs.Interleaved as Interleaved
 use Rattle.schedule.specs.Unserialisable as Unserialisable
 use Rattle.schedule.specs.Phantom as Phantom
+use Rattle.schedule.specs.Kinds as Kinds
 use Rattle.reporting.specs.Reports.{robust-of}
 use Rattle.cases.specs.Computed.{allPass}
 
@@ -33,3 +34,7 @@ lost-update-given = value-given (written Unserialisable.lines) refl
 pub phantom-given : Given (valueOf Phantom.lines)
 unfolding rereads
 phantom-given = value-given (written Phantom.lines) refl
+
+pub kinds-given : Given (valueOf Kinds.lines)
+unfolding rereads
+kinds-given = value-given (written Kinds.lines) refl
