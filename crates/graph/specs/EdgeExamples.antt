@@ -462,6 +462,12 @@ E4-before-loop : backs (family (ku 0 0 0 1 ∷ lo ∷ ks 1 1 2 ∷ en ∷ li 0 1
 unfolding backs
 E4-before-loop = refl
 
+-- E4: a parent inside a loop is not that of a child after it (no text has such a link)
+E4-parent-inside : backs (family (lo ∷ ku 0 0 0 1 ∷ en ∷ ks 1 1 2 ∷ li 0 1 0 ∷ []) writer)
+    ≡ (0, 0, 3, 1) ∷ (1, 1, 3, 1) ∷ (2, 2, 3, 1) ∷ []
+unfolding backs
+E4-parent-inside = refl
+
 -- E4: a parent in an outer loop's turn, before the inner loop; node 12 turns each loop twice
 E4-outer-turn : let lines = family (lo ∷ ku 0 0 0 1 ∷ lo ∷ ks 1 1 2 ∷ en ∷ en ∷ li 0 1 0 ∷ []) writer in
     map (λ i. isBackEdge lines 12 i 13 1) (1 ∷ 2 ∷ 4 ∷ 5 ∷ []) ≡ false ∷ false ∷ false ∷ false ∷ []

@@ -16,7 +16,7 @@ use Rattle.graph.specs.Unfolding.{Around, nodesOf}
 use Rattle.graph.specs.Edge.{leads}
 use Rattle.graph.specs.Walk.{Step, isDangerous}
 use Rattle.graph.specs.ExampleText.{line, rl, fk, pr, is, ks, ps, ku, pu, kd, pd, lo, br, el, en, li, step}
-use Rattle.graph.specs.ExampleText.{nodes, ids, dangerous, sizes, base, twice, select-first}
+use Rattle.graph.specs.ExampleText.{nodes, ids, graph, dangerous, sizes, base, twice, select-first}
 
 -- ---- T5, T6: statements, links and programs of lines
 
@@ -165,6 +165,11 @@ N2-sizes : sizes (rl 0 1 ∷ pr 0 ∷ lo ∷ ks 0 0 1 ∷ en ∷ pr 1 ∷ pr 2 �
     ≡ (5, 0 ∷ 1 ∷ 2 ∷ 0 ∷ 3 ∷ [])
 unfolding sizes
 N2-sizes = refl
+
+-- N2: past the last node and the last place there is nothing
+N2-past : (graph twice .places 2 ≡ 0) × (graph twice .loose 2 0 ≡ false) × (map (graph twice .loose 1) (1 ∷ 2 ∷ []) ≡ true ∷ false ∷ [])
+unfolding graph
+N2-past = (refl, refl, refl)
 
 -- ---- W: the dangerous walk
 

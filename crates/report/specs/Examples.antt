@@ -124,6 +124,11 @@ refusal-bytes : refusal-of 22 0 ≡ text ("refused line" ∷ "22 0" ∷ [])
 unfolding refusal-of text
 refusal-bytes = refl
 
+-- P1, P2, P3: a number is printed whole, up to 20 digits
+number-bytes : refusal-of 18446744073709551615 9 ≡ text ("refused line" ∷ "18446744073709551615 9" ∷ [])
+unfolding refusal-of text
+number-bytes = refl
+
 -- ---- S20 for edges, S21
 
 -- two programs and four nodes: a loop around a read and a write of one tuple, and an empty program
