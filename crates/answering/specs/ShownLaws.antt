@@ -6,7 +6,7 @@ use Prim.Native.Nat.{ℕ, _≤_, _<_}
 use native.Mathlib.Omega.{arith}
 use lib.Dec.{leb}
 use lib.ListN.{length, take, length-append}
-use lib.Seq.{take-all}
+use lib.Seq.{take-all, length-take-le}
 use borrow.Author.Tests.{lt-leb}
 use Rattle.text.specs.Reading.{Outcome, read}
 use Rattle.text.specs.Reading.Outcome.{refused, accepted}
@@ -48,6 +48,10 @@ pub read-fits : {size : ℕ} (r : Input) → Ends size r → Came r → bytesRea
 read-fits (Ended t) e c = omega (arith, e .2)
 read-fits (Full t) e c = omega (arith, e .1)
 read-fits (Failed t) e c = absurd c
+
+-- the first n bytes are n bytes
+pub first-bytes : {n : ℕ} (bytes : List ℕ) → n ≤ length bytes → n ≡ length (take n bytes)
+first-bytes {n} bytes h = sym (length-take-le n bytes h)
 
 -- what may be shown was read without a failure
 pub shown-came : {area bytes : List ℕ} (r : Input) → Shows area r bytes → Came r

@@ -1,6 +1,7 @@
 // The reads of standard input. The fields of Received are private to this module, so that no other code can make up a read: an answer
 // that a Received holds was put there by `more`, right after C's read gave it. That it is C's answer, and which bytes came, stands in
-// these lines alone and is tested (outside/): the contract of C's read ties neither to the input.
+// these lines alone and is tested (outside/): the contract of C's read ties neither to the input. A Received names no area: that all
+// its reads went into one stands in `read_input`.
 use libc::STDIN_FILENO;
 ghost use mathlib.Core.Path.{_≡_};
 ghost use lib.ListN.{length};

@@ -17,8 +17,8 @@ count-requires c κs = search needs
 
 report-read-requires : tie.Need-report-read-requires
 report-read-requires c κs =
-    let i = c .before .before .before .before .before .before .before in
-    (search needs, (subst (Ends (length (i .read-input .last .0))) (c .before .before .before .read .given .1) (i .read-input .ensures), tt, c .count .ensures))
+    let i = c .before .before .before .before .before .before .before .read-input in
+    (search needs, (subst (Ends (length (i .last .0))) (c .before .before .before .read .given .1) (i .ensures), tt, c .count .ensures))
 
 enum-known-read-2 : tie.Need-enum-known-read-2
 enum-known-read-2 c = search needs
@@ -28,8 +28,8 @@ count-requires-2 c κs = search needs
 
 report-read-requires-2 : tie.Need-report-read-requires-2
 report-read-requires-2 c κs =
-    let i = c .before .before .before .before .before .before .before in
-    (search needs, (subst (Ends (length (i .read-input .last .0))) (c .before .before .before .read2 .given .1) (i .read-input .ensures), tt, c .count2 .ensures))
+    let i = c .before .before .before .before .before .before .before .read-input in
+    (search needs, (subst (Ends (length (i .last .0))) (c .before .before .before .read2 .given .1) (i .ensures), tt, c .count2 .ensures))
 
 enum-known-read-3 : tie.Need-enum-known-read-3
 enum-known-read-3 c = search needs
@@ -57,8 +57,8 @@ same-length-3 c = search needs
 
 returns-3 : tie.Need-returns-3
 returns-3 c =
-    let i = c .before .before .before .before .before .before .before in
-    (subst (Ends (length (i .read-input .last .0))) (c .before .before .before .read3 .given .1) (i .read-input .ensures), λ came. came)
+    let i = c .before .before .before .before .before .before .before .read-input in
+    (subst (Ends (length (i .last .0))) (c .before .before .before .read3 .given .1) (i .ensures), λ came. came)
 
 pub answer-with-spec : {M : Type 1} → statement M
 answer-with-spec =
