@@ -5,25 +5,29 @@
 use edges::Edge;
 use judging::Verdict;
 use libc::STDOUT_FILENO;
+use listing::EdgeAnswer;
+use listing::EdgeCounts;
+use putting::Put;
+use rows::Rows;
 use text::Line;
 use text::LineKind;
 use text::Workload;
 ghost use Rattle.io.specs.Counts.{Counts};
 ghost use Rattle.listing.specs.Settled.{PutSettled};
 
-// The number of the refusal, or 0, and the area afterwards.
+// What became of the edges, and the area afterwards.
 struct Eight {
-    refusal: u8,
+    put: Put,
     area: [Edge; 8],
 }
 
 // The edges of a workload put into an area of eight records. Its proof is by hand, since the area is lent as a list of records.
 fn put_in_eight(w: Workload, before: Eight) -> Eight
-    ensures { λ r. ⌜ PutSettled w (before .area) (r .refusal) (r .area) ⌝ }
+    ensures { λ r. ⌜ PutSettled w (before .area) (r .put) (r .area) ⌝ }
 {
     let mut area = before.area;
-    let refusal = listing::put_workload_edges(w, &mut area);
-    Eight { refusal, area }
+    let put = listing::put_workload_edges(w, &mut area);
+    Eight { put, area }
 }
 
 fn print(bytes: &[u8]) {
@@ -50,31 +54,49 @@ fn print_edge(e: Edge) {
 // Edge number k, if there is one.
 fn show_number(w: Workload, k: u64) {
     let a = listing::edge_number(w, k);
-    let edge = a.edge;
     print(b"edge");
     print_next(k);
-    print_next(a.refusal as u64);
-    if a.found {
-        print_edge(edge);
-        return;
+    match a {
+        EdgeAnswer::There(edge) => {
+            print_next(0);
+            print_edge(edge);
+        }
+        EdgeAnswer::Absent => {
+            print_next(0);
+            print(b" none\n");
+        }
+        EdgeAnswer::Refused(number) => {
+            print_next(number as u64);
+            print(b" none\n");
+        }
     }
-    print(b" none\n");
 }
 
 // How many edges, and the first, the middle, the last and one past the last.
-fn show_edges(w: Workload) {
-    let c = listing::edge_counts(w);
+fn show_counted(w: Workload, refusal: u64, edges: u64, back: u64) {
     print(b"edges");
-    print_next(c.refusal as u64);
-    print_next(c.edges);
-    print_next(c.back);
+    print_next(refusal);
+    print_next(edges);
+    print_next(back);
     print(b"\n");
     show_number(w, 0);
-    show_number(w, c.edges / 2);
-    if 0 < c.edges {
-        show_number(w, c.edges - 1);
+    show_number(w, edges / 2);
+    if 0 < edges {
+        show_number(w, edges - 1);
     }
-    show_number(w, c.edges);
+    show_number(w, edges);
+}
+
+fn show_edges(w: Workload) {
+    let c = listing::edge_counts(w);
+    match c {
+        EdgeCounts::Counted { edges, back } => {
+            show_counted(w, 0, edges, back);
+        }
+        EdgeCounts::Refused(number) => {
+            show_counted(w, number as u64, 0, 0);
+        }
+    }
 }
 
 // A record that no workload has.
@@ -91,15 +113,25 @@ fn mark() -> Edge {
     }
 }
 
+// The number of a refusal, 0 where the edges are put.
+fn number_of(put: Put) -> u64 {
+    match put {
+        Put::All(_) => 0,
+        Put::Refused(number) => number as u64,
+    }
+}
+
 // The area of eight records, marked beforehand.
 fn show_put(w: Workload) {
+    let none = Put::All(0);
     let marked = Eight {
-        refusal: 0,
+        put: none,
         area: [mark(); 8],
     };
     let filled = put_in_eight(w, marked);
+    let put = filled.put;
     print(b"put");
-    print_next(filled.refusal as u64);
+    print_next(number_of(put));
     print(b"\n");
     let area = filled.area;
     let mut i: usize = 0;
@@ -203,7 +235,14 @@ fn show_value(w: Workload, places: u64) {
 fn places_of(w: Workload) -> u64 {
     let mut table = [0u64; 4096];
     let r = rows::fill_rows(w, &mut table);
-    r.places
+    match r {
+        Rows::Refused(_) => 0,
+        Rows::Filled {
+            programs: _,
+            nodes: _,
+            places,
+        } => places,
+    }
 }
 
 // A value with another line in a cell.

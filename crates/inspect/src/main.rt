@@ -3,7 +3,9 @@
 
 use check::same;
 use edges::Edge;
+use edges::Found;
 use libc::STDOUT_FILENO;
+use rows::Rows;
 use text::Line;
 use text::LineKind;
 use text::StatementKind;
@@ -177,6 +179,18 @@ fn print_edge(e: Edge) {
     print(b"\n");
 }
 
+// An edge that is found. There is one each time: as many are asked for as are counted.
+fn print_found(found: Found) {
+    match found {
+        Found::There(edge) => {
+            print_edge(edge);
+        }
+        Found::Absent => {
+            print(b"none\n");
+        }
+    }
+}
+
 // The slot behind a slot; a table has 524,288 at most.
 fn behind(slot: usize) -> usize {
     if slot < 524288 {
@@ -194,8 +208,8 @@ fn print_edges(table: &[u64]) {
     let mut k: usize = 0;
     while k < n {
         let step = finding::edge_from(table, from);
-        let edge = step.edge;
-        print_edge(edge);
+        let found = step.found;
+        print_found(found);
         from = behind(step.slot);
         k += 1;
     }
@@ -214,14 +228,20 @@ fn words_of(places: u64, table: &[u64]) -> usize
 
 fn list_edges(w: Workload) {
     let mut table = [0u64; 4096];
-    let rows = rows::fill_rows(w, &mut table);
-    let number = rows.refusal;
-    if number != 0 {
-        print_refused(number, 0);
-        return;
+    let filled = rows::fill_rows(w, &mut table);
+    match filled {
+        Rows::Refused(number) => {
+            print_refused(number, 0);
+        }
+        Rows::Filled {
+            programs: _,
+            nodes: _,
+            places,
+        } => {
+            let n = words_of(places, &table);
+            print_edges(&table[..n]);
+        }
     }
-    let n = words_of(rows.places, &table);
-    print_edges(&table[..n]);
 }
 
 fn list_value(w: Workload, listing: Listing) {

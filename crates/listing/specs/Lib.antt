@@ -1,3 +1,4 @@
 pub mod Settled
 pub mod Steps
 pub mod Listed
+pub mod Few

@@ -1,2 +1,4 @@
 pub mod Stages
 pub mod StageLaws
+pub mod TextEdges
+pub mod TextEdgesLaws

@@ -7,9 +7,9 @@ use lib.Dec.{eqb}
 use borrow.Author.Tests.{eq-eqb, ne-eqb}
 use Rattle.reader.specs.declared.Parsed.{Parsed}
 use Rattle.unfolder.specs.declared.Unfolded.{Unfolded}
-use Rattle.rows.specs.declared.Rows.{Rows}
-use Rattle.stages.specs.Stages.{refusalWord, lineSum, middleLine, readWord, placesTold, unfoldWord, rowsWord}
-use Rattle.stages.specs.Stages.{Unfolds, Fills, Judges, UnfoldStage, TableStage, VerdictStage}
+use Rattle.judging.specs.declared.Verdict.{Verdict}
+use Rattle.stages.specs.Stages.{refusalWord, lineSum, middleLine, readWord, placesTold, unfoldWord, verdictWord}
+use Rattle.stages.specs.Stages.{Unfolds, Judges, UnfoldStage, VerdictStage}
 
 -- ---- the numbers
 
@@ -19,15 +19,6 @@ told-refused n a b other = sym (ap (λ t. cond t a b) (ne-eqb n 0 other))
 
 told-taken : (n a b : ℕ) → n ≡ 0 → a ≡ cond (eqb n 0) a b
 told-taken n a b e = sym (ap (λ t. cond t a b) (eq-eqb n 0 e))
-
-module _ {r : ℕ} (f : Rows) where
-  pub rows-refused : (f .refusal ≡ 0 → ⊥) → r ≡ refusalWord (f .refusal) 0 → r ≡ rowsWord f
-  unfolding rowsWord
-  rows-refused other e = e ∙ told-refused _ _ _ other
-
-  pub rows-taken : f .refusal ≡ 0 → r ≡ f .places % 65536 → r ≡ rowsWord f
-  unfolding rowsWord
-  rows-taken taken e = e ∙ told-taken _ _ _ taken
 
 pub nodes-refused : {r : ℕ} (u : Unfolded) → (u .refusal ≡ 0 → ⊥) → r ≡ refusalWord (u .refusal) 0 → r ≡ unfoldWord u
 unfolding unfoldWord
@@ -53,10 +44,6 @@ module _ {p q : Parsed} {before : List ℕ} {r : ℕ} (same : p ≡ q) where
   unfold-refused other word =
       subst (λ (x : Parsed). UnfoldStage x before r before) same (record { refuses = λ _. (word, refl); goes-on = λ e. absurd (other e) })
 
-  pub table-refused : (p .number ≡ 0 → ⊥) → r ≡ refusalWord (p .number) (p .line) → TableStage q before r before
-  table-refused other word =
-      subst (λ (x : Parsed). TableStage x before r before) same (record { refuses = λ _. (word, refl); goes-on = λ e. absurd (other e) })
-
   pub verdict-refused : (p .number ≡ 0 → ⊥) → r ≡ refusalWord (p .number) (p .line) → VerdictStage q before r before
   verdict-refused other word =
       subst (λ (x : Parsed). VerdictStage x before r before) same (record { refuses = λ _. (word, refl); goes-on = λ e. absurd (other e) })
@@ -65,10 +52,6 @@ module _ {p q : Parsed} {before : List ℕ} {r : ℕ} {after : List ℕ} (same :
   pub unfold-goes-on : Unfolds (p .work) before r after → UnfoldStage q before r after
   unfold-goes-on u =
       subst (λ (x : Parsed). UnfoldStage x before r after) same (record { refuses = λ other. absurd (other accepted); goes-on = λ _. u })
-
-  pub table-goes-on : Fills (p .work) before r after → TableStage q before r after
-  table-goes-on u =
-      subst (λ (x : Parsed). TableStage x before r after) same (record { refuses = λ other. absurd (other accepted); goes-on = λ _. u })
 
   pub verdict-goes-on : Judges (p .work) before r after → VerdictStage q before r after
   verdict-goes-on u =

@@ -13,9 +13,8 @@ use Rattle.reader.specs.declared.Parsed.{Parsed}
 use Rattle.reader.specs.Parse.{parsedAs}
 use Rattle.unfolder.specs.declared.Unfolded.{Unfolded}
 use Rattle.unfolder.specs.Settled.{Settled}
-use Rattle.rows.specs.declared.Rows.{Rows}
-use Rattle.rows.specs.Rows.{RowsSettled}
-use Rattle.judging.specs.Verdict.{Told, Judged}
+use Rattle.judging.specs.declared.Verdict.{Verdict}
+use Rattle.judging.specs.Verdict.{Judged}
 
 -- what a text gives: its workload value, or a refusal's number and line
 abbrev pub given : List ℕ → Parsed
@@ -45,10 +44,6 @@ placesTold u = getD (u .start) ((u .count % 64 + 63) % 64) 0 % 16384 + getD (u .
 unfoldable pub unfoldWord : Unfolded → ℕ
 unfoldWord u = cond (eqb (u .refusal) 0) (u .count % 256 * 65536 + placesTold u) (refusalWord (u .refusal) 0)
 
--- places
-unfoldable pub rowsWord : Rows → ℕ
-rowsWord f = cond (eqb (f .refusal) 0) (f .places % 65536) (refusalWord (f .refusal) 0)
-
 -- edges, with bit 30 for danger
 unfoldable pub verdictWord : Told → ℕ
 verdictWord (Told.refused number) = refusalWord number 0
@@ -65,12 +60,6 @@ pub record Unfolds (w : Workload) (before : List ℕ) (r : ℕ) (after : List �
   pub settled : Settled w before told after
   pub word : r ≡ unfoldWord told
 
--- the rows of its places into the area
-pub record Fills (w : Workload) (before : List ℕ) (r : ℕ) (after : List ℕ) : Type 0 where
-  pub told : Rows
-  pub settled : RowsSettled w before told after
-  pub word : r ≡ rowsWord told
-
 -- its verdict, with the walk in the area
 pub record Judges (w : Workload) (before : List ℕ) (r : ℕ) (after : List ℕ) : Type 0 where
   pub told : Told
@@ -81,10 +70,6 @@ pub record Judges (w : Workload) (before : List ℕ) (r : ℕ) (after : List ℕ
 pub record UnfoldStage (p : Parsed) (before : List ℕ) (r : ℕ) (after : List ℕ) : Type 0 where
   pub refuses : Refuses p before r after
   pub goes-on : p .number ≡ 0 → Unfolds (p .work) before r after
-
-pub record TableStage (p : Parsed) (before : List ℕ) (r : ℕ) (after : List ℕ) : Type 0 where
-  pub refuses : Refuses p before r after
-  pub goes-on : p .number ≡ 0 → Fills (p .work) before r after
 
 pub record VerdictStage (p : Parsed) (before : List ℕ) (r : ℕ) (after : List ℕ) : Type 0 where
   pub refuses : Refuses p before r after

@@ -1,16 +1,19 @@
-// The stages from a text on as exports, for timing beside plain Rust: reading, unfolding, the table of places, the verdict.
+// What is made of a text, as exports: reading, unfolding and the verdict, for timing beside plain Rust, and the edges, put into the caller's list.
+// Each is one call from the bytes on, and one number answers it: bit 31 tells a refusal, and then its number and its line follow.
 
-use judging::Totals;
+use edges::Edge;
 use judging::Verdict;
-use rows::Rows;
+use putting::Put;
 use text::Line;
 use text::Workload;
 use unfolder::Unfolded;
 ghost use mathlib.Core.Path.{_≡_};
 ghost use Prim.Native.Nat.{_+_, _*_, _%_};
-ghost use Rattle.judging.specs.Verdict.{told};
-ghost use Rattle.stages.specs.Stages.{given, refusalWord, lineSum, middleLine, readWord, placesTold, unfoldWord, rowsWord, verdictWord};
-ghost use Rattle.stages.specs.Stages.{Unfolds, Fills, Judges, UnfoldStage, TableStage, VerdictStage};
+ghost use Rattle.text.specs.Reading.{read};
+ghost use Rattle.putting.specs.Put.{putSaid};
+ghost use Rattle.stages.specs.Stages.{given, refusalWord, lineSum, middleLine, readWord, placesTold, unfoldWord, verdictWord};
+ghost use Rattle.stages.specs.Stages.{Unfolds, Judges, UnfoldStage, VerdictStage};
+ghost use Rattle.stages.specs.TextEdges.{edgesWord, FewPut, TextEdges};
 
 fn refusal_word(number: u8, line: u64) -> u32
     ensures { λ r. ⌜ r ≡ refusalWord number line ⌝ }
@@ -85,33 +88,34 @@ pub extern "C" fn stage_unfold(text: &[u8], area: &mut [u64]) -> u32
     unfold_value(w, area)
 }
 
-fn rows_word(f: Rows) -> u32
-    ensures { λ r. ⌜ r ≡ rowsWord f ⌝ }
+// What became of edges: how many are put, or the refusal.
+fn edges_word(put: Put) -> u32
+    requires { ⌜ FewPut put ⌝ }
+    ensures { λ r. ⌜ r ≡ edgesWord (putSaid put) ⌝ }
 {
-    if f.refusal != 0 {
-        return refusal_word(f.refusal, 0);
+    match put {
+        Put::All(n) => {
+            return n as u32;
+        }
+        Put::Refused(number) => {
+            return refusal_word(number, 0);
+        }
     }
-    (f.places % 65536) as u32
 }
 
-fn fill_value(w: Workload, table: &mut [u64]) -> u32
-    ensures { λ r. ⌜ Fills w (now (table .entry)) r (now (table .exit)) ⌝ }
-{
-    let f = rows::fill_rows(w, table);
-    rows_word(f)
-}
-
-// The table of places, from which `put_edges` of crate putting takes the edges.
+// Puts the edges of a text at the front of the caller's list; the rest of it stays as it was, and a refusal leaves all of it. Answers how many
+// edges are put, at most 524,288, or the refusal. No text is refused by 21: its value is one that a text gives.
 #[no_mangle]
-pub extern "C" fn stage_table(text: &[u8], table: &mut [u64]) -> u32
-    ensures { λ r. ⌜ TableStage (given (now (text .entry))) (now (table .entry)) r (now (table .exit)) ⌝ }
+pub extern "C" fn text_edges<'b, 'a>(text: &'b [u8], out: &'a mut [Edge]) -> u32
+    ensures { λ r. ⌜ TextEdges (read (now (text .entry))) (now (out .entry)) r (now (out .exit)) ⌝ }
 {
     let p = reader::read_text(text);
     if p.number != 0 {
         return refusal_word(p.number, p.line);
     }
     let w = p.work;
-    fill_value(w, table)
+    let put = listing::put_workload_edges(w, out);
+    edges_word(put)
 }
 
 fn edges_told(c: Totals) -> u32

@@ -37,6 +37,7 @@ use denote.Slice.{sliceVal, sliceTy, MutSlice, Room}
 use denote.Lend.{Held, lends-slice, slice-back}
 use denote.Steps.{only, owned, facts, heard, nothing}
 use denote.Struct.Laws as LL
+use denote.Enum.Laws as EL
 use denote.Triple.Entry.{onEntry}
 use denote.Triple.Spec.{Meets, tripleOf}
 use denote.Triple.Statement.{Contract, Triple}
@@ -48,11 +49,14 @@ use denote.Exit.{yes}
 use Rattle.text.specs.declared.Workload.{Workload}
 use Rattle.edges.specs.declared.Edge.{Edge}
 use Rattle.listing.specs.Settled.{PutSettled}
+use Rattle.putting.specs.declared.Put.{Put as Answer}
 use Rattle.areas.specs.declared.Eight.{Eight}
 use Rattle.text.proofs.Workload as Wk
 use Rattle.text.proofs.Workload.Laws as Wk′
 use Rattle.edges.proofs.Edge as T
 use Rattle.edges.proofs.Edge.Laws as T′
+use Rattle.putting.proofs.Put as R
+use Rattle.putting.proofs.Put.Laws as R′
 use Rattle.areas.proofs.Eight as E
 use Rattle.areas.proofs.Eight.Laws as E′
 use Rattle.listing.proofs.put_workload_edges as put-fn
@@ -181,16 +185,19 @@ module _ {M : Type 1} (𝓤 : URA M) (H : Heap 𝓤) (A : Atoms 𝓤) (W : Given
   Post = walkOf 𝓤 H A f.ended stayed (f.clauses 𝓤 H A mem run) .post ((tt, tt, tt, a, vals), tt)
 
   -- the result and its machine value
-  abbrev made : ℕ → List Edge → Eight
-  made r zs = record { refusal = r; area = zs }
+  abbrev made : Answer → List Edge → Eight
+  made r zs = record { put = r; area = zs }
 
-  abbrev madeVal : ℕ → List Edge → Val
-  madeVal r zs = vstruct (ofList (vint w8 r ∷ areaVal zs ∷ []))
+  abbrev answerVals : Answer → List Val
+  answerVals = EL.vals R.the-type R′.the-laws
 
-  made-is : (r : ℕ) (zs : List Edge) → r < 2 ^ 8 → Is Area zs (areaVal zs ∷ []) → Is E.the-row (made r zs) (madeVal r zs ∷ [])
-  made-is r zs fits is =
-      subst (λ (v : Val). Is E.the-row (made r zs) (vstruct (ofList (vint w8 r ∷ v ∷ [])) ∷ [])) (field-same zs)
-      (LL.owes E.the-type E′.the-laws (made r zs) ((refl, fits), (field-of-area zs is, tt)))
+  abbrev madeVal : Answer → List Edge → Val
+  madeVal r zs = vstruct (ofList (only (answerVals r) ∷ areaVal zs ∷ []))
+
+  made-is : (r : Answer) (zs : List Edge) → Is R.the-row r (answerVals r) → Is Area zs (areaVal zs ∷ []) → Is E.the-row (made r zs) (madeVal r zs ∷ [])
+  made-is r zs isR is =
+      subst (λ (v : Val). Is E.the-row (made r zs) (vstruct (ofList (only (answerVals r) ∷ v ∷ [])) ∷ [])) (field-same zs)
+      (LL.owes E.the-type E′.the-laws (made r zs) (isR, (field-of-area zs is, tt)))
 
   -- what `put_workload_edges` is passed: the workload, and the area for the lifetime κ
   module _ (κ : Lft) (b : ℕ) (γ : GName) where
@@ -206,13 +213,13 @@ module _ {M : Type 1} (𝓤 : URA M) (H : Heap 𝓤) (A : Atoms 𝓤) (W : Given
     asked-put : ent 𝓤 (onEntry 𝓤 H A put-fn.signature (κ, tt) (fullShare, tt) (w, (x, tt)) lent) (Put 𝓤 H A mem run .pre to-put)
     asked-put = qed W ((‵ (flft κ fullShare) ⊛ ‵ ftrue) ∷ ‵ (owns (Wk.the-row ∷ MutSlice (named 0) κ T.the-row ∷ []) (w, (x, tt)) lent) ∷ []) ∵ join ! $ frame ! $ done !
 
-  exits : (r : ℕ) (zs : List Edge) → r < 2 ^ 8 → Is Area zs (areaVal zs ∷ []) → PutSettled w ys r zs → ent 𝓤 (sem 𝓤 H A ftrue) (Post (madeVal r zs))
-  exits r zs fits is ok =
+  exits : (r : Answer) (zs : List Edge) → Is R.the-row r (answerVals r) → Is Area zs (areaVal zs ∷ []) → PutSettled w ys r zs → ent 𝓤 (sem 𝓤 H A ftrue) (Post (madeVal r zs))
+  exits r zs isR is ok =
       qed W (‵ ftrue ∷ []) ∵
       suffices ! _ (ends-at 𝓤 H A f.ended stayed (f.clauses 𝓤 H A mem run) W ((tt, tt, tt, a, vals), tt) (madeVal r zs) (made r zs) (tt, (tt, tt)) (tt, (tt, tt))) $ says ! ok $ frame ! $
       nothing ! $ owned ! E.the-row (Is E.the-row) (LL.makes E.the-type E′.the-plain 𝓤 H A) e ev isE $ fjoin ! $
       owned ! Wk.the-row (Is Wk.the-row) (LL.makes Wk.the-type Wk′.the-plain 𝓤 H A) w wv isW $ fjoin ! $
-      owned ! E.the-row (Is E.the-row) (LL.makes E.the-type E′.the-plain 𝓤 H A) (made r zs) (madeVal r zs ∷ []) (made-is r zs fits is) $ move ! (1 ∷ 0 ∷ []) $ done !
+      owned ! E.the-row (Is E.the-row) (LL.makes E.the-type E′.the-plain 𝓤 H A) (made r zs) (madeVal r zs ∷ []) (made-is r zs isR is) $ move ! (1 ∷ 0 ∷ []) $ done !
 
   module _ (C : Calls 𝓤 H) (Λ : Loops 𝓤 H) (fm : FmC 𝓤 H (W .laws) C) (known-put : Triple 𝓤 (C #listing·put-workload-edges) (Put 𝓤 H A mem run)) where
     walk : ent 𝓤 (onEntry 𝓤 H A f.signature tt tt a vals) (WpFn 𝓤 H C Λ code.function (only wv ∷ only ev ∷ []) Post)
@@ -237,16 +244,16 @@ module _ {M : Type 1} (𝓤 : URA M) (H : Heap 𝓤) (A : Atoms 𝓤) (W : Given
         use2 W (raw (Put 𝓤 H A mem run .pre (to-put (α ∷ []) l₃ γ))) (asked-put (α ∷ []) l₃ γ) $
         -- `put_workload_edges`: [what it asks; what is lent; _7; …; _6; …; _5; …; _4; …; …; _2; …; _1; …]
         calls-at ! fm (Put 𝓤 H A mem run) known-put (to-put (α ∷ []) l₃ γ) (and-then ! (load ! (from ! (stop !)) (look ! 13 refl)) (and-then ! (load ! (from ! (stop !)) (look ! 4 refl)) (no-more !))) (λ v.
-        use1 W (later (some (λ (r : ℕ). ((‵ (flft (α ∷ []) fullShare) ⊛ ‵ ftrue) ⊛ ‵ (u8 .own r (v ∷ [])))
+        use1 W (later (some (λ (r : Answer). ((‵ (flft (α ∷ []) fullShare) ⊛ ‵ ftrue) ⊛ ‵ (R.the-row .own r (v ∷ [])))
         ⊛ raw (ensured 𝓤 H A put-fn.ended (put-fn.clauses 𝓤 H A mem run) (α ∷ [], tt) (w, (x (α ∷ []) l₃ γ, tt)) tt r)))) (id⊢ 𝓤 _) $ await ! tt $ pick ! (λ r.
         split ! $ move ! (1 ∷ []) $ use1 W (some (λ (zs : Unit {0} × (List Edge × Unit {0})). ‵ (lasts put-fn.ended (α ∷ [], tt) (w, (x (α ∷ []) l₃ γ, tt)) zs)
         ⊛ raw (fact 𝓤 (PutSettled w ys r (zs .1 .0))))) (id⊢ 𝓤 _) $ pick ! (λ zs.
         split ! $ move ! (1 ∷ []) $ heard ! (PutSettled w ys r (zs .1 .0)) (λ ok.
         fsplit ! $ move ! (1 ∷ []) $ fsplit ! $ fsplit ! $ move ! (1 ∷ []) $ feqL ! (λ same.
         -- [the last list; true; true; the token and the result; what is lent; _7; …]
-        move ! (3 ∷ []) $ split ! $ move ! (1 ∷ []) $ facts ! u8 (Is u8) (shows 𝓤 H A u8) r (v ∷ []) (λ is.
-        land ! (from ! (stop !)) (init ! 11 refl (uint-lawful 𝓤 H A W w8 .typed r (v ∷ []) is .0)) $
-        rewrite ! 11 (λ (u : Val). ‵ (fat fullShare (tyInt w8) l₄ 0 u)) (ap only (uint-tells w8 r _ is)) refl $
+        move ! (3 ∷ []) $ split ! $ move ! (1 ∷ []) $ facts ! R.the-row (Is R.the-row) (shows 𝓤 H A R.the-row) r (v ∷ []) (λ is.
+        land ! (from ! (stop !)) (init ! 11 refl (EL.lawful R.the-type R′.the-laws 𝓤 H A W tt .typed r _ is .0)) $
+        rewrite ! 11 (λ (u : Val). ‵ (fat fullShare R′.mir l₄ 0 u)) (ap only (EL.tells R.the-type R′.the-laws r _ is)) refl $
         split ! $ lft-end ! tt $ move ! (0 ∷ 5 ∷ 2 ∷ []) $
         use3 W (later (‵ (Arr (lying T.the-row) (length ys) .lies (zs .1 .0) l₃ 0))) (slice-back 𝓤 H A W T.the-row (α ∷ []) γ (zs .1 .0) (length ys) l₃ 0) $ await ! tt $
         -- [the elements; true; true; true; _7; …]: the array is whole again
@@ -256,11 +263,11 @@ module _ {M : Type 1} (𝓤 : URA M) (H : Heap 𝓤) (A : Atoms 𝓤) (W : Given
         use1 W (given (Is Area (zs .1 .0) (areaVal (zs .1 .0) ∷ [])) (‵ (fat fullShare records l₃ 0 (areaVal (zs .1 .0))))) (area-out 𝓤 H A W (zs .1 .0) l₃) $ learn ! (λ isA.
         assigns ! (of-opd ! (load ! (from ! (stop !)) (look ! 0 refl))) (from ! (stop !)) (init ! 4 refl (array-lawful 𝓤 H A W T.the-row (LL.lawful T.the-type T′.the-laws 𝓤 H A W) 8 .typed (zs .1 .0) _ isA .0)) $
         assigns ! (agg ! (and-then ! (load ! (from ! (stop !)) (look ! 10 refl)) (and-then ! (load ! (from ! (stop !)) (look ! 4 refl)) (no-more !)))) (from ! (stop !))
-        (init ! 17 refl (LL.lawful E.the-type E′.the-laws 𝓤 H A W .typed (made r (zs .1 .0)) _ (made-is r (zs .1 .0) (is .1) isA) .0)) $
+        (init ! 17 refl (LL.lawful E.the-type E′.the-laws 𝓤 H A W .typed (made r (zs .1 .0)) _ (made-is r (zs .1 .0) (as-told r is) isA) .0)) $
         returns ! (look ! 17 refl) $ forget ! 0 refl $ forget ! 4 refl $ forget ! 6 refl $ forget ! 8 refl $ forget ! 10 refl $ forget ! 13 refl $ forget ! 15 refl $ forget ! 17 refl $
         move ! (17 ∷ 18 ∷ []) $ free1 ! $ move ! (15 ∷ 16 ∷ []) $ free1 ! $ move ! (13 ∷ 14 ∷ []) $ free1 ! $ move ! (0 ∷ 12 ∷ []) $ free1 ! $
         move ! (9 ∷ 10 ∷ []) $ free1 ! $ move ! (7 ∷ 8 ∷ []) $ free1 ! $ move ! (5 ∷ 6 ∷ []) $ free1 ! $ move ! (3 ∷ 4 ∷ []) $ free1 ! $ free0 ! $
-        keep ! (0 ∷ []) $ by ! (exits r (zs .1 .0) (is .1) isA ok)))))))))))))))))))
+        keep ! (0 ∷ []) $ by ! (exits r (zs .1 .0) (as-told r is) isA ok)))))))))))))))))))
       where
         -- the area in the struct, and by itself
         field-is : Is Tuples (tuples ys) (fieldVal ys ∷ [])
@@ -268,6 +275,9 @@ module _ {M : Type 1} (𝓤 : URA M) (H : Heap 𝓤) (A : Atoms 𝓤) (W : Given
 
         area-is : Is Area ys (areaVal ys ∷ [])
         area-is = area-of-field ys field-is
+
+        as-told : (r : Answer) {vs : List Val} → Is R.the-row r vs → Is R.the-row r (answerVals r)
+        as-told r is = subst (Is R.the-row r) (EL.tells R.the-type R′.the-laws r _ is) is
 
         eight : length ys ≡ 8
         eight = area-is .1 .0 .1

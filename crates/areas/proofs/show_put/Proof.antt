@@ -22,8 +22,8 @@ slice-aggregate-print c = search needs
 print-requires : tie.Need-print-requires Inv-loop μ-loop
 print-requires c κs = search needs
 
-cast-print-next : tie.Need-cast-print-next Inv-loop μ-loop
-cast-print-next c = search needs
+number-of-requires : tie.Need-number-of-requires Inv-loop μ-loop
+number-of-requires c κs = search needs
 
 print-next-requires : tie.Need-print-next-requires Inv-loop μ-loop
 print-next-requires c κs = search needs
@@ -68,7 +68,7 @@ show-put-spec =
     put-in-eight-requires
     slice-aggregate-print
     print-requires
-    cast-print-next
+    number-of-requires
     print-next-requires
     slice-aggregate-print-2
     print-requires-2

@@ -25,8 +25,8 @@ loop-holds c = search needs
 edge-from-requires : tie.Need-edge-from-requires Inv-loop μ-loop
 edge-from-requires c κs = search needs
 
-print-edge-requires : tie.Need-print-edge-requires Inv-loop μ-loop
-print-edge-requires c κs = search needs
+print-found-requires : tie.Need-print-found-requires Inv-loop μ-loop
+print-found-requires c κs = search needs
 
 behind-requires : tie.Need-behind-requires Inv-loop μ-loop
 behind-requires c κs = search needs
@@ -54,7 +54,7 @@ print-edges-spec =
     count-edges-requires
     loop-holds
     edge-from-requires
-    print-edge-requires
+    print-found-requires
     behind-requires
     add-k
     loop-less
