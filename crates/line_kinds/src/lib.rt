@@ -4,7 +4,7 @@ use text::LineKind;
 use text::StatementKind;
 ghost use mathlib.Core.Path.{_≡_};
 ghost use Prim.Native.Nat.{_<_};
-ghost use Rattle.line_kinds.specs.Kinds.{factsOf, lineFacts, lacksFact};
+ghost use Rattle.line_kinds.specs.Kinds.{factsOf, lineFacts};
 
 // The facts of a kind, a bit each. It has reads, writes, tests;
 pub const READS: u64 = 1;
@@ -60,11 +60,4 @@ pub fn line_facts(k: LineKind) -> u64
         LineKind::En => 0,
         LineKind::Li => ID + REL + TO,
     }
-}
-
-// A fact is not among these.
-pub fn lacks(facts: u64, fact: u64) -> bool
-    ensures { λ r. ⌜ r ≡ lacksFact facts fact ⌝ }
-{
-    facts & fact == 0
 }
