@@ -1,4 +1,5 @@
 // The state that words keep: the first one, and the one behind a line.
+use line_kinds::facts_of;
 use text::Line;
 use text::LineKind;
 use text::StatementKind;
@@ -51,15 +52,10 @@ fn mark(part: u64, which: u64, place: u64) -> u64
 fn parental(kind: StatementKind) -> u64
     ensures { λ r. ⌜ r ≡ cond (canBeParent kind) 1 0 ⌝ }
 {
-    match kind {
-        StatementKind::Is => 1,
-        StatementKind::Ks => 1,
-        StatementKind::Ps => 0,
-        StatementKind::Ku => 1,
-        StatementKind::Pu => 0,
-        StatementKind::Kd => 1,
-        StatementKind::Pd => 0,
+    if facts_of(kind) & line_kinds::PARENT == 0 {
+        return 0;
     }
+    1
 }
 
 // Sets a cell of the array that begins at a word; past its end nothing changes.

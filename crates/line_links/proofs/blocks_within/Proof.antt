@@ -2,11 +2,11 @@
 -- three.
 use Rattle.kept.specs.Words.{stateIn}
 use borrow.Author.Needs.{needs}
-use Rattle.checkline.proofs.blocks_within.Statement.{statement}
-use Rattle.checkline.proofs.blocks_within.Tie as tie
-use Rattle.checkline.proofs.blocks_within.Reads as reads
-use Rattle.checkline.proofs.blocks_within.Lts as lts
-use Rattle.checkline.proofs.cell_within.Reads as cell-within-reads
+use Rattle.line_links.proofs.blocks_within.Statement.{statement}
+use Rattle.line_links.proofs.blocks_within.Tie as tie
+use Rattle.line_links.proofs.blocks_within.Reads as reads
+use Rattle.line_links.proofs.blocks_within.Lts as lts
+use Rattle.line_links.proofs.cell_within.Reads as cell-within-reads
 
 cell-within-requires : tie.Need-cell-within-requires
 cell-within-requires c κs = search needs

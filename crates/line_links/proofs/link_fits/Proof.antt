@@ -2,12 +2,12 @@
 -- of `linkFitsOf`.
 use Rattle.kept.specs.Words.{stateIn}
 use borrow.Author.Needs.{needs}
-use Rattle.checkline.proofs.link_fits.Statement.{statement}
-use Rattle.checkline.proofs.link_fits.Tie as tie
-use Rattle.checkline.proofs.link_fits.Reads as reads
-use Rattle.checkline.proofs.link_fits.Lts as lts
-use Rattle.checkline.proofs.blocks_within.Reads as blocks-within-reads
-use Rattle.checkline.proofs.same_cell.Reads as same-cell-reads
+use Rattle.line_links.proofs.link_fits.Statement.{statement}
+use Rattle.line_links.proofs.link_fits.Tie as tie
+use Rattle.line_links.proofs.link_fits.Reads as reads
+use Rattle.line_links.proofs.link_fits.Lts as lts
+use Rattle.line_links.proofs.blocks_within.Reads as blocks-within-reads
+use Rattle.line_links.proofs.same_cell.Reads as same-cell-reads
 use Rattle.kept.proofs.cell.Reads as cell-reads
 
 cast-id : tie.Need-cast-id
