@@ -28,7 +28,7 @@ fn is_sum(n: u64, a: u64, b: u64) -> bool
 
 // A program has begun, and its links have not.
 fn in_body(words: &[u64]) -> bool
-    ensures { λ r. ⌜ r ≡ inBodyOf (getD (now (words .entry)) 417 0) (getD (now (words .entry)) 419 0) ⌝ }
+    ensures { λ r. ⌜ r ≡ inBodyOf (getD (now (words .entry)) 421 0) (getD (now (words .entry)) 417 0) ⌝ }
 {
     let programs = word_at(words, kept::PROGRAMS);
     let links = word_at(words, kept::LINKS);

@@ -1,7 +1,8 @@
 -- The table of facts is the believed tables of the text: the forms of the fields, the rules on sets, the kinds of a link's parent.
-use mathlib.Core.Bool.{Bool, true, false, not, _&&_}
+use mathlib.Core.Bool.{Bool, true, false, cond, _&&_}
 use mathlib.Core.Path.{_≡_, refl, _∙_}
-use Prim.Native.Nat.{ℕ}
+use Prim.Native.Nat.{ℕ, _/_}
+use lib.Bits.{bitAnd}
 use Rattle.text.specs.declared.Line.{Line}
 use Rattle.text.specs.declared.LineKind.{LineKind}
 use Rattle.text.specs.declared.LineKind.the-variants.{Rl, Fk, Pr, St, Lo, Br, El, En, Li}
@@ -9,7 +10,7 @@ use Rattle.text.specs.declared.StatementKind.{StatementKind}
 use Rattle.text.specs.declared.StatementKind.the-variants.{Is, Ks, Ps, Ku, Pu, Kd, Pd}
 use Rattle.text.specs.Text.{formsOf}
 use Rattle.text.specs.Reading.{kindSets, canBeParent}
-use Rattle.line_kinds.specs.Kinds.{factsOf, lineFacts, lacksFact, mayParent, formsBy, formsWith, numberIf, setIf, setsBy}
+use Rattle.line_kinds.specs.Kinds.{factsOf, lineFacts, mayParent, formsBy, formsWith, numberIf, setIf, setsBy}
 
 -- what the facts of a kind of statement say
 pub record Told (k : StatementKind) : Type 0 where
@@ -18,7 +19,7 @@ pub record Told (k : StatementKind) : Type 0 where
   -- R5, T9
   pub sets : (whole : ℕ) (l : Line) → setsBy (factsOf k) whole l ≡ kindSets whole k l
   -- R8, T10
-  pub parent : lacksFact (factsOf k) mayParent ≡ not (canBeParent k)
+  pub parent : bitAnd (factsOf k) mayParent / mayParent ≡ cond (canBeParent k) 1 0
 
 -- a test that is followed by none
 and-end : (t : Bool) → t && true ≡ t

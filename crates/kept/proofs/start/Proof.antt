@@ -1,10 +1,10 @@
 -- Where 424 words are there, clearing them makes the words of no line taken (started); else they stay as they are (not-started).
-use Rattle.takeline.specs.ClearLaws.{started, not-started}
+use Rattle.kept.specs.StartLaws.{started, not-started}
 use borrow.Author.Needs.{needs}
-use Rattle.takeline.proofs.start.Statement.{statement}
-use Rattle.takeline.proofs.start.Tie as tie
-use Rattle.takeline.proofs.start.Reads as reads
-use Rattle.takeline.proofs.start.Lts as lts
+use Rattle.kept.proofs.start.Statement.{statement}
+use Rattle.kept.proofs.start.Tie as tie
+use Rattle.kept.proofs.start.Reads as reads
+use Rattle.kept.proofs.start.Lts as lts
 
 returns : tie.Need-returns
 returns c = not-started (c .if1 .taken)
