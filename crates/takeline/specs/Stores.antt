@@ -6,6 +6,8 @@ use Prim.Native.Nat.{ℕ, _+_, _*_}
 use lib.Bits.{bitOr}
 use lib.Dec.{eqb, ltb}
 use lib.ListN.{length, getD, set, drop}
+use Rattle.text.specs.declared.Line.{Line}
+use Rattle.text.specs.declared.LineKind.{LineKind}
 use Rattle.kept.specs.Records.{Stack, State}
 use Rattle.kept.specs.Kept.{nextOf, markOf}
 use Rattle.kept.specs.Words.{arrayIn, stateIn}
@@ -136,3 +138,7 @@ atDepth k depth =
       firsts = k .firsts;
       seconds = k .seconds;
     }
+
+-- a line of this kind by the values that taking it keeps
+abbrev pub lineBy : LineKind → ℕ → ℕ → ℕ → Line
+lineBy kind reads rel to = record { kind = kind; id = 0; rel = rel; to = to; reads = reads; writes = 0; tests = 0 }

@@ -92,9 +92,9 @@ pub took-second : {before after : List ℕ} {depth below place : ℕ} → depth 
 unfolding stateIn
 took-second e p f t = rw (f, p, e) at t
 
--- what a line of this kind takes, a line takes
-pub took-kind : {before after : List ℕ} (l : Line) {kind : LineKind} → l .kind ≡ kind → Took before after (takeAs (stateIn before) l kind)
-    → Took before after (takeOf (stateIn before) l)
+-- what a line of one kind takes, a line of the same kind takes
+pub took-kind : {before after : List ℕ} (l : Line) {kind as-told : LineKind} → kind ≡ as-told → Took before after (takeAs (stateIn before) l as-told)
+    → Took before after (takeAs (stateIn before) l kind)
 took-kind {before} l e t =
     record { size = t .size; state = t .state ∙ ap (takeAs (stateIn before) l) (sym e); rest = t .rest }
 

@@ -11,10 +11,10 @@ ghost use Prim.Native.Nat.{_-_, _≤_, _<_};
 ghost use lib.Bits.{bitOr};
 ghost use lib.ListN.{length, getD, set};
 ghost use Rattle.text.specs.Reading.{canBeParent};
-ghost use Rattle.kept.specs.Kept.{nextOf, markOf, pushedOf, poppedOf, secondOf, takeOf};
+ghost use Rattle.kept.specs.Kept.{nextOf, markOf, pushedOf, poppedOf, secondOf, takeAs};
 ghost use Rattle.kept.specs.Kept.{takenRelation, takenKey, takenProgram, takenStatement, takenFlow, takenLink};
 ghost use Rattle.kept.specs.Words.{arrayIn, stateIn, Taken};
-ghost use Rattle.takeline.specs.Stores.{putIn, pairIn, marksIn, stepIn, countIn, aroundIn, openIn, atDepth, Took};
+ghost use Rattle.takeline.specs.Stores.{putIn, pairIn, marksIn, stepIn, countIn, aroundIn, openIn, lineBy, atDepth, Took};
 
 // One more; no count that is kept comes near the end.
 fn next(n: u64) -> u64
@@ -241,16 +241,18 @@ fn take_link(words: &mut [u64])
     count_line(words, kept::LINKS);
 }
 
-fn take_kind(words: &mut [u64], l: Line)
+// A line of this kind taken, with the values that matter to it.
+fn take_kind(words: &mut [u64], kind: LineKind, reads: u64, rel: u8, to: u8)
     requires { ⌜ 424 ≤ length (now words) ⌝ }
-    ensures { λ _. ⌜ Took (now (words .entry)) (now (words .exit)) (takeOf (stateIn (now (words .entry))) l) ⌝ }
+    ensures { λ _. ⌜
+        Took (now (words .entry)) (now (words .exit)) (takeAs (stateIn (now (words .entry))) (lineBy kind reads rel to) kind)
+        ⌝ }
 {
-    let kind = l.kind;
     match kind {
-        LineKind::Rl => take_relation(words, l.reads),
-        LineKind::Fk => take_key(words, l.rel, l.to),
+        LineKind::Rl => take_relation(words, reads),
+        LineKind::Fk => take_key(words, rel, to),
         LineKind::Pr => take_program(words),
-        LineKind::St(j) => take_statement(words, l.rel, parental(j)),
+        LineKind::St(j) => take_statement(words, rel, parental(j)),
         LineKind::Lo => take_opening(words, 0),
         LineKind::Br => take_opening(words, 1),
         LineKind::El => take_second(words),
@@ -266,5 +268,6 @@ pub fn take(words: &mut [u64], l: Line)
     if words.len() < 424 {
         return;
     }
-    take_kind(words, l);
+    let kind = l.kind;
+    take_kind(words, kind, l.reads, l.rel, l.to);
 }
