@@ -1,4 +1,6 @@
 // The tests of a line over the state that words keep. They are joined by `&` and `|`, which branch nowhere.
+use line_kinds::sets_fit;
+use line_links::link_fits;
 use text::Line;
 use text::LineKind;
 use text::StatementKind;
@@ -7,12 +9,11 @@ ghost use mathlib.Core.Path.{_≡_};
 ghost use mathlib.Core.Bool.{not, _&&_};
 ghost use Prim.Native.Nat.{_-_};
 ghost use lib.Dec.{eqb, ltb};
-ghost use Rattle.base.specs.Basic.{within as withinSet};
-ghost use Rattle.text.specs.Reading.{kindSets};
+ghost use Rattle.text.specs.declared.Line.{Line as LineValue};
 ghost use Rattle.text.specs.declared.LineKind.the-variants.{Rl as Relation, Fk as Key, Pr as Program, St as Statement, Lo as Loop};
 ghost use Rattle.text.specs.declared.LineKind.the-variants.{Br as Branch, El as Second, En as Closing, Li as Link};
-ghost use Rattle.kept.specs.Kept.{inBodyOf, innermostOf, blocksWithinOf, linkFitsOf, checkBy, checkAs, checkOf};
-ghost use Rattle.kept.specs.Words.{stateIn, arrayIn};
+ghost use Rattle.kept.specs.Kept.{inBodyOf, innermostOf, checkBy, checkAs, checkOf};
+ghost use Rattle.kept.specs.Words.{stateIn};
 ghost use lib.ListN.{getD};
 
 // A number is the sum of two.
@@ -27,7 +28,7 @@ fn is_sum(n: u64, a: u64, b: u64) -> bool
 
 // A program has begun, and its links have not.
 fn in_body(words: &[u64]) -> bool
-    ensures { λ r. ⌜ r ≡ inBodyOf (getD (now (words .entry)) 417 0) (getD (now (words .entry)) 419 0) ⌝ }
+    ensures { λ r. ⌜ r ≡ inBodyOf (getD (now (words .entry)) 421 0) (getD (now (words .entry)) 417 0) ⌝ }
 {
     let programs = word_at(words, kept::PROGRAMS);
     let links = word_at(words, kept::LINKS);
@@ -108,36 +109,6 @@ fn check_program(words: &[u64], l: Line) -> u8
     )
 }
 
-fn within(x: u64, y: u64) -> bool
-    ensures { λ r. ⌜ r ≡ withinSet x y ⌝ }
-{
-    x & y == x
-}
-
-fn kind_sets(whole: u64, kind: StatementKind, l: Line) -> bool
-    ensures { λ r. ⌜ r ≡ kindSets whole kind l ⌝ }
-{
-    match kind {
-        StatementKind::Is => l.writes == whole,
-        StatementKind::Ks => l.reads != 0,
-        StatementKind::Ps => true,
-        StatementKind::Ku => l.writes != 0,
-        StatementKind::Pu => l.writes != 0,
-        StatementKind::Kd => l.writes == whole,
-        StatementKind::Pd => l.writes == whole,
-    }
-}
-
-// The sets of a statement over a relation with this set.
-fn sets_fit(whole: u64, kind: StatementKind, l: Line) -> bool
-    ensures { λ r. ⌜
-        r ≡ ((withinSet (l .reads) whole && withinSet (l .writes) whole && withinSet (l .tests) whole) && kindSets whole kind l)
-        ⌝ }
-{
-    let inside = within(l.reads, whole) & within(l.writes, whole) & within(l.tests, whole);
-    inside & kind_sets(whole, kind, l)
-}
-
 fn check_statement(words: &[u64], kind: StatementKind, l: Line) -> u8
     ensures { λ r. ⌜ r ≡ checkAs (stateIn (now (words .entry))) l (Statement kind) ⌝ }
 {
@@ -159,8 +130,10 @@ fn check_statement(words: &[u64], kind: StatementKind, l: Line) -> u8
 }
 
 // A loop or a branch begins.
-fn check_opening(words: &[u64], l: Line) -> u8
-    ensures { λ r. ⌜ (r ≡ checkAs (stateIn (now (words .entry))) l Loop) × (r ≡ checkAs (stateIn (now (words .entry))) l Branch) ⌝ }
+fn check_opening(words: &[u64]) -> u8
+    ensures { λ r. ⌜
+        ((l : LineValue) → (r ≡ checkAs (stateIn (now (words .entry))) l Loop) × (r ≡ checkAs (stateIn (now (words .entry))) l Branch))
+        ⌝ }
 {
     let programs = word_at(words, kept::PROGRAMS);
     let body = word_at(words, kept::BODY);
@@ -169,8 +142,8 @@ fn check_opening(words: &[u64], l: Line) -> u8
     verdict(room, in_body(words), true, true, false, true)
 }
 
-fn check_second(words: &[u64], l: Line) -> u8
-    ensures { λ r. ⌜ r ≡ checkAs (stateIn (now (words .entry))) l Second ⌝ }
+fn check_second(words: &[u64]) -> u8
+    ensures { λ r. ⌜ ((l : LineValue) → r ≡ checkAs (stateIn (now (words .entry))) l Second) ⌝ }
 {
     let programs = word_at(words, kept::PROGRAMS);
     let body = word_at(words, kept::BODY);
@@ -179,55 +152,14 @@ fn check_second(words: &[u64], l: Line) -> u8
     verdict(room, ordered, true, true, false, true)
 }
 
-fn check_closing(words: &[u64], l: Line) -> u8
-    ensures { λ r. ⌜ r ≡ checkAs (stateIn (now (words .entry))) l Closing ⌝ }
+fn check_closing(words: &[u64]) -> u8
+    ensures { λ r. ⌜ ((l : LineValue) → r ≡ checkAs (stateIn (now (words .entry))) l Closing) ⌝ }
 {
     let programs = word_at(words, kept::PROGRAMS);
     let body = word_at(words, kept::BODY);
     let room = (programs == 0) | (body < 64);
     let ordered = in_body(words) & (innermost(words, 0) | innermost(words, 2));
     verdict(room, ordered, true, true, false, true)
-}
-
-// Two cells of an array as sets: the first within the second.
-fn cell_within(words: &[u64], from: usize, parent: u64, child: u64) -> bool
-    ensures { λ r. ⌜
-        r ≡ withinSet (getD (arrayIn (now (words .entry)) from) parent 0) (getD (arrayIn (now (words .entry)) from) child 0)
-        ⌝ }
-{
-    within(
-        kept::cell(words, from, parent),
-        kept::cell(words, from, child),
-    )
-}
-
-// The blocks around the first statement are around the second.
-fn blocks_within(words: &[u64], parent: u64, child: u64) -> bool
-    ensures { λ r. ⌜ r ≡ blocksWithinOf (stateIn (now (words .entry)) .statements) parent child ⌝ }
-{
-    let loops = cell_within(words, kept::AROUND_LOOPS, parent, child);
-    let firsts = cell_within(words, kept::AROUND_FIRSTS, parent, child);
-    let seconds = cell_within(words, kept::AROUND_SECONDS, parent, child);
-    loops & firsts & seconds
-}
-
-// Two cells of two arrays are equal.
-fn same_cell(words: &[u64], a: usize, i: u64, b: usize, j: u64) -> bool
-    ensures { λ r. ⌜ r ≡ eqb (getD (arrayIn (now (words .entry)) a) i 0) (getD (arrayIn (now (words .entry)) b) j 0) ⌝ }
-{
-    kept::cell(words, a, i) == kept::cell(words, b, j)
-}
-
-fn link_fits(words: &[u64], l: Line) -> bool
-    ensures { λ r. ⌜ r ≡ linkFitsOf (stateIn (now (words .entry)) .tables) (stateIn (now (words .entry)) .statements) l ⌝ }
-{
-    let id = l.id as u64;
-    let child = l.rel as u64;
-    let parent = l.to as u64;
-    let of_child = same_cell(words, kept::STATEMENT_RELATIONS, child, kept::CHILDREN, id);
-    let of_parent = same_cell(words, kept::STATEMENT_RELATIONS, parent, kept::PARENTS, id);
-    let parental = kept::cell(words, kept::PARENTAL, parent);
-    (of_child & of_parent & (parental == 1)) & blocks_within(words, parent, child)
 }
 
 fn check_link(words: &[u64], l: Line) -> u8
@@ -256,10 +188,10 @@ pub fn check(words: &[u64], l: Line) -> u8
         LineKind::Fk => check_key(words, l),
         LineKind::Pr => check_program(words, l),
         LineKind::St(j) => check_statement(words, j, l),
-        LineKind::Lo => check_opening(words, l),
-        LineKind::Br => check_opening(words, l),
-        LineKind::El => check_second(words, l),
-        LineKind::En => check_closing(words, l),
+        LineKind::Lo => check_opening(words),
+        LineKind::Br => check_opening(words),
+        LineKind::El => check_second(words),
+        LineKind::En => check_closing(words),
         LineKind::Li => check_link(words, l),
     }
 }

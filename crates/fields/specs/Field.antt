@@ -1,6 +1,6 @@
 -- How a line is read, field by field from the front: what the code of this crate computes. A step between the code and the believed
 -- definitions of the text; the laws that join the two stand in the modules beside.
-use mathlib.Core.Bool.{Bool, cond}
+use mathlib.Core.Bool.{cond}
 use mathlib.Core.List.{List, [], _∷_}
 use mathlib.Core.Option.{Option, none, some}
 use Prim.Native.Nat.{ℕ, suc, _+_, _*_, _-_}
@@ -9,7 +9,7 @@ use lib.ListN.{length, take, drop, getD}
 use Rattle.text.specs.declared.Line.{Line}
 use Rattle.text.specs.declared.LineKind.{LineKind}
 use Rattle.text.specs.Text.{space, fieldsIn, Form, formsOf, fieldOf, valuesOf, lineWith}
-use Rattle.text.specs.Text.Form.{number, set, nothing}
+unfoldable pub use Rattle.line_kinds.specs.Kinds.{numberIf, setIf, formsWith}
 
 -- what a byte stands for as a hexadecimal digit, 16 where it is none
 unfoldable pub hexadecimal : ℕ → ℕ
@@ -43,17 +43,6 @@ fieldLength (b ∷ line) = cond (eqb b space) 0 (suc (fieldLength line))
 unfoldable pub othersIn : List ℕ → List (List ℕ)
 othersIn [] = []
 othersIn (b ∷ line) = fieldsIn line
-
--- the forms of a field for numbers, and of one for sets, from whether a kind has the field
-unfoldable pub numberIf : Bool → Form
-numberIf there = cond there number nothing
-
-unfoldable pub setIf : Bool → Form
-setIf there = cond there set nothing
-
-unfoldable pub formsWith : Bool → Bool → Bool → Bool → Bool → Bool → List Form
-formsWith id rel to reads writes tests =
-    numberIf id ∷ numberIf rel ∷ numberIf to ∷ setIf reads ∷ setIf writes ∷ setIf tests ∷ []
 
 -- a field's value, if it has one, with what follows the field
 unfoldable pub before : Option ℕ → List ℕ → Option (ℕ × List ℕ)

@@ -17,21 +17,21 @@ arrayIn words from = take 32 (drop from words)
 unfoldable pub stateIn : List ℕ → State
 stateIn words =
     record {
-      lines = getD words 416 0;
-      programs = getD words 417 0;
-      body = getD words 418 0;
-      links = getD words 419 0;
+      lines = getD words 420 0;
+      programs = getD words 421 0;
+      body = getD words 416 0;
+      links = getD words 417 0;
       tables =
           record {
-            relations = getD words 420 0;
+            relations = getD words 422 0;
             sets = arrayIn words 0;
-            keys = getD words 421 0;
+            keys = getD words 423 0;
             children = arrayIn words 32;
             parents = arrayIn words 64;
           };
       stack =
           record {
-            depth = getD words 422 0;
+            depth = getD words 418 0;
             places = arrayIn words 96;
             parts = arrayIn words 128;
             loops = arrayIn words 160;
@@ -40,7 +40,7 @@ stateIn words =
           };
       statements =
           record {
-            count = getD words 423 0;
+            count = getD words 419 0;
             relations = arrayIn words 256;
             parental = arrayIn words 288;
             loops = arrayIn words 320;

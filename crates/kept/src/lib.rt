@@ -1,7 +1,7 @@
 // The words in which reading keeps what it needs of the lines taken so far.
 ghost use mathlib.Core.Path.{_≡_};
 ghost use lib.ListN.{getD};
-ghost use Rattle.kept.specs.Words.{arrayIn};
+ghost use Rattle.kept.specs.Words.{arrayIn, startedIn};
 
 // Where the arrays begin: the relations' sets, the keys' children and parents;
 pub const SETS: usize = 0;
@@ -32,22 +32,23 @@ pub const AROUND_FIRSTS: usize = 352;
 
 pub const AROUND_SECONDS: usize = 384;
 
-// Where the counts stand, behind the arrays.
-pub const LINES: usize = 416;
+// Where the counts stand, after the arrays: of the program at hand the lines of its body, the links, the open blocks and the statements;
+pub const BODY: usize = 416;
 
-pub const PROGRAMS: usize = 417;
+pub const LINKS: usize = 417;
 
-pub const BODY: usize = 418;
+pub const DEPTH: usize = 418;
 
-pub const LINKS: usize = 419;
+pub const STATEMENTS: usize = 419;
 
-pub const RELATIONS: usize = 420;
+// of all lines the number, the programs, the relations and the keys.
+pub const LINES: usize = 420;
 
-pub const KEYS: usize = 421;
+pub const PROGRAMS: usize = 421;
 
-pub const DEPTH: usize = 422;
+pub const RELATIONS: usize = 422;
 
-pub const STATEMENTS: usize = 423;
+pub const KEYS: usize = 423;
 
 // A cell of the array that begins at a word, 0 past its end.
 pub fn cell(words: &[u64], from: usize, i: u64) -> u64
@@ -63,4 +64,14 @@ pub fn cell(words: &[u64], from: usize, i: u64) -> u64
         }
     }
     0
+}
+
+// No line taken yet; too few words stay as they are.
+pub fn start(words: &mut [u64])
+    ensures { λ _. ⌜ now (words .exit) ≡ startedIn (now (words .entry)) ⌝ }
+{
+    if words.len() < 424 {
+        return;
+    }
+    words::clear(words, 0, 424);
 }

@@ -1,5 +1,5 @@
 -- How many digits a number is written with, and how many bytes a line.
-use mathlib.Core.Bool.{Bool, true, false, _&&_}
+use mathlib.Core.Bool.{Bool, true, false, not, _&&_, _||_}
 use mathlib.Core.List.{List, [], _∷_, _++_}
 use mathlib.Core.Path.{_≡_, refl, sym, ap, subst, _∙_}
 use Prim.Native.Nat.{ℕ, zero, suc, _+_, _*_, _-_, _/_, _%_, _^_, _≤_, _<_}
@@ -9,19 +9,16 @@ use lib.Dec.{eqb, ltb}
 use lib.ListN.{length, length-append}
 use lib.Pow.{pow-mono}
 use borrow.Author.Tests.{ltb-true, ltb-false, lt-ltb, le-ltb, eqb-true}
-use Rattle.base.specs.Basic.{all}
 use Rattle.base.specs.BoolLaws.{and-true}
 use Rattle.text.specs.declared.Line.{Line}
-use Rattle.text.specs.declared.LineKind.{LineKind}
-use Rattle.text.specs.declared.LineKind.the-variants.{Rl, Fk, Pr, St, Lo, Br, El, En, Li}
-use Rattle.text.specs.declared.StatementKind.the-variants.{Is, Ks, Ps, Ku, Pu, Kd, Pd}
 use Rattle.text.specs.Text.{Form, newline, formsOf, wordOf}
-use Rattle.text.specs.Text.Form.{number, set, nothing}
-use Rattle.text.specs.Text.{digit, digitsOf}
-use Rattle.reading.specs.Written.{fieldWritten, fieldsWritten, lineWritten}
+use Rattle.text.specs.Text.Form.{number, set}
+use Rattle.text.specs.Value.{digit, digitsOf, fieldWritten, fieldsWritten, lineWritten}
 use Rattle.reading.specs.TextLaws.{fits, allFit, lineFits, valuesIn}
-use Rattle.fields.specs.Field.{numberIf, setIf, formsWith}
-use Rattle.lengths.specs.Size.{isZero, sizeOf}
+use Rattle.fields.specs.FieldLaws.{word-two}
+use Rattle.line_kinds.specs.Kinds.{lineFacts, lacksFact, hasId, hasRel, hasTo, hasReads, hasWrites, hasTests, numberIf, setIf, formsWith}
+use Rattle.line_kinds.specs.KindLaws.{forms-told}
+use Rattle.lengths.specs.Size.{valueFits, sizeOf}
 
 -- one digit below the base, one more than the quotient has from the base on
 digits-one : (base room n : ℕ) → n < base → length (digitsOf base (suc room) n) ≡ 1
@@ -117,35 +114,6 @@ hexadecimal-zero = digits-one 16 15 0 (omega arith)
 pub hexadecimal-many : (n : ℕ) → 0 < n → n < 2 ^ 64 → length (digitsOf 16 16 n) ≡ (67 - leadingZeros 64 n) / 4
 hexadecimal-many n p h = hexadecimal-within 15 n p h
 
--- T5: which fields each kind has, as one form for each field
-record Fields (k : LineKind) : Type 0 where
-  id : Bool
-  rel : Bool
-  to : Bool
-  reads : Bool
-  writes : Bool
-  tests : Bool
-  forms : formsOf k ≡ formsWith id rel to reads writes tests
-  word : length (wordOf k) ≡ 2
-
-fields-of : (k : LineKind) → Fields k
-unfolding formsOf formsWith numberIf setIf wordOf
-fields-of Rl = record { id = true; rel = false; to = false; reads = true; writes = false; tests = false; forms = refl; word = refl }
-fields-of Fk = record { id = true; rel = true; to = true; reads = false; writes = false; tests = false; forms = refl; word = refl }
-fields-of Pr = record { id = true; rel = false; to = false; reads = false; writes = false; tests = false; forms = refl; word = refl }
-fields-of (St Is) = record { id = true; rel = true; to = false; reads = false; writes = true; tests = false; forms = refl; word = refl }
-fields-of (St Ks) = record { id = true; rel = true; to = false; reads = true; writes = false; tests = false; forms = refl; word = refl }
-fields-of (St Ps) = record { id = true; rel = true; to = false; reads = true; writes = false; tests = true; forms = refl; word = refl }
-fields-of (St Ku) = record { id = true; rel = true; to = false; reads = true; writes = true; tests = false; forms = refl; word = refl }
-fields-of (St Pu) = record { id = true; rel = true; to = false; reads = true; writes = true; tests = true; forms = refl; word = refl }
-fields-of (St Kd) = record { id = true; rel = true; to = false; reads = false; writes = true; tests = false; forms = refl; word = refl }
-fields-of (St Pd) = record { id = true; rel = true; to = false; reads = false; writes = true; tests = true; forms = refl; word = refl }
-fields-of Lo = record { id = false; rel = false; to = false; reads = false; writes = false; tests = false; forms = refl; word = refl }
-fields-of Br = record { id = false; rel = false; to = false; reads = false; writes = false; tests = false; forms = refl; word = refl }
-fields-of El = record { id = false; rel = false; to = false; reads = false; writes = false; tests = false; forms = refl; word = refl }
-fields-of En = record { id = false; rel = false; to = false; reads = false; writes = false; tests = false; forms = refl; word = refl }
-fields-of Li = record { id = true; rel = true; to = true; reads = false; writes = false; tests = false; forms = refl; word = refl }
-
 -- the values of a line are within their types
 pub record Bounded (l : Line) : Type 0 where
   pub id : l .id < 256
@@ -155,50 +123,51 @@ pub record Bounded (l : Line) : Type 0 where
   pub writes : l .writes < 2 ^ 64
   pub tests : l .tests < 2 ^ 64
 
--- behind five tests that hold, the sixth is left
-pub all-last : (a b c d e n : ℕ) → a ≡ 0 → b ≡ 0 → c ≡ 0 → d ≡ 0 → e ≡ 0 → isZero n ≡ all isZero (a ∷ b ∷ c ∷ d ∷ e ∷ n ∷ [])
-unfolding isZero
-all-last a b c d e n ha hb hc hd he = rw (ha, hb, hc, hd, he) (and-end (eqb n 0))
-  where
-    and-end : (t : Bool) → t ≡ t && true
-    and-end true = refl
-    and-end false = refl
-
--- what of the values has no field: the value itself where the kind has none
-unfoldable pub absent : Form → ℕ → ℕ
-absent number n = 0
-absent set n = 0
-absent nothing n = n
-
-unfoldable pub absents : List Form → List ℕ → List ℕ
-absents [] values = []
-absents (form ∷ forms) [] = []
-absents (form ∷ forms) (n ∷ values) = absent form n ∷ absents forms values
-
-number-fits : (there : Bool) (n : ℕ) → n < 256 → fits (numberIf there) n ≡ isZero (absent (numberIf there) n)
-unfolding fits numberIf isZero absent
+number-fits : (there : Bool) (n : ℕ) → n < 256 → fits (numberIf there) n ≡ there || eqb n 0
+unfolding fits numberIf
 number-fits true n h = lt-ltb n 256 h
 number-fits false n h = refl
 
-set-fits : (there : Bool) (n : ℕ) → n < 2 ^ 64 → fits (setIf there) n ≡ isZero (absent (setIf there) n)
-unfolding fits setIf isZero absent
+set-fits : (there : Bool) (n : ℕ) → n < 2 ^ 64 → fits (setIf there) n ≡ there || eqb n 0
+unfolding fits setIf
 set-fits true n h = lt-ltb n (2 ^ 64) h
 set-fits false n h = refl
 
+-- six tests, by threes and one after the other
+six-tests : (a b c d e f : Bool) → (a && b && c) && (d && e && f) ≡ a && (b && (c && (d && (e && (f && true)))))
+six-tests false b c d e f = refl
+six-tests true false c d e f = refl
+six-tests true true false d e f = refl
+six-tests true true true false e f = refl
+six-tests true true true true false f = refl
+six-tests true true true true true false = refl
+six-tests true true true true true true = refl
+
 -- T2: the values of a line fit if those that have no field are 0
-pub absent-fits : (k : LineKind) (l : Line) → Bounded l → all isZero (absents (formsOf k) (valuesIn l)) ≡ allFit (formsOf k) (valuesIn l)
-unfolding allFit formsWith absents
-absent-fits k l b =
-    let f = fields-of k in
-    rw (
-      f .forms,
-      number-fits (f .id) (l .id) (b .id),
-      number-fits (f .rel) (l .rel) (b .rel),
-      number-fits (f .to) (l .to) (b .to),
-      set-fits (f .reads) (l .reads) (b .reads),
-      set-fits (f .writes) (l .writes) (b .writes),
-      set-fits (f .tests) (l .tests) (b .tests),
+pub facts-fit : (l : Line) → Bounded l
+    → (valueFits (lineFacts (l .kind)) hasId (l .id) && valueFits (lineFacts (l .kind)) hasRel (l .rel) && valueFits (lineFacts (l .kind)) hasTo (l .to))
+    && (valueFits (lineFacts (l .kind)) hasReads (l .reads)
+    && valueFits (lineFacts (l .kind)) hasWrites (l .writes)
+    && valueFits (lineFacts (l .kind)) hasTests (l .tests))
+    ≡ lineFits l
+unfolding lineFits allFit formsWith
+facts-fit l b =
+    let there : ℕ → Bool = λ fact. not (lacksFact (lineFacts (l .kind)) fact) in
+    sym
+    (rw (
+      forms-told (l .kind),
+      number-fits (there hasId) (l .id) (b .id),
+      number-fits (there hasRel) (l .rel) (b .rel),
+      number-fits (there hasTo) (l .to) (b .to),
+      set-fits (there hasReads) (l .reads) (b .reads),
+      set-fits (there hasWrites) (l .writes) (b .writes),
+      set-fits (there hasTests) (l .tests) (b .tests),
     )
+    (sym
+    (six-tests (there hasId || eqb (l .id) 0) (there hasRel || eqb (l .rel) 0) (there hasTo || eqb (l .to) 0)
+    (there hasReads || eqb (l .reads) 0)
+    (there hasWrites || eqb (l .writes) 0)
+    (there hasTests || eqb (l .tests) 0))))
 
 -- a value that fits takes up the digits that it has as a number, or as a set: a dash is one byte, and stands for 0
 number-width : (there : Bool) (n : ℕ) → fits (numberIf there) n ≡ true → length (fieldWritten (numberIf there) n) ≡ length (digitsOf 10 3 n)
@@ -257,11 +226,10 @@ six-width id rel to reads writes tests l e =
 pub width-of : (l : Line) → lineFits l ≡ true → length (lineWritten l) ≡ 9 + digitCount l
 unfolding lineFits lineWritten
 width-of l e =
-    let f = fields-of (l .kind) in
-    let fit : allFit (formsWith (f .id) (f .rel) (f .to) (f .reads) (f .writes) (f .tests)) (valuesIn l) ≡ true =
-    subst (λ forms. allFit forms (valuesIn l) ≡ true) (f .forms) e in
+    let forms = forms-told (l .kind) in
     let six : length (fieldsWritten (formsOf (l .kind)) (valuesIn l)) ≡ 6 + digitCount l =
-    ap (λ forms. length (fieldsWritten forms (valuesIn l))) (f .forms) ∙ six-width (f .id) (f .rel) (f .to) (f .reads) (f .writes) (f .tests) l fit in
+    ap (λ fs. length (fieldsWritten fs (valuesIn l))) forms
+    ∙ six-width _ _ _ _ _ _ l (subst (λ fs. allFit fs (valuesIn l) ≡ true) forms e) in
     let end : List ℕ = newline ∷ [] in
     let front : List ℕ = wordOf (l .kind) ++ fieldsWritten (formsOf (l .kind)) (valuesIn l) in
     let whole : length (lineWritten l) ≡ length (front ++ end) = refl in
@@ -269,7 +237,7 @@ width-of l e =
       arith,
       whole,
       six,
-      f .word,
+      word-two (l .kind),
       length-append front end,
       length-append (wordOf (l .kind)) (fieldsWritten (formsOf (l .kind)) (valuesIn l)),
     )

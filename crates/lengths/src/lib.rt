@@ -1,17 +1,12 @@
 // What a line takes up in a text, from its values alone.
+use line_kinds::line_facts;
 use text::Line;
-use text::LineKind;
-use text::StatementKind;
 ghost use mathlib.Core.Path.{_≡_};
-ghost use mathlib.Core.List.{[], _∷_};
 ghost use Prim.Native.Nat.{_≤_};
 ghost use lib.ListN.{length};
-ghost use Rattle.base.specs.Basic.{all};
-ghost use Rattle.text.specs.declared.LineKind.the-variants.{St};
-ghost use Rattle.text.specs.Text.{formsOf};
-ghost use Rattle.text.specs.Text.{digitsOf};
-ghost use Rattle.reading.specs.TextLaws.{allFit, lineFits, valuesIn};
-ghost use Rattle.lengths.specs.Size.{isZero, sizeOf};
+ghost use Rattle.text.specs.Value.{digitsOf};
+ghost use Rattle.reading.specs.TextLaws.{lineFits};
+ghost use Rattle.lengths.specs.Size.{valueFits, sizeOf};
 
 fn decimal_digits(n: u8) -> u64
     ensures { λ r. ⌜ (r ≡ length (digitsOf 10 3 n)) × (r ≤ 3) ⌝ }
@@ -36,40 +31,11 @@ fn hexadecimal_digits(set: u64) -> u64
     (67 - zeros) / 4
 }
 
-fn all_zero(id: u8, rel: u8, to: u8, reads: u64, writes: u64, tests: u64) -> bool
-    ensures { λ r. ⌜ r ≡ all isZero (id ∷ rel ∷ to ∷ reads ∷ writes ∷ tests ∷ []) ⌝ }
+// A value whose field is not among these facts is 0.
+fn value_fits(facts: u64, field: u64, value: u64) -> bool
+    ensures { λ r. ⌜ r ≡ valueFits facts field value ⌝ }
 {
-    if id != 0 {
-        return false;
-    }
-    if rel != 0 {
-        return false;
-    }
-    if to != 0 {
-        return false;
-    }
-    if reads != 0 {
-        return false;
-    }
-    if writes != 0 {
-        return false;
-    }
-    tests == 0
-}
-
-// What a statement of this kind lacks holds 0.
-fn statement_fits(kind: StatementKind, l: Line) -> bool
-    ensures { λ r. ⌜ r ≡ allFit (formsOf (St kind)) (valuesIn l) ⌝ }
-{
-    match kind {
-        StatementKind::Is => all_zero(0, 0, l.to, l.reads, 0, l.tests),
-        StatementKind::Ks => all_zero(0, 0, l.to, 0, l.writes, l.tests),
-        StatementKind::Ps => all_zero(0, 0, l.to, 0, l.writes, 0),
-        StatementKind::Ku => all_zero(0, 0, l.to, 0, 0, l.tests),
-        StatementKind::Pu => all_zero(0, 0, l.to, 0, 0, 0),
-        StatementKind::Kd => all_zero(0, 0, l.to, l.reads, 0, l.tests),
-        StatementKind::Pd => all_zero(0, 0, l.to, l.reads, 0, 0),
-    }
+    (facts & field != 0) | (value == 0)
 }
 
 // What the line's kind lacks holds 0.
@@ -77,17 +43,14 @@ fn line_fits(l: Line) -> bool
     ensures { λ r. ⌜ r ≡ lineFits l ⌝ }
 {
     let kind = l.kind;
-    match kind {
-        LineKind::Rl => all_zero(0, l.rel, l.to, 0, l.writes, l.tests),
-        LineKind::Fk => all_zero(0, 0, 0, l.reads, l.writes, l.tests),
-        LineKind::Pr => all_zero(0, l.rel, l.to, l.reads, l.writes, l.tests),
-        LineKind::St(k) => statement_fits(k, l),
-        LineKind::Lo => all_zero(l.id, l.rel, l.to, l.reads, l.writes, l.tests),
-        LineKind::Br => all_zero(l.id, l.rel, l.to, l.reads, l.writes, l.tests),
-        LineKind::El => all_zero(l.id, l.rel, l.to, l.reads, l.writes, l.tests),
-        LineKind::En => all_zero(l.id, l.rel, l.to, l.reads, l.writes, l.tests),
-        LineKind::Li => all_zero(0, 0, 0, l.reads, l.writes, l.tests),
-    }
+    let facts = line_facts(kind);
+    let id = value_fits(facts, line_kinds::ID, l.id as u64);
+    let rel = value_fits(facts, line_kinds::REL, l.rel as u64);
+    let to = value_fits(facts, line_kinds::TO, l.to as u64);
+    let reads = value_fits(facts, line_kinds::READS, l.reads);
+    let writes = value_fits(facts, line_kinds::WRITES, l.writes);
+    let tests = value_fits(facts, line_kinds::TESTS, l.tests);
+    (id & rel & to) & (reads & writes & tests)
 }
 
 // The bytes that the line is written with, 0 where a value does not fit. What is not there is written as one byte, as 0 is: so in a line

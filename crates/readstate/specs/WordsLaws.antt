@@ -44,21 +44,21 @@ zeros-state rest =
     let number : (p : ℕ) → p < 424 → getD (zeros rest) p 0 ≡ 0 = zeros-word rest in
     let array : (o : ℕ) → o + 32 ≤ 424 → arrayIn (zeros rest) o ≡ replicate 32 0 = zeros-array rest in
     λ q. record {
-      lines = number 416 (omega arith) q;
-      programs = number 417 (omega arith) q;
-      body = number 418 (omega arith) q;
-      links = number 419 (omega arith) q;
+      lines = number 420 (omega arith) q;
+      programs = number 421 (omega arith) q;
+      body = number 416 (omega arith) q;
+      links = number 417 (omega arith) q;
       tables =
           record {
-            relations = number 420 (omega arith) q;
+            relations = number 422 (omega arith) q;
             sets = array 0 (omega arith) q;
-            keys = number 421 (omega arith) q;
+            keys = number 423 (omega arith) q;
             children = array 32 (omega arith) q;
             parents = array 64 (omega arith) q;
           };
       stack =
           record {
-            depth = number 422 (omega arith) q;
+            depth = number 418 (omega arith) q;
             places = array 96 (omega arith) q;
             parts = array 128 (omega arith) q;
             loops = array 160 (omega arith) q;
@@ -67,7 +67,7 @@ zeros-state rest =
           };
       statements =
           record {
-            count = number 423 (omega arith) q;
+            count = number 419 (omega arith) q;
             relations = array 256 (omega arith) q;
             parental = array 288 (omega arith) q;
             loops = array 320 (omega arith) q;

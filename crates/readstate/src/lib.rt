@@ -21,7 +21,7 @@ pub fn start(words: &mut [u64])
         × (424 ≤ length (now (words .entry)) → HoldsWords (now (words .exit)) [])
         ⌝ }
 {
-    takeline::start(words);
+    kept::start(words);
 }
 
 // The number of the first test that the line fails behind the lines taken, 0 where it passes all.

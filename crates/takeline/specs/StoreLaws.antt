@@ -186,21 +186,21 @@ stores-state words stores n f =
     let array : (j : ℕ) → j < 13 → arrayIn (storesIn words stores) (32 * j) ≡ arraysBehind j (arrayIn words (32 * j)) stores =
     λ j h. arrays-store words j h stores in
     λ q. record {
-      lines = number 0 (omega arith) q;
-      programs = number 1 (omega arith) q;
-      body = number 2 (omega arith) q;
-      links = number 3 (omega arith) q;
+      lines = number 4 (omega arith) q;
+      programs = number 5 (omega arith) q;
+      body = number 0 (omega arith) q;
+      links = number 1 (omega arith) q;
       tables =
           record {
-            relations = number 4 (omega arith) q;
+            relations = number 6 (omega arith) q;
             sets = array 0 (omega arith) q;
-            keys = number 5 (omega arith) q;
+            keys = number 7 (omega arith) q;
             children = array 1 (omega arith) q;
             parents = array 2 (omega arith) q;
           };
       stack =
           record {
-            depth = number 6 (omega arith) q;
+            depth = number 2 (omega arith) q;
             places = array 3 (omega arith) q;
             parts = array 4 (omega arith) q;
             loops = array 5 (omega arith) q;
@@ -209,7 +209,7 @@ stores-state words stores n f =
           };
       statements =
           record {
-            count = number 7 (omega arith) q;
+            count = number 3 (omega arith) q;
             relations = array 8 (omega arith) q;
             parental = array 9 (omega arith) q;
             loops = array 10 (omega arith) q;

@@ -2,12 +2,15 @@
 use mathlib.Core.Bool.{Bool, true, false}
 use mathlib.Core.List.{List, [], _∷_}
 use mathlib.Core.Path.{_≡_}
-use Prim.Native.Nat.{ℕ, _+_, _*_, _≤_, _<_}
+use Prim.Native.Nat.{ℕ, _+_, _*_}
+use lib.Bits.{bitOr}
 use lib.Dec.{eqb, ltb}
 use lib.ListN.{length, getD, set, drop}
+use Rattle.text.specs.declared.Line.{Line}
+use Rattle.text.specs.declared.LineKind.{LineKind}
 use Rattle.kept.specs.Records.{Stack, State}
-use Rattle.kept.specs.Kept.{nextOf}
-use Rattle.kept.specs.Words.{stateIn}
+use Rattle.kept.specs.Kept.{nextOf, markOf}
+use Rattle.kept.specs.Words.{arrayIn, stateIn}
 
 -- a cell of an array set; past the array's end nothing changes
 unfoldable pub putIn : List ℕ → ℕ → ℕ → ℕ → List ℕ
@@ -17,9 +20,29 @@ putIn words from i v = elim (ltb i 32) [ true ↦ set words (from + i) v | false
 abbrev pub marksIn : List ℕ → ℕ → ℕ → ℕ → ℕ → ℕ → List ℕ
 marksIn words from i x y z = putIn (putIn (putIn words from i x) (from + 32) i y) (from + 64) i z
 
+-- two cells at one place of neighbouring arrays set
+abbrev pub pairIn : List ℕ → ℕ → ℕ → ℕ → ℕ → List ℕ
+pairIn words from i x y = putIn (putIn words from i x) (from + 32) i y
+
 -- a word becomes one more
 unfoldable pub stepIn : List ℕ → ℕ → List ℕ
 stepIn words at = set words at (nextOf (getD words at 0))
+
+-- a count and the number of lines become one more
+abbrev pub countIn : List ℕ → ℕ → List ℕ
+countIn words at = stepIn (stepIn words at) 420
+
+-- the places of the blocks around a statement: those of the open blocks at a depth
+abbrev pub aroundIn : List ℕ → ℕ → ℕ → List ℕ
+aroundIn words at depth =
+    marksIn words 320 at (getD (arrayIn words 160) depth 0) (getD (arrayIn words 192) depth 0) (getD (arrayIn words 224) depth 0)
+
+-- the places of the open blocks with one block more above a depth
+abbrev pub openIn : List ℕ → ℕ → ℕ → ℕ → ℕ → List ℕ
+openIn words at below place part =
+    marksIn words 160 at (bitOr (markOf part 0 place) (getD (arrayIn words 160) below 0))
+    (bitOr (markOf part 1 place) (getD (arrayIn words 192) below 0))
+    (bitOr (markOf part 2 place) (getD (arrayIn words 224) below 0))
 
 -- a store: array, cell and value; count and value; a count that becomes one more
 pub data Store : Type 0 where
@@ -66,21 +89,21 @@ countsBehind c n (x ∷ stores) = countsBehind c (countBehind c n x) stores
 unfoldable pub stateBehind : State → List Store → State
 stateBehind s stores =
     record {
-      lines = countsBehind 0 (s .lines) stores;
-      programs = countsBehind 1 (s .programs) stores;
-      body = countsBehind 2 (s .body) stores;
-      links = countsBehind 3 (s .links) stores;
+      lines = countsBehind 4 (s .lines) stores;
+      programs = countsBehind 5 (s .programs) stores;
+      body = countsBehind 0 (s .body) stores;
+      links = countsBehind 1 (s .links) stores;
       tables =
           record {
-            relations = countsBehind 4 (s .tables .relations) stores;
+            relations = countsBehind 6 (s .tables .relations) stores;
             sets = arraysBehind 0 (s .tables .sets) stores;
-            keys = countsBehind 5 (s .tables .keys) stores;
+            keys = countsBehind 7 (s .tables .keys) stores;
             children = arraysBehind 1 (s .tables .children) stores;
             parents = arraysBehind 2 (s .tables .parents) stores;
           };
       stack =
           record {
-            depth = countsBehind 6 (s .stack .depth) stores;
+            depth = countsBehind 2 (s .stack .depth) stores;
             places = arraysBehind 3 (s .stack .places) stores;
             parts = arraysBehind 4 (s .stack .parts) stores;
             loops = arraysBehind 5 (s .stack .loops) stores;
@@ -89,7 +112,7 @@ stateBehind s stores =
           };
       statements =
           record {
-            count = countsBehind 7 (s .statements .count) stores;
+            count = countsBehind 3 (s .statements .count) stores;
             relations = arraysBehind 8 (s .statements .relations) stores;
             parental = arraysBehind 9 (s .statements .parental) stores;
             loops = arraysBehind 10 (s .statements .loops) stores;
@@ -116,9 +139,6 @@ atDepth k depth =
       seconds = k .seconds;
     }
 
--- the words from one to another are 0, the others as before
-pub record Cleared (from to : ℕ) (before after : List ℕ) : Type 0 where
-  pub size : length after ≡ length before
-  pub inside : (p : ℕ) → from ≤ p → p < to → getD after p 0 ≡ 0
-  pub below : (p : ℕ) → p < from → getD after p 0 ≡ getD before p 0
-  pub above : (p : ℕ) → to ≤ p → getD after p 0 ≡ getD before p 0
+-- a line of this kind by the values that taking it keeps
+abbrev pub lineBy : LineKind → ℕ → ℕ → ℕ → Line
+lineBy kind reads rel to = record { kind = kind; id = 0; rel = rel; to = to; reads = reads; writes = 0; tests = 0 }

@@ -1,7 +1,9 @@
-// The state that words keep: the first one, and the one behind a line.
+// The state that words keep, after a line.
+use line_kinds::facts_of;
 use text::Line;
 use text::LineKind;
 use text::StatementKind;
+use words::clear;
 use words::word_at;
 ghost use mathlib.Core.Path.{_≡_};
 ghost use mathlib.Core.Bool.{cond};
@@ -9,10 +11,10 @@ ghost use Prim.Native.Nat.{_-_, _≤_, _<_};
 ghost use lib.Bits.{bitOr};
 ghost use lib.ListN.{length, getD, set};
 ghost use Rattle.text.specs.Reading.{canBeParent};
-ghost use Rattle.kept.specs.Kept.{nextOf, markOf, pushedOf, poppedOf, secondOf, takeOf};
+ghost use Rattle.kept.specs.Kept.{nextOf, markOf, pushedOf, poppedOf, secondOf, takeAs};
 ghost use Rattle.kept.specs.Kept.{takenRelation, takenKey, takenProgram, takenStatement, takenFlow, takenLink};
-ghost use Rattle.kept.specs.Words.{arrayIn, stateIn, startedIn, Taken};
-ghost use Rattle.takeline.specs.Stores.{putIn, marksIn, stepIn, atDepth, Took, Cleared};
+ghost use Rattle.kept.specs.Words.{arrayIn, stateIn, Taken};
+ghost use Rattle.takeline.specs.Stores.{putIn, pairIn, marksIn, stepIn, countIn, aroundIn, openIn, lineBy, atDepth, Took};
 
 // One more; no count that is kept comes near the end.
 fn next(n: u64) -> u64
@@ -51,15 +53,7 @@ fn mark(part: u64, which: u64, place: u64) -> u64
 fn parental(kind: StatementKind) -> u64
     ensures { λ r. ⌜ r ≡ cond (canBeParent kind) 1 0 ⌝ }
 {
-    match kind {
-        StatementKind::Is => 1,
-        StatementKind::Ks => 1,
-        StatementKind::Ps => 0,
-        StatementKind::Ku => 1,
-        StatementKind::Pu => 0,
-        StatementKind::Kd => 1,
-        StatementKind::Pd => 0,
-    }
+    (facts_of(kind) & line_kinds::PARENT) / line_kinds::PARENT
 }
 
 // Sets a cell of the array that begins at a word; past its end nothing changes.
@@ -72,16 +66,13 @@ fn put(words: &mut [u64], from: usize, i: u64, v: u64)
     }
 }
 
-// Sets the words from one to another to 0.
-fn clear(words: &mut [u64], from: usize, to: usize)
-    requires { ⌜ (from ≤ to) × (to ≤ length (now words)) ⌝ }
-    ensures { λ _. ⌜ Cleared from to (now (words .entry)) (now (words .exit)) ⌝ }
+// Sets two cells at one place of neighbouring arrays.
+fn put_pair(words: &mut [u64], from: usize, i: u64, x: u64, y: u64)
+    requires { ⌜ (from ≤ 360) × (424 ≤ length (now words)) ⌝ }
+    ensures { λ _. ⌜ now (words .exit) ≡ pairIn (now (words .entry)) from i x y ⌝ }
 {
-    let mut i = from;
-    while i < to {
-        words[i] = 0;
-        i += 1;
-    }
+    put(words, from, i, x);
+    put(words, from + 32, i, y);
 }
 
 // Sets three cells at one place of neighbouring arrays.
@@ -111,14 +102,22 @@ fn advance(words: &mut [u64], at: usize)
     words[at] = next(n);
 }
 
+// Makes a count and the number of lines one more.
+fn count_line(words: &mut [u64], at: usize)
+    requires { ⌜ (at < 424) × (424 ≤ length (now words)) ⌝ }
+    ensures { λ _. ⌜ now (words .exit) ≡ countIn (now (words .entry)) at ⌝ }
+{
+    advance(words, at);
+    advance(words, kept::LINES);
+}
+
 fn take_relation(words: &mut [u64], reads: u64)
     requires { ⌜ 424 ≤ length (now words) ⌝ }
     ensures { λ _. ⌜ Took (now (words .entry)) (now (words .exit)) (takenRelation (stateIn (now (words .entry))) reads) ⌝ }
 {
     let at = word_at(words, kept::RELATIONS);
     put(words, kept::SETS, at, reads);
-    advance(words, kept::RELATIONS);
-    advance(words, kept::LINES);
+    count_line(words, kept::RELATIONS);
 }
 
 fn take_key(words: &mut [u64], child: u8, parent: u8)
@@ -126,24 +125,28 @@ fn take_key(words: &mut [u64], child: u8, parent: u8)
     ensures { λ _. ⌜ Took (now (words .entry)) (now (words .exit)) (takenKey (stateIn (now (words .entry))) child parent) ⌝ }
 {
     let at = word_at(words, kept::KEYS);
-    put(words, kept::CHILDREN, at, child as u64);
-    put(words, kept::PARENTS, at, parent as u64);
-    advance(words, kept::KEYS);
-    advance(words, kept::LINES);
+    put_pair(words, kept::CHILDREN, at, child as u64, parent as u64);
+    count_line(words, kept::KEYS);
 }
 
-// A new program: no block is open, and it has no statement yet.
+// A new program: no block is open, and it has no line yet. What is kept of the program at hand stands in one piece.
 fn take_program(words: &mut [u64])
     requires { ⌜ 424 ≤ length (now words) ⌝ }
     ensures { λ _. ⌜ Took (now (words .entry)) (now (words .exit)) (takenProgram (stateIn (now (words .entry)))) ⌝ }
 {
     clear(words, kept::OPEN_PLACES, kept::LINES);
-    set_word(words, kept::BODY, 0);
-    set_word(words, kept::LINKS, 0);
-    set_word(words, kept::DEPTH, 0);
-    set_word(words, kept::STATEMENTS, 0);
-    advance(words, kept::PROGRAMS);
-    advance(words, kept::LINES);
+    count_line(words, kept::PROGRAMS);
+}
+
+// The places of the blocks around a statement: those of the open blocks at a depth.
+fn put_around(words: &mut [u64], at: u64, depth: u64)
+    requires { ⌜ 424 ≤ length (now words) ⌝ }
+    ensures { λ _. ⌜ now (words .exit) ≡ aroundIn (now (words .entry)) at depth ⌝ }
+{
+    let loops = kept::cell(words, kept::OPEN_LOOPS, depth);
+    let firsts = kept::cell(words, kept::OPEN_FIRSTS, depth);
+    let seconds = kept::cell(words, kept::OPEN_SECONDS, depth);
+    put_marks(words, kept::AROUND_LOOPS, at, loops, firsts, seconds);
 }
 
 // One statement more, within the open blocks.
@@ -153,23 +156,30 @@ fn take_statement(words: &mut [u64], rel: u8, fit: u64)
 {
     let at = word_at(words, kept::STATEMENTS);
     let depth = word_at(words, kept::DEPTH);
-    let loops = kept::cell(words, kept::OPEN_LOOPS, depth);
-    let firsts = kept::cell(words, kept::OPEN_FIRSTS, depth);
-    let seconds = kept::cell(words, kept::OPEN_SECONDS, depth);
-    put(words, kept::STATEMENT_RELATIONS, at, rel as u64);
-    put(words, kept::PARENTAL, at, fit);
-    put_marks(words, kept::AROUND_LOOPS, at, loops, firsts, seconds);
+    put_around(words, at, depth);
+    put_pair(words, kept::STATEMENT_RELATIONS, at, rel as u64, fit);
     advance(words, kept::STATEMENTS);
-    advance(words, kept::BODY);
-    advance(words, kept::LINES);
+    count_line(words, kept::BODY);
 }
 
-// The places of one part above a depth: those below and the block's own.
-fn marked(words: &[u64], from: usize, below: u64, m: u64) -> u64
-    ensures { λ r. ⌜ r ≡ bitOr m (getD (arrayIn (now (words .entry)) from) below 0) ⌝ }
+// The places of one part above a depth: those below, and the block's own where it is of that part.
+fn marked(words: &[u64], from: usize, below: u64, part: u64, which: u64, place: u64) -> u64
+    ensures { λ r. ⌜ r ≡ bitOr (markOf part which place) (getD (arrayIn (now (words .entry)) from) below 0) ⌝ }
 {
-    let v = kept::cell(words, from, below);
-    m | v
+    let own = mark(part, which, place);
+    let others = kept::cell(words, from, below);
+    own | others
+}
+
+// The places of the open blocks with one block more above a depth.
+fn put_open(words: &mut [u64], at: u64, below: u64, place: u64, part: u64)
+    requires { ⌜ 424 ≤ length (now words) ⌝ }
+    ensures { λ _. ⌜ now (words .exit) ≡ openIn (now (words .entry)) at below place part ⌝ }
+{
+    let loops = marked(words, kept::OPEN_LOOPS, below, part, 0, place);
+    let firsts = marked(words, kept::OPEN_FIRSTS, below, part, 1, place);
+    let seconds = marked(words, kept::OPEN_SECONDS, below, part, 2, place);
+    put_marks(words, kept::OPEN_LOOPS, at, loops, firsts, seconds);
 }
 
 // One block more above a depth.
@@ -180,16 +190,11 @@ fn push(words: &mut [u64], below: u64, place: u64, part: u64)
         (takenFlow (stateIn (now (words .entry))) (pushedOf (atDepth (stateIn (now (words .entry)) .stack) below) place part))
         ⌝ }
 {
-    let loops = marked(words, kept::OPEN_LOOPS, below, mark(part, 0, place));
-    let firsts = marked(words, kept::OPEN_FIRSTS, below, mark(part, 1, place));
-    let seconds = marked(words, kept::OPEN_SECONDS, below, mark(part, 2, place));
     let at = next(below);
-    put(words, kept::OPEN_PLACES, at, place);
-    put(words, kept::OPEN_PARTS, at, part);
-    put_marks(words, kept::OPEN_LOOPS, at, loops, firsts, seconds);
+    put_open(words, at, below, place, part);
+    put_pair(words, kept::OPEN_PLACES, at, place, part);
     set_word(words, kept::DEPTH, at);
-    advance(words, kept::BODY);
-    advance(words, kept::LINES);
+    count_line(words, kept::BODY);
 }
 
 // A loop or the first arm of a branch begins.
@@ -226,44 +231,34 @@ fn take_closing(words: &mut [u64])
 {
     let depth = word_at(words, kept::DEPTH);
     set_word(words, kept::DEPTH, previous(depth));
-    advance(words, kept::BODY);
-    advance(words, kept::LINES);
+    count_line(words, kept::BODY);
 }
 
 fn take_link(words: &mut [u64])
     requires { ⌜ 424 ≤ length (now words) ⌝ }
     ensures { λ _. ⌜ Took (now (words .entry)) (now (words .exit)) (takenLink (stateIn (now (words .entry)))) ⌝ }
 {
-    advance(words, kept::LINKS);
-    advance(words, kept::LINES);
+    count_line(words, kept::LINKS);
 }
 
-fn take_kind(words: &mut [u64], l: Line)
+// A line of this kind taken, with the values that matter to it.
+fn take_kind(words: &mut [u64], kind: LineKind, reads: u64, rel: u8, to: u8)
     requires { ⌜ 424 ≤ length (now words) ⌝ }
-    ensures { λ _. ⌜ Took (now (words .entry)) (now (words .exit)) (takeOf (stateIn (now (words .entry))) l) ⌝ }
+    ensures { λ _. ⌜
+        Took (now (words .entry)) (now (words .exit)) (takeAs (stateIn (now (words .entry))) (lineBy kind reads rel to) kind)
+        ⌝ }
 {
-    let kind = l.kind;
     match kind {
-        LineKind::Rl => take_relation(words, l.reads),
-        LineKind::Fk => take_key(words, l.rel, l.to),
+        LineKind::Rl => take_relation(words, reads),
+        LineKind::Fk => take_key(words, rel, to),
         LineKind::Pr => take_program(words),
-        LineKind::St(j) => take_statement(words, l.rel, parental(j)),
+        LineKind::St(j) => take_statement(words, rel, parental(j)),
         LineKind::Lo => take_opening(words, 0),
         LineKind::Br => take_opening(words, 1),
         LineKind::El => take_second(words),
         LineKind::En => take_closing(words),
         LineKind::Li => take_link(words),
     }
-}
-
-// No line taken yet; too few words stay as they are.
-pub fn start(words: &mut [u64])
-    ensures { λ _. ⌜ now (words .exit) ≡ startedIn (now (words .entry)) ⌝ }
-{
-    if words.len() < 424 {
-        return;
-    }
-    clear(words, 0, 424);
 }
 
 // A line taken; too few words stay as they are.
@@ -273,5 +268,6 @@ pub fn take(words: &mut [u64], l: Line)
     if words.len() < 424 {
         return;
     }
-    take_kind(words, l);
+    let kind = l.kind;
+    take_kind(words, kind, l.reads, l.rel, l.to);
 }

@@ -1,7 +1,8 @@
-// A word of a list of words, whatever its place.
+// A word of a list of words, whatever its place, and words set to 0.
 
 ghost use mathlib.Core.Path.{_≡_};
 ghost use lib.ListN.{getD};
+ghost use Rattle.words.specs.Clear.{Cleared};
 
 // The word at a place, or 0 past the end.
 pub fn word_at(words: &[u64], i: usize) -> u64
@@ -11,4 +12,18 @@ pub fn word_at(words: &[u64], i: usize) -> u64
         return words[i];
     }
     0
+}
+
+// Sets the words from one to another to 0, as far as there are words.
+pub fn clear(words: &mut [u64], from: usize, to: usize)
+    ensures { λ _. ⌜ Cleared from to (now (words .entry)) (now (words .exit)) ⌝ }
+{
+    let mut i = from;
+    while i < to {
+        if words.len() <= i {
+            return;
+        }
+        words[i] = 0;
+        i += 1;
+    }
 }

@@ -91,19 +91,19 @@ returns-4 c = check-kind (stateIn (c .before .before .before .before .before .ar
 
 returns-5 : tie.Need-returns-5
 returns-5 c = check-kind (stateIn (c .before .before .before .before .args .words .now)) (c .before .before .before .before .args .l)
-    (c .before .enum-told4 .given .1) (c .check-opening .ensures .0)
+    (c .before .enum-told4 .given .1) (c .check-opening .ensures (c .before .before .before .before .args .l) .0)
 
 returns-6 : tie.Need-returns-6
 returns-6 c = check-kind (stateIn (c .before .before .before .before .args .words .now)) (c .before .before .before .before .args .l)
-    (c .before .enum-told5 .given .1) (c .check-opening2 .ensures .1)
+    (c .before .enum-told5 .given .1) (c .check-opening2 .ensures (c .before .before .before .before .args .l) .1)
 
 returns-7 : tie.Need-returns-7
 returns-7 c = check-kind (stateIn (c .before .before .before .before .args .words .now)) (c .before .before .before .before .args .l)
-    (c .before .enum-told6 .given .1) (c .check-second .ensures)
+    (c .before .enum-told6 .given .1) (c .check-second .ensures (c .before .before .before .before .args .l))
 
 returns-8 : tie.Need-returns-8
 returns-8 c = check-kind (stateIn (c .before .before .before .before .args .words .now)) (c .before .before .before .before .args .l)
-    (c .before .enum-told7 .given .1) (c .check-closing .ensures)
+    (c .before .enum-told7 .given .1) (c .check-closing .ensures (c .before .before .before .before .args .l))
 
 returns-9 : tie.Need-returns-9
 returns-9 c = check-kind (stateIn (c .before .before .before .before .args .words .now)) (c .before .before .before .before .args .l)

@@ -32,7 +32,7 @@ verdict-requires c κs = search needs
 
 returns : tie.Need-returns
 unfolding stateIn roomOf orderedOf namedAs setsFitAs isLinkOf
-returns c = rw (
+returns c = λ l. rw (
   c .verdict .ensures,
   c .before .innermost2 .ensures,
   c .before .before .innermost .ensures,

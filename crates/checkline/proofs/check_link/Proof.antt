@@ -6,7 +6,7 @@ use Rattle.checkline.proofs.check_link.Statement.{statement}
 use Rattle.checkline.proofs.check_link.Tie as tie
 use Rattle.checkline.proofs.check_link.Reads as reads
 use Rattle.checkline.proofs.check_link.Lts as lts
-use Rattle.checkline.proofs.link_fits.Reads as link-fits-reads
+use Rattle.line_links.proofs.link_fits.Reads as link-fits-reads
 use Rattle.checkline.proofs.verdict.Reads as verdict-reads
 use Rattle.words.proofs.word_at.Reads as word-at-reads
 

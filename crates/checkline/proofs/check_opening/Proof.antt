@@ -27,7 +27,7 @@ verdict-requires c κs = search needs
 
 returns : tie.Need-returns
 unfolding stateIn roomOf orderedOf namedAs setsFitAs isLinkOf
-returns c = (
+returns c = λ l. (
   rw (
     c .verdict .ensures,
     c .before .in-body .ensures,

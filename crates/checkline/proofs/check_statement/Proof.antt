@@ -8,7 +8,7 @@ use Rattle.checkline.proofs.check_statement.Tie as tie
 use Rattle.checkline.proofs.check_statement.Reads as reads
 use Rattle.checkline.proofs.check_statement.Lts as lts
 use Rattle.checkline.proofs.in_body.Reads as in-body-reads
-use Rattle.checkline.proofs.sets_fit.Reads as sets-fit-reads
+use Rattle.line_kinds.proofs.sets_fit.Reads as sets-fit-reads
 use Rattle.checkline.proofs.verdict.Reads as verdict-reads
 use Rattle.kept.proofs.cell.Reads as cell-reads
 use Rattle.words.proofs.word_at.Reads as word-at-reads

@@ -1,4 +1,4 @@
--- `takeline::start` clears the state, and a cleared state holds no line (words-start).
+-- `kept::start` clears the state, and a cleared state holds no line (words-start).
 use Rattle.readstate.specs.WordsLaws.{words-start}
 use borrow.Author.Needs.{needs}
 use Rattle.readstate.proofs.start.Statement.{statement}

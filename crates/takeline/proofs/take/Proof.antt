@@ -1,5 +1,6 @@
 -- Where 424 words are there, `take_kind` makes the state the next one and leaves the rest (taken); else the words stay as they are (not-taken).
 use Rattle.takeline.specs.TakeLaws.{taken, not-taken}
+use Rattle.kept.specs.Kept.{takeAs}
 use borrow.Author.Needs.{needs}
 use Rattle.takeline.proofs.take.Statement.{statement}
 use Rattle.takeline.proofs.take.Tie as tie
@@ -16,6 +17,7 @@ same-length : tie.Need-same-length
 same-length c = search needs
 
 returns-2 : tie.Need-returns-2
+unfolding takeAs
 returns-2 c = taken (c .before .before .before .before .if1 .left) (c .before .before .take-kind .ensures)
 
 pub take-spec : {M : Type 1} → statement M

@@ -1,11 +1,14 @@
--- Storing the depth less one and making the counts of body and of lines one more is what closing the innermost block does to the state
--- (took-closing).
+-- The depth becomes one less, and body and lines go up: the state with the innermost block closed (took-closing).
 use Rattle.takeline.specs.TakeLaws.{took-closing}
 use borrow.Author.Needs.{needs}
 use Rattle.takeline.proofs.take_closing.Statement.{statement}
 use Rattle.takeline.proofs.take_closing.Tie as tie
 use Rattle.takeline.proofs.take_closing.Reads as reads
 use Rattle.takeline.proofs.take_closing.Lts as lts
+use Rattle.takeline.proofs.count_line.Reads as count-line-reads
+use Rattle.takeline.proofs.previous.Reads as previous-reads
+use Rattle.takeline.proofs.set_word.Reads as set-word-reads
+use Rattle.words.proofs.word_at.Reads as word-at-reads
 
 word-at-requires : tie.Need-word-at-requires
 word-at-requires c κs = search needs
@@ -16,22 +19,15 @@ previous-requires c κs = search needs
 set-word-requires : tie.Need-set-word-requires
 set-word-requires c κs = search needs
 
-advance-requires : tie.Need-advance-requires
-advance-requires c κs = search needs
-
-advance-requires-2 : tie.Need-advance-requires-2
-advance-requires-2 c κs = search needs
+count-line-requires : tie.Need-count-line-requires
+count-line-requires c κs = search needs
 
 same-length : tie.Need-same-length
 same-length c = search needs
 
 returns : tie.Need-returns
-returns c = took-closing
-    (c .before .before .before .before .before .before .before .before .before .before .before .before .before .before .before .before .pre)
-    (c .before .before .before .before .before .before .before .before .before .before .before .before .before .word-at .ensures)
-    (c .before .before .before .before .before .before .before .before .before .before .before .previous .ensures)
-    (c .before .before .before .before .before .before .before .before .before .before .set-word .ensures)
-    (c .before .before .before .before .before .before .advance .ensures) (c .before .before .advance2 .ensures)
+returns c = took-closing (c .before .before .before .before .before .before .before .before .before .before .before .before .pre) (c .before .before .before .before .before .before .before .before .before .word-at .ensures) (c .before .before .before .before .before .before .before .previous .ensures) (c .before .before .before .before .before .before .set-word .ensures)
+    (c .before .before .count-line .ensures)
 
 pub take-closing-spec : {M : Type 1} → statement M
 take-closing-spec =
@@ -40,7 +36,6 @@ take-closing-spec =
     word-at-requires
     previous-requires
     set-word-requires
-    advance-requires
-    advance-requires-2
+    count-line-requires
     same-length
     returns)

@@ -1,0 +1,18 @@
+-- The facts of the kind tell which of the three tests count, and those that do are the ones of `kindSets` (told).
+use Rattle.line_kinds.specs.KindLaws.{told}
+use borrow.Author.Needs.{needs}
+use Rattle.line_kinds.proofs.kind_sets.Statement.{statement}
+use Rattle.line_kinds.proofs.kind_sets.Tie as tie
+use Rattle.line_kinds.proofs.kind_sets.Reads as reads
+use Rattle.line_kinds.proofs.kind_sets.Lts as lts
+use Rattle.line_kinds.proofs.facts_of.Reads as facts-of-reads
+
+facts-of-requires : tie.Need-facts-of-requires
+facts-of-requires c κs = search needs
+
+returns : tie.Need-returns
+returns c = rw (c .before .before .before .facts-of .ensures .0)
+    (told (c .before .before .before .before .args .kind) .sets (c .before .before .before .before .args .whole) (c .before .before .before .before .args .l))
+
+pub kind-sets-spec : {M : Type 1} → statement M
+kind-sets-spec = tie.close (tie.spec facts-of-requires returns)

@@ -1,0 +1,50 @@
+-- The table of facts is the believed tables of the text: the forms of the fields, the rules on sets, the kinds of a link's parent.
+use mathlib.Core.Bool.{Bool, true, false, cond, _&&_}
+use mathlib.Core.Path.{_≡_, refl, _∙_}
+use Prim.Native.Nat.{ℕ, _/_}
+use lib.Bits.{bitAnd}
+use Rattle.text.specs.declared.Line.{Line}
+use Rattle.text.specs.declared.LineKind.{LineKind}
+use Rattle.text.specs.declared.LineKind.the-variants.{Rl, Fk, Pr, St, Lo, Br, El, En, Li}
+use Rattle.text.specs.declared.StatementKind.{StatementKind}
+use Rattle.text.specs.declared.StatementKind.the-variants.{Is, Ks, Ps, Ku, Pu, Kd, Pd}
+use Rattle.text.specs.Text.{formsOf}
+use Rattle.text.specs.Reading.{kindSets, canBeParent}
+use Rattle.line_kinds.specs.Kinds.{factsOf, lineFacts, mayParent, formsBy, formsWith, numberIf, setIf, setsBy}
+
+-- what the facts of a kind of statement say
+pub record Told (k : StatementKind) : Type 0 where
+  -- T5
+  pub forms : formsOf (St k) ≡ formsBy (lineFacts (St k))
+  -- R5, T9
+  pub sets : (whole : ℕ) (l : Line) → setsBy (factsOf k) whole l ≡ kindSets whole k l
+  -- R8, T10
+  pub parent : bitAnd (factsOf k) mayParent / mayParent ≡ cond (canBeParent k) 1 0
+
+-- a test that is followed by none
+and-end : (t : Bool) → t && true ≡ t
+and-end true = refl
+and-end false = refl
+
+pub told : (k : StatementKind) → Told k
+unfolding formsOf formsWith numberIf setIf kindSets canBeParent
+told Is = record { forms = refl; sets = λ whole l. refl; parent = refl }
+told Ks = record { forms = refl; sets = λ whole l. and-end _ ∙ and-end _; parent = refl }
+told Ps = record { forms = refl; sets = λ whole l. refl; parent = refl }
+told Ku = record { forms = refl; sets = λ whole l. and-end _; parent = refl }
+told Pu = record { forms = refl; sets = λ whole l. and-end _; parent = refl }
+told Kd = record { forms = refl; sets = λ whole l. refl; parent = refl }
+told Pd = record { forms = refl; sets = λ whole l. refl; parent = refl }
+
+-- T5: the forms of a line's fields
+pub forms-told : (k : LineKind) → formsOf k ≡ formsBy (lineFacts k)
+unfolding formsOf formsWith numberIf setIf
+forms-told (St k) = told k .forms
+forms-told Rl = refl
+forms-told Fk = refl
+forms-told Pr = refl
+forms-told Lo = refl
+forms-told Br = refl
+forms-told El = refl
+forms-told En = refl
+forms-told Li = refl

@@ -1,0 +1,90 @@
+// What document 01 says of the kinds, as one table: which fields a line has, what the sets of a statement must be, which statement may be a
+// link's parent. Code that reads lines asks a kind nothing else, so that a new kind of statement is a line here.
+use text::Line;
+use text::LineKind;
+use text::StatementKind;
+ghost use mathlib.Core.Path.{_≡_};
+ghost use mathlib.Core.Bool.{_&&_};
+ghost use Prim.Native.Nat.{_<_};
+ghost use Rattle.base.specs.Basic.{within};
+ghost use Rattle.text.specs.Reading.{kindSets};
+ghost use Rattle.line_kinds.specs.Kinds.{factsOf, lineFacts};
+
+// The facts of a kind, a bit each. It has reads, writes, tests;
+pub const READS: u64 = 1;
+
+pub const WRITES: u64 = 2;
+
+pub const TESTS: u64 = 4;
+
+// its reads are not 0, its writes are not 0, its writes are the whole relation;
+pub const SOME_READS: u64 = 8;
+
+pub const SOME_WRITES: u64 = 16;
+
+pub const WHOLE: u64 = 32;
+
+// it may be a link's parent;
+pub const PARENT: u64 = 64;
+
+// it has an id, a rel, a to.
+pub const ID: u64 = 128;
+
+pub const REL: u64 = 256;
+
+pub const TO: u64 = 512;
+
+// The facts of a kind of statement.
+pub fn facts_of(k: StatementKind) -> u64
+    ensures { λ r. ⌜ (r ≡ factsOf k) × (r < 128) ⌝ }
+{
+    match k {
+        StatementKind::Is => WRITES + WHOLE + PARENT,
+        StatementKind::Ks => READS + SOME_READS + PARENT,
+        StatementKind::Ps => READS + TESTS,
+        StatementKind::Ku => READS + WRITES + SOME_WRITES + PARENT,
+        StatementKind::Pu => READS + WRITES + TESTS + SOME_WRITES,
+        StatementKind::Kd => WRITES + WHOLE + PARENT,
+        StatementKind::Pd => WRITES + TESTS + WHOLE,
+    }
+}
+
+// The facts of a kind of line.
+pub fn line_facts(k: LineKind) -> u64
+    ensures { λ r. ⌜ r ≡ lineFacts k ⌝ }
+{
+    match k {
+        LineKind::Rl => ID + READS,
+        LineKind::Fk => ID + REL + TO,
+        LineKind::Pr => ID,
+        LineKind::St(s) => ID + REL + facts_of(s),
+        LineKind::Lo => 0,
+        LineKind::Br => 0,
+        LineKind::El => 0,
+        LineKind::En => 0,
+        LineKind::Li => ID + REL + TO,
+    }
+}
+
+// What the kind of a statement says of its sets, over a relation with this set.
+fn kind_sets(whole: u64, kind: StatementKind, l: Line) -> bool
+    ensures { λ r. ⌜ r ≡ kindSets whole kind l ⌝ }
+{
+    let facts = facts_of(kind);
+    let reads = (facts & SOME_READS == 0) | (l.reads != 0);
+    let writes = (facts & SOME_WRITES == 0) | (l.writes != 0);
+    let all = (facts & WHOLE == 0) | (l.writes == whole);
+    reads & writes & all
+}
+
+// The sets of a statement fit a relation with this set.
+pub fn sets_fit(whole: u64, kind: StatementKind, l: Line) -> bool
+    ensures { λ r. ⌜
+        r ≡ ((within (l .reads) whole && within (l .writes) whole && within (l .tests) whole) && kindSets whole kind l)
+        ⌝ }
+{
+    let reads = l.reads & whole == l.reads;
+    let writes = l.writes & whole == l.writes;
+    let tests = l.tests & whole == l.tests;
+    (reads & writes & tests) & kind_sets(whole, kind, l)
+}

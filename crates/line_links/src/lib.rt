@@ -1,0 +1,49 @@
+// R8: whether a link fits the statements and the keys that words keep.
+use text::Line;
+ghost use mathlib.Core.Path.{_≡_};
+ghost use lib.Dec.{eqb};
+ghost use lib.ListN.{getD};
+ghost use Rattle.base.specs.Basic.{within};
+ghost use Rattle.kept.specs.Kept.{blocksWithinOf, linkFitsOf};
+ghost use Rattle.kept.specs.Words.{stateIn, arrayIn};
+
+// Two cells of an array as sets: the first within the second.
+fn cell_within(words: &[u64], from: usize, parent: u64, child: u64) -> bool
+    ensures { λ r. ⌜
+        r ≡ within (getD (arrayIn (now (words .entry)) from) parent 0) (getD (arrayIn (now (words .entry)) from) child 0)
+        ⌝ }
+{
+    let outer = kept::cell(words, from, parent);
+    let inner = kept::cell(words, from, child);
+    outer & inner == outer
+}
+
+// The blocks around the first statement are around the second.
+fn blocks_within(words: &[u64], parent: u64, child: u64) -> bool
+    ensures { λ r. ⌜ r ≡ blocksWithinOf (stateIn (now (words .entry)) .statements) parent child ⌝ }
+{
+    let loops = cell_within(words, kept::AROUND_LOOPS, parent, child);
+    let firsts = cell_within(words, kept::AROUND_FIRSTS, parent, child);
+    let seconds = cell_within(words, kept::AROUND_SECONDS, parent, child);
+    loops & firsts & seconds
+}
+
+// Two cells of two arrays are equal.
+fn same_cell(words: &[u64], a: usize, i: u64, b: usize, j: u64) -> bool
+    ensures { λ r. ⌜ r ≡ eqb (getD (arrayIn (now (words .entry)) a) i 0) (getD (arrayIn (now (words .entry)) b) j 0) ⌝ }
+{
+    kept::cell(words, a, i) == kept::cell(words, b, j)
+}
+
+// A link fits the words: child and parent are over its key's relations, the parent is of a kind that may be one, and its blocks are the child's.
+pub fn link_fits(words: &[u64], l: Line) -> bool
+    ensures { λ r. ⌜ r ≡ linkFitsOf (stateIn (now (words .entry)) .tables) (stateIn (now (words .entry)) .statements) l ⌝ }
+{
+    let id = l.id as u64;
+    let child = l.rel as u64;
+    let parent = l.to as u64;
+    let of_child = same_cell(words, kept::STATEMENT_RELATIONS, child, kept::CHILDREN, id);
+    let of_parent = same_cell(words, kept::STATEMENT_RELATIONS, parent, kept::PARENTS, id);
+    let parental = kept::cell(words, kept::PARENTAL, parent);
+    (of_child & of_parent & (parental == 1)) & blocks_within(words, parent, child)
+}

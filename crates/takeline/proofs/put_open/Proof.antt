@@ -1,0 +1,37 @@
+-- `marked` gives the places of each part, and `put_marks` stores them as `openIn` does.
+use borrow.Author.Needs.{needs}
+use Rattle.takeline.proofs.put_open.Statement.{statement}
+use Rattle.takeline.proofs.put_open.Tie as tie
+use Rattle.takeline.proofs.put_open.Reads as reads
+use Rattle.takeline.proofs.put_open.Lts as lts
+use Rattle.takeline.proofs.marked.Reads as marked-reads
+use Rattle.takeline.proofs.put_marks.Reads as put-marks-reads
+
+marked-requires : tie.Need-marked-requires
+marked-requires c κs = search needs
+
+marked-requires-2 : tie.Need-marked-requires-2
+marked-requires-2 c κs = search needs
+
+marked-requires-3 : tie.Need-marked-requires-3
+marked-requires-3 c κs = search needs
+
+put-marks-requires : tie.Need-put-marks-requires
+put-marks-requires c κs = search needs
+
+same-length : tie.Need-same-length
+same-length c = search needs
+
+returns : tie.Need-returns
+returns c = rw (c .before .before .put-marks .ensures, c .before .before .before .before .marked3 .ensures, c .before .before .before .before .before .before .marked2 .ensures, c .before .before .before .before .before .before .before .before .marked .ensures)
+
+pub put-open-spec : {M : Type 1} → statement M
+put-open-spec =
+    tie.close
+    (tie.spec
+    marked-requires
+    marked-requires-2
+    marked-requires-3
+    put-marks-requires
+    same-length
+    returns)
