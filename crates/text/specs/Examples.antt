@@ -169,6 +169,11 @@ digits = (refl, refl, refl)
 set-attributes : map (has 0x5) (numbers 4) ≡ true ∷ false ∷ true ∷ false ∷ []
 set-attributes = refl
 
+-- T5: id, rel, to, reads, writes, tests in this order
+line-with : lineWith Li (1 ∷ 2 ∷ 3 ∷ 4 ∷ 5 ∷ 6 ∷ []) ≡ record { kind = Li; id = 1; rel = 2; to = 3; reads = 4; writes = 5; tests = 6 }
+unfolding lineWith
+line-with = refl
+
 -- T5: a text with a line of each kind, and its lines
 unfoldable pub each-kind : List String
 each-kind =
@@ -889,8 +894,8 @@ unfolding formed
 not-formed = refl
 
 -- S21: the unused line
-unused-line : unusedLine ≡ lineWith En (0 ∷ 0 ∷ 0 ∷ 0 ∷ 0 ∷ 0 ∷ [])
-unfolding unusedLine lineWith
+unused-line : unusedLine ≡ record { kind = En; id = 0; rel = 0; to = 0; reads = 0; writes = 0; tests = 0 }
+unfolding unusedLine
 unused-line = refl
 
 -- R7: a fault of the last line comes before the block that it leaves open at the end
