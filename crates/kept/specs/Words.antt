@@ -53,7 +53,7 @@ stateIn words =
 unfoldable pub startedIn : List ℕ → List ℕ
 startedIn words = elim (leb 424 (length words)) [ true ↦ replicate 424 0 ++ drop 424 words | false ↦ words ]
 
--- the words behind a line taken: the state is the next one and what follows it stays; too few words stay as they are
+-- the words after a line taken: the state is the next one and what follows it stays; too few words stay as they are
 pub record Taken (before : List ℕ) (l : Line) (after : List ℕ) : Type 0 where
   pub size : length after ≡ length before
   pub short : length before < 424 → after ≡ before

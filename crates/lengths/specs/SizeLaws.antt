@@ -146,7 +146,9 @@ six-tests true true true true true true = refl
 
 -- T2: the values of a line fit if those that have no field are 0
 pub facts-fit : (l : Line) → Bounded l
-    → (valueFits (lineFacts (l .kind)) hasId (l .id) && valueFits (lineFacts (l .kind)) hasRel (l .rel) && valueFits (lineFacts (l .kind)) hasTo (l .to))
+    → (valueFits (lineFacts (l .kind)) hasId (l .id)
+    && valueFits (lineFacts (l .kind)) hasRel (l .rel)
+    && valueFits (lineFacts (l .kind)) hasTo (l .to))
     && (valueFits (lineFacts (l .kind)) hasReads (l .reads)
     && valueFits (lineFacts (l .kind)) hasWrites (l .writes)
     && valueFits (lineFacts (l .kind)) hasTests (l .tests))

@@ -380,17 +380,15 @@ room-kept s b k g l = go (good-bounds b (g .bounds)) (numbers-of k) (l .kind) (l
     begun : eqb (s .programs) 0 ≡ eqb (b .programs) 0
     begun = ap (λ p. eqb p 0) (numbers-of k .programs)
 
-    table : Fits b → (kind : LineKind) (a : ℕ) → isProgram (ofKind kind l) ≡ false
-        → (a < 32 → Fits (after b (ofKind kind l) (b .own))) → (Fits (after b (ofKind kind l) (b .own)) → a < 32)
-        → (a < 32 → Fits (after b (ofKind kind l) (ownAfter (b .own) (ofKind kind l))))
-        → (Fits (after b (ofKind kind l) (ownAfter (b .own) (ofKind kind l))) → a < 32)
-        → ltb a 32 ≡ stateBounded (stateAfter b (ofKind kind l))
-    table w kind a h to back to′ back′ =
-        room-cases b (ofKind kind l) (ltb a 32) h (λ e. one-bound a 32 _ to back) (λ e. one-bound a 32 _ to′ back′)
-
     go : Fits b → Numbers s b → (kind : LineKind) → Lengths b (ofKind kind l) → roomOf s kind ≡ stateBounded (stateAfter b (ofKind kind l))
-    go w n Rl f = table w Rl (s .tables .relations) refl (λ h. omega arith) (λ h. omega arith) (λ h. omega arith) (λ h. omega arith)
-    go w n Fk f = table w Fk (s .tables .keys) refl (λ h. omega arith) (λ h. omega arith) (λ h. omega arith) (λ h. omega arith)
+    go w n Rl f =
+        room-cases b (ofKind Rl l) _ refl
+        (λ e. one-bound (s .tables .relations) 32 _ (λ h. omega arith) (λ h. omega arith))
+        (λ e. one-bound (s .tables .relations) 32 _ (λ h. omega arith) (λ h. omega arith))
+    go w n Fk f =
+        room-cases b (ofKind Fk l) _ refl
+        (λ e. one-bound (s .tables .keys) 32 _ (λ h. omega arith) (λ h. omega arith))
+        (λ e. one-bound (s .tables .keys) 32 _ (λ h. omega arith) (λ h. omega arith))
     go w n Pr f = one-bound (s .programs) 16 _ (λ h. omega arith) (λ h. omega arith)
     go w n (St j) f =
         own-room b (ofKind (St j) l) _ begun refl (omega arith)

@@ -18,7 +18,7 @@ use Rattle.readstate.specs.Holds.{Holds, faultOf}
 use Rattle.readstate.specs.HoldsLaws.{holds-start, holds-check, holds-take, holds-open}
 use Rattle.readstate.specs.Words.{HoldsWords}
 
--- words behind 424 zeros
+-- 424 zeros, then words
 zeros : List ℕ → List ℕ
 zeros rest = replicate 424 0 ++ rest
 

@@ -24,7 +24,7 @@ pub fn start(words: &mut [u64])
     kept::start(words);
 }
 
-// The number of the first test that the line fails behind the lines taken, 0 where it passes all.
+// The number of the first test that the line fails after the lines taken, 0 where it passes all.
 pub fn check(words: &[u64], l: Line) -> u8
     ensures { λ r. ⌜
         (r ≡ checkOf (stateIn (now (words .entry))) l)

@@ -176,7 +176,7 @@ rest-stores words (x ∷ stores) f =
     let both = and-true (fits x) (all fits stores) f in
     rest-stores (storeIn words x) stores (both .1) ∙ rest-store words x (both .0)
 
--- the state behind stores
+-- the state after stores
 stores-state : (words : List ℕ) (stores : List Store) → 424 ≤ length words → all fits stores ≡ true
     → stateIn (storesIn words stores) ≡ stateBehind (stateIn words) stores
 unfolding stateIn stateBehind

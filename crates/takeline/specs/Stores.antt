@@ -65,7 +65,7 @@ unfoldable pub storesIn : List ℕ → List Store → List ℕ
 storesIn words [] = words
 storesIn words (x ∷ stores) = storesIn (storeIn words x) stores
 
--- an array behind stores
+-- an array after stores
 unfoldable pub arrayBehind : ℕ → List ℕ → Store → List ℕ
 arrayBehind j a (cell k i v) = elim (eqb k j) [ true ↦ set a i v | false ↦ a ]
 arrayBehind j a (count c v) = a
@@ -75,7 +75,7 @@ unfoldable pub arraysBehind : ℕ → List ℕ → List Store → List ℕ
 arraysBehind j a [] = a
 arraysBehind j a (x ∷ stores) = arraysBehind j (arrayBehind j a x) stores
 
--- a count behind stores
+-- a count after stores
 unfoldable pub countBehind : ℕ → ℕ → Store → ℕ
 countBehind c n (cell k i v) = n
 countBehind c n (count b v) = elim (eqb b c) [ true ↦ v | false ↦ n ]
@@ -85,7 +85,7 @@ unfoldable pub countsBehind : ℕ → ℕ → List Store → ℕ
 countsBehind c n [] = n
 countsBehind c n (x ∷ stores) = countsBehind c (countBehind c n x) stores
 
--- a state behind stores
+-- a state after stores
 unfoldable pub stateBehind : State → List Store → State
 stateBehind s stores =
     record {

@@ -10,7 +10,8 @@ use Rattle.text.specs.declared.LineKind.{LineKind}
 use Rattle.kept.specs.Kept.{nextOf, markOf, pushedOf, poppedOf, secondOf, takenRelation, takenKey, takenStatement, takenFlow, takenLink}
 use Rattle.kept.specs.Kept.{takeAs, takeOf}
 use Rattle.kept.specs.Words.{arrayIn, stateIn, Taken}
-use Rattle.takeline.specs.Stores.{putIn, pairIn, marksIn, stepIn, countIn, aroundIn, openIn, fits, storeIn, storesIn, stateBehind, arraysBehind, countsBehind}
+use Rattle.takeline.specs.Stores.{putIn, pairIn, stepIn, countIn, aroundIn, openIn, fits, storeIn, storesIn}
+use Rattle.takeline.specs.Stores.{stateBehind, arraysBehind, countsBehind}
 use Rattle.takeline.specs.Stores.{arrayBehind, countBehind, atDepth, Took}
 use Rattle.takeline.specs.Stores.Store.{cell, count, step}
 use Rattle.takeline.specs.StoreLaws.{took-stores}

@@ -11,8 +11,10 @@ facts-of-requires : tie.Need-facts-of-requires
 facts-of-requires c κs = search needs
 
 returns : tie.Need-returns
-returns c = rw (c .before .before .before .facts-of .ensures .0)
-    (told (c .before .before .before .before .args .kind) .sets (c .before .before .before .before .args .whole) (c .before .before .before .before .args .l))
+returns c =
+    let told-by = c .before .before .before in
+    let a = told-by .before .args in
+    rw (told-by .facts-of .ensures .0) (told (a .kind) .sets (a .whole) (a .l))
 
 pub kind-sets-spec : {M : Type 1} → statement M
 kind-sets-spec = tie.close (tie.spec facts-of-requires returns)

@@ -31,13 +31,15 @@ same-length : tie.Need-same-length
 same-length c = search needs
 
 returns : tie.Need-returns
-returns c = let entry = c .before .before .before .before .before .before .before .before .before .before .before .before .before .before .before .before .before .before in
-    took-push (entry .args .below) (entry .args .place) (entry .args .part) (entry .pre)
-    (c .before .before .before .before .before .before .before .before .before .before .before .before .before .before .before .before .next .ensures)
-    (c .before .before .before .before .before .before .before .before .before .before .before .before .before .before .put-open .ensures)
-    (c .before .before .before .before .before .before .before .before .before .before .put-pair .ensures)
-    (c .before .before .before .before .before .before .set-word .ensures)
-    (c .before .before .count-line .ensures)
+returns c =
+    let counted = c .before .before in
+    let deeper = counted .before .before .before .before in
+    let paired = deeper .before .before .before .before in
+    let opened = paired .before .before .before .before in
+    let at = opened .before .before in
+    let entry = at .before .before in
+    took-push (entry .args .below) (entry .args .place) (entry .args .part) (entry .pre) (at .next .ensures) (opened .put-open .ensures)
+    (paired .put-pair .ensures) (deeper .set-word .ensures) (counted .count-line .ensures)
 
 pub push-spec : {M : Type 1} → statement M
 push-spec =

@@ -23,7 +23,12 @@ same-length : tie.Need-same-length
 same-length c = search needs
 
 returns : tie.Need-returns
-returns c = rw (c .before .before .put-marks .ensures, c .before .before .before .before .cell3 .ensures, c .before .before .before .before .before .before .cell2 .ensures, c .before .before .before .before .before .before .before .before .cell .ensures)
+returns c =
+    let stored = c .before .before in
+    let seconds = stored .before .before in
+    let firsts = seconds .before .before in
+    let loops = firsts .before .before in
+    rw (stored .put-marks .ensures, seconds .cell3 .ensures, firsts .cell2 .ensures, loops .cell .ensures)
 
 pub put-around-spec : {M : Type 1} → statement M
 put-around-spec =

@@ -23,7 +23,12 @@ same-length : tie.Need-same-length
 same-length c = search needs
 
 returns : tie.Need-returns
-returns c = rw (c .before .before .put-marks .ensures, c .before .before .before .before .marked3 .ensures, c .before .before .before .before .before .before .marked2 .ensures, c .before .before .before .before .before .before .before .before .marked .ensures)
+returns c =
+    let stored = c .before .before in
+    let seconds = stored .before .before in
+    let firsts = seconds .before .before in
+    let loops = firsts .before .before in
+    rw (stored .put-marks .ensures, seconds .marked3 .ensures, firsts .marked2 .ensures, loops .marked .ensures)
 
 pub put-open-spec : {M : Type 1} → statement M
 put-open-spec =

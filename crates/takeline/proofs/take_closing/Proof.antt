@@ -26,8 +26,13 @@ same-length : tie.Need-same-length
 same-length c = search needs
 
 returns : tie.Need-returns
-returns c = took-closing (c .before .before .before .before .before .before .before .before .before .before .before .before .pre) (c .before .before .before .before .before .before .before .before .before .word-at .ensures) (c .before .before .before .before .before .before .before .previous .ensures) (c .before .before .before .before .before .before .set-word .ensures)
-    (c .before .before .count-line .ensures)
+returns c =
+    let counted = c .before .before in
+    let stored = counted .before .before .before .before in
+    let less = stored .before in
+    let at = less .before .before in
+    let entry = at .before .before .before in
+    took-closing (entry .pre) (at .word-at .ensures) (less .previous .ensures) (stored .set-word .ensures) (counted .count-line .ensures)
 
 pub take-closing-spec : {M : Type 1} → statement M
 take-closing-spec =

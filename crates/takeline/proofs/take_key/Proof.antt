@@ -22,9 +22,13 @@ same-length : tie.Need-same-length
 same-length c = search needs
 
 returns : tie.Need-returns
-returns c = took-key (c .before .before .before .before .before .before .before .before .before .before .before .args .child) (c .before .before .before .before .before .before .before .before .before .before .before .args .parent)
-    (c .before .before .before .before .before .before .before .before .before .before .before .pre) (c .before .before .before .before .before .before .before .before .word-at .ensures)
-    (c .before .before .before .before .before .before .put-pair .ensures) (c .before .before .count-line .ensures)
+returns c =
+    let counted = c .before .before in
+    let stored = counted .before .before .before .before in
+    let at = stored .before .before in
+    let entry = at .before .before .before in
+    took-key (entry .args .child) (entry .args .parent) (entry .pre) (at .word-at .ensures) (stored .put-pair .ensures)
+    (counted .count-line .ensures)
 
 pub take-key-spec : {M : Type 1} → statement M
 take-key-spec =

@@ -72,7 +72,8 @@ returns : tie.Need-returns
 unfolding takeAs
 returns c =
     let a = c .before .before .before .before .before .before .before .args in
-    took-kind (lineBy (a .kind) (a .reads) (a .rel) (a .to)) (c .before .before .before .before .enum-told .given .1) (c .before .before .take-relation .ensures)
+    took-kind (lineBy (a .kind) (a .reads) (a .rel) (a .to))
+    (c .before .before .before .before .enum-told .given .1) (c .before .before .take-relation .ensures)
 
 same-length-2 : tie.Need-same-length-2
 same-length-2 c = search needs
@@ -81,7 +82,8 @@ returns-2 : tie.Need-returns-2
 unfolding takeAs
 returns-2 c =
     let a = c .before .before .before .before .before .before .before .args in
-    took-kind (lineBy (a .kind) (a .reads) (a .rel) (a .to)) (c .before .before .before .before .enum-told2 .given .1) (c .before .before .take-key .ensures)
+    took-kind (lineBy (a .kind) (a .reads) (a .rel) (a .to))
+    (c .before .before .before .before .enum-told2 .given .1) (c .before .before .take-key .ensures)
 
 same-length-3 : tie.Need-same-length-3
 same-length-3 c = search needs
@@ -90,7 +92,8 @@ returns-3 : tie.Need-returns-3
 unfolding takeAs
 returns-3 c =
     let a = c .before .before .before .before .before .before .before .args in
-    took-kind (lineBy (a .kind) (a .reads) (a .rel) (a .to)) (c .before .before .before .before .enum-told3 .given .1) (c .before .before .take-program .ensures)
+    took-kind (lineBy (a .kind) (a .reads) (a .rel) (a .to))
+    (c .before .before .before .before .enum-told3 .given .1) (c .before .before .take-program .ensures)
 
 same-length-4 : tie.Need-same-length-4
 same-length-4 c = search needs
@@ -99,7 +102,8 @@ returns-4 : tie.Need-returns-4
 unfolding takeAs
 returns-4 c =
     let a = c .before .before .before .before .before .before .before .before .before .args in
-    took-kind (lineBy (a .kind) (a .reads) (a .rel) (a .to)) (c .before .before .before .before .before .before .kind .given .1)
+    took-kind (lineBy (a .kind) (a .reads) (a .rel) (a .to))
+    (c .before .before .before .before .before .before .kind .given .1)
     (rw (c .before .before .before .parental .ensures) at (c .before .before .take-statement .ensures))
 
 same-length-5 : tie.Need-same-length-5
@@ -109,7 +113,8 @@ returns-5 : tie.Need-returns-5
 unfolding takeAs
 returns-5 c =
     let a = c .before .before .before .before .before .before .before .args in
-    took-kind (lineBy (a .kind) (a .reads) (a .rel) (a .to)) (c .before .before .before .before .enum-told4 .given .1) (c .before .before .take-opening .ensures)
+    took-kind (lineBy (a .kind) (a .reads) (a .rel) (a .to))
+    (c .before .before .before .before .enum-told4 .given .1) (c .before .before .take-opening .ensures)
 
 same-length-6 : tie.Need-same-length-6
 same-length-6 c = search needs
@@ -118,7 +123,8 @@ returns-6 : tie.Need-returns-6
 unfolding takeAs
 returns-6 c =
     let a = c .before .before .before .before .before .before .before .args in
-    took-kind (lineBy (a .kind) (a .reads) (a .rel) (a .to)) (c .before .before .before .before .enum-told5 .given .1) (c .before .before .take-opening2 .ensures)
+    took-kind (lineBy (a .kind) (a .reads) (a .rel) (a .to))
+    (c .before .before .before .before .enum-told5 .given .1) (c .before .before .take-opening2 .ensures)
 
 same-length-7 : tie.Need-same-length-7
 same-length-7 c = search needs
@@ -127,7 +133,8 @@ returns-7 : tie.Need-returns-7
 unfolding takeAs
 returns-7 c =
     let a = c .before .before .before .before .before .before .before .args in
-    took-kind (lineBy (a .kind) (a .reads) (a .rel) (a .to)) (c .before .before .before .before .enum-told6 .given .1) (c .before .before .take-second .ensures)
+    took-kind (lineBy (a .kind) (a .reads) (a .rel) (a .to))
+    (c .before .before .before .before .enum-told6 .given .1) (c .before .before .take-second .ensures)
 
 same-length-8 : tie.Need-same-length-8
 same-length-8 c = search needs
@@ -136,7 +143,8 @@ returns-8 : tie.Need-returns-8
 unfolding takeAs
 returns-8 c =
     let a = c .before .before .before .before .before .before .before .args in
-    took-kind (lineBy (a .kind) (a .reads) (a .rel) (a .to)) (c .before .before .before .before .enum-told7 .given .1) (c .before .before .take-closing .ensures)
+    took-kind (lineBy (a .kind) (a .reads) (a .rel) (a .to))
+    (c .before .before .before .before .enum-told7 .given .1) (c .before .before .take-closing .ensures)
 
 same-length-9 : tie.Need-same-length-9
 same-length-9 c = search needs
@@ -145,7 +153,8 @@ returns-9 : tie.Need-returns-9
 unfolding takeAs
 returns-9 c =
     let a = c .before .before .before .before .before .before .before .args in
-    took-kind (lineBy (a .kind) (a .reads) (a .rel) (a .to)) (c .before .before .before .before .enum-told8 .given .1) (c .before .before .take-link .ensures)
+    took-kind (lineBy (a .kind) (a .reads) (a .rel) (a .to))
+    (c .before .before .before .before .enum-told8 .given .1) (c .before .before .take-link .ensures)
 
 pub take-kind-spec : {M : Type 1} → statement M
 take-kind-spec =

@@ -18,7 +18,11 @@ same-length : tie.Need-same-length
 same-length c = search needs
 
 returns : tie.Need-returns
-returns c = took-program (c .before .before .before .before .before .before .before .before .before .pre) (c .before .before .before .before .before .before .clear .ensures) (c .before .before .count-line .ensures)
+returns c =
+    let counted = c .before .before in
+    let cleared = counted .before .before .before .before in
+    let entry = cleared .before .before .before in
+    took-program (entry .pre) (cleared .clear .ensures) (counted .count-line .ensures)
 
 pub take-program-spec : {M : Type 1} → statement M
 take-program-spec = tie.close (tie.spec clear-requires count-line-requires same-length returns)

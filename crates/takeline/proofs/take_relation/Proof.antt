@@ -22,8 +22,12 @@ same-length : tie.Need-same-length
 same-length c = search needs
 
 returns : tie.Need-returns
-returns c = took-relation (c .before .before .before .before .before .before .before .before .before .before .before .args .reads) (c .before .before .before .before .before .before .before .before .before .before .before .pre)
-    (c .before .before .before .before .before .before .before .before .word-at .ensures) (c .before .before .before .before .before .before .put .ensures) (c .before .before .count-line .ensures)
+returns c =
+    let counted = c .before .before in
+    let stored = counted .before .before .before .before in
+    let at = stored .before .before in
+    let entry = at .before .before .before in
+    took-relation (entry .args .reads) (entry .pre) (at .word-at .ensures) (stored .put .ensures) (counted .count-line .ensures)
 
 pub take-relation-spec : {M : Type 1} → statement M
 take-relation-spec =

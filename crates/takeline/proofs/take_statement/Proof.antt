@@ -34,14 +34,16 @@ same-length : tie.Need-same-length
 same-length c = search needs
 
 returns : tie.Need-returns
-returns c = let entry = c .before .before .before .before .before .before .before .before .before .before .before .before .before .before .before .before .before .before .before .before .before in
-    took-statement (entry .args .rel) (entry .args .fit) (entry .pre)
-    (c .before .before .before .before .before .before .before .before .before .before .before .before .before .before .before .before .before .before .word-at .ensures)
-    (c .before .before .before .before .before .before .before .before .before .before .before .before .before .before .before .before .word-at2 .ensures)
-    (c .before .before .before .before .before .before .before .before .before .before .before .before .before .before .put-around .ensures)
-    (c .before .before .before .before .before .before .before .before .before .before .put-pair .ensures)
-    (c .before .before .before .before .before .before .advance .ensures)
-    (c .before .before .count-line .ensures)
+returns c =
+    let counted = c .before .before in
+    let advanced = counted .before .before .before .before in
+    let paired = advanced .before .before .before .before in
+    let around = paired .before .before .before .before in
+    let depth = around .before .before in
+    let at = depth .before .before in
+    let entry = at .before .before .before in
+    took-statement (entry .args .rel) (entry .args .fit) (entry .pre) (at .word-at .ensures) (depth .word-at2 .ensures)
+    (around .put-around .ensures) (paired .put-pair .ensures) (advanced .advance .ensures) (counted .count-line .ensures)
 
 pub take-statement-spec : {M : Type 1} → statement M
 take-statement-spec =

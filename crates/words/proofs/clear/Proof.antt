@@ -37,7 +37,9 @@ loop-less : tie.Need-loop-less Inv-loop μ-loop
 loop-less c = search needs
 
 loop-again : tie.Need-loop-again Inv-loop μ-loop
-loop-again c = (omega arith, omega arith, cleared-more (c .before .before .loop .inv .2) (c .before .before .loop .inv .0) (omega (arith, c .before .before .loop .inv .2 .size)))
+loop-again c =
+    let inv = c .before .before .loop .inv in
+    (omega arith, omega arith, cleared-more (inv .2) (inv .0) (omega (arith, inv .2 .size)))
 
 same-length-2 : tie.Need-same-length-2 Inv-loop μ-loop
 same-length-2 c = c .before .loop .inv .2 .size
