@@ -7,7 +7,8 @@ use Rattle.base.specs.Basic.{keep}
 use Rattle.text.specs.declared.Line.{Line}
 use Rattle.text.specs.Reading.{isLink}
 use Rattle.text.specs.Quoted.{rereads}
-use Rattle.text.specs.Value.{Given, valueOf, written}
+use Rattle.text.specs.Value.{Given, valueOf}
+use Rattle.reading.specs.Written.{written}
 use Rattle.reading.specs.ValueLaws.{value-given, lines-of-value}
 use Rattle.graph.specs.Graph.Flow.{forward, back}
 use Rattle.graph.specs.Walk.{isEdge, dangerousPair, isDangerous}
