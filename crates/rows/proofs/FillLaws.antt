@@ -17,8 +17,9 @@ use Rattle.report.specs.State.{StateRefusal, statementsIn, tooMany, shortForUnf
 use Rattle.report.specs.State.StateRefusal.{taken}
 use Rattle.tables.specs.Table.{rowsOf, tableOf}
 use Rattle.unfolder.specs.declared.Unfolded.{Unfolded}
-use Rattle.unfolder.specs.Result.{nodesTold}
-use Rattle.unfolder.specs.Settled.{PlacesStand, PlacesSettled}
+use Rattle.unfolder.specs.Result.{cells, nodesTold}
+use Rattle.unfolder.specs.Settled.{PlacesSettled}
+use Rattle.unfolder.specs.Stand.{PlacesStand, places-stand}
 use Rattle.report.specs.Refusals.{refusal-some, refusal-none, places-few, taken-given, other-area}
 use Rattle.rows.specs.declared.Begun.{Begun}
 use Rattle.rows.specs.declared.Rows.{Rows}
