@@ -118,7 +118,8 @@ judged-rows w table f filled before r n settled e same =
     let refusal = whole-refused (shortForWalk (length before / 4)) settled e in
     let d = number-some refl refusal in
     let m : n ≡ suc (pred n) = omega arith in
-    judged-refused w before r (pred n) (subst (λ (k : ℕ). StateRefusal w (shortForWalk (length before / 4)) (some k)) m refusal) (same ∙ ap refusedWith m)
+    judged-refused w before r (pred n) (subst (λ (k : ℕ). StateRefusal w (shortForWalk (length before / 4)) (some k)) m refusal)
+    (same ∙ ap refusedWith m)
 
 -- S20: an area under 65 steps, which is tested behind 21 and 22
 pub judged-short : (w : Workload) (programs nodes places : ℕ) (filled before : List ℕ) (r : Verdict) → Whole w programs nodes places filled

@@ -26,7 +26,8 @@ array-share-prefix-table : tie.Need-array-share-prefix-table
 array-share-prefix-table c = whole-filled (c .before .before .before .fill-rows .ensures) (c .before .filled2 .given .1) .inside
 
 slice-aggregate-print-edges : tie.Need-slice-aggregate-print-edges
-slice-aggregate-print-edges c = sym (length-take-le _ _ (whole-filled (c .before .before .before .before .fill-rows .ensures) (c .before .before .filled2 .given .1) .inside))
+slice-aggregate-print-edges c =
+    sym (length-take-le _ _ (whole-filled (c .before .before .before .before .fill-rows .ensures) (c .before .before .filled2 .given .1) .inside))
 
 print-edges-requires : tie.Need-print-edges-requires
 print-edges-requires c κs = search needs

@@ -27,16 +27,22 @@ refused-requires-2 : tie.Need-refused-requires-2
 refused-requires-2 c κs = search needs
 
 returns-2 : tie.Need-returns-2
-returns-2 c = judged-short _ _ _ _ _ _ _ (whole-filled (c .before .before .before .before .before .fill-rows .ensures) (c .before .before .before .f2 .given .1)) (c .before .if1 .taken) (c .refused2 .ensures)
+returns-2 c =
+    judged-short _ _ _ _ _ _ _
+    (whole-filled (c .before .before .before .before .before .fill-rows .ensures) (c .before .before .before .f2 .given .1)) (c .before .if1 .taken) (c .refused2 .ensures)
 
 mul-n : tie.Need-mul-n
-mul-n c = let h = whole-filled (c .before .before .before .before .fill-rows .ensures) (c .before .before .f2 .given .1) .short in record { fits = omega arith }
+mul-n c =
+    let h = whole-filled (c .before .before .before .before .fill-rows .ensures) (c .before .before .f2 .given .1) .short in
+    record { fits = omega arith }
 
 array-share-prefix-table : tie.Need-array-share-prefix-table
 array-share-prefix-table c = whole-filled (c .before .before .before .before .fill-rows .ensures) (c .before .before .f2 .given .1) .inside
 
 slice-aggregate-pick-edges : tie.Need-slice-aggregate-pick-edges
-slice-aggregate-pick-edges c = sym (length-take-le _ _ (whole-filled (c .before .before .before .before .before .fill-rows .ensures) (c .before .before .before .f2 .given .1) .inside))
+slice-aggregate-pick-edges c =
+    sym (length-take-le _ _
+    (whole-filled (c .before .before .before .before .before .fill-rows .ensures) (c .before .before .before .f2 .given .1) .inside))
 
 pick-edges-requires : tie.Need-pick-edges-requires
 pick-edges-requires c κs = search needs
