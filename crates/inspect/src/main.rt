@@ -215,17 +215,6 @@ fn print_edges(table: &[u64]) {
     }
 }
 
-// How many words of a table so many places take, as far as it goes.
-fn words_of(places: u64, table: &[u64]) -> usize
-    ensures { λ r. ⌜ Counts r (now (table .entry)) ⌝ }
-{
-    let n = places as usize;
-    if n <= table.len() / 8 {
-        return n * 8;
-    }
-    table.len()
-}
-
 fn list_edges(w: Workload) {
     let mut table = [0u64; 4096];
     let filled = rows::fill_rows(w, &mut table);
@@ -238,7 +227,7 @@ fn list_edges(w: Workload) {
             nodes: _,
             places,
         } => {
-            let n = words_of(places, &table);
+            let n = (places * 8) as usize;
             print_edges(&table[..n]);
         }
     }

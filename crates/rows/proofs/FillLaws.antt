@@ -65,7 +65,8 @@ module _ (w : Workload) (zeros : List ℕ) (size : length zeros ≡ 512) (told :
   unfolding rowsSaid
   refused-number d =
       let number = refusal-some (told .refusal) d in
-      refused (told .refusal) (subst (StateRefusal w false) number (other-area (roomy w (length zeros) size) false number (settled .refusal))) refl refl
+      let refusal = other-area (roomy w (length zeros) size) false number (settled .refusal) in
+      refused (told .refusal) (subst (StateRefusal w false) number refusal) refl refl
 
   module _ (none-told : told .refusal ≡ 0) where
     abbrev lines : List Line

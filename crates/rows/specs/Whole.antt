@@ -67,7 +67,8 @@ module _ {w : Workload} {before : List ℕ} {r : Rows} {after : List ℕ} where
       let rest = drop (8 * statementsIn (nodesOf (linesOf w))) before in
       let a = tableOf-length (rowsOf (nodesOf (linesOf w))) in
       let b = rowsOf-length (nodesOf (linesOf w)) in
-      let told : _≡_ {A = ℕ × ℕ × ℕ} (programs, nodes, places) (length (programsOf (linesOf w)), length (nodesOf (linesOf w)), statementsIn (nodesOf (linesOf w))) = cc in
+      let told : _≡_ {A = ℕ × ℕ × ℕ} (programs, nodes, places)
+      (length (programsOf (linesOf w)), length (nodesOf (linesOf w)), statementsIn (nodesOf (linesOf w))) = cc in
       let c = ap (λ (t : ℕ × ℕ × ℕ). t .2) told in
       let most = places-few w (ok .1) in
       let n : places * 8 ≡ length table = omega arith in

@@ -21,7 +21,8 @@ use Rattle.stages.specs.Stages.{refusalWord}
 abbrev pub edgesPut : List Line → List Edge → List Edge
 edgesPut lines before = map coded (edgesOf (nodesOf lines)) ++ drop (length (edgesOf (nodesOf lines))) before
 
--- A refused text (R): its number and its line. Else S22, then S20. Each leaves the list as it was. Else the edges are put, and the answer is how many.
+-- A refused text (R): its number and its line. Else S22, then S20. Each leaves the list as it was. Else the edges are put, and the answer
+-- is how many they are. S21 cannot be: the value of an accepted text is one that a text gives.
 pub data TextEdges (o : Outcome) (before : List Edge) (r : ℕ) (after : List Edge) : Type 0 where
   unread : (number line : ℕ) → o ≡ refused number line → r ≡ refusalWord number line → after ≡ before → TextEdges o before r after
   large : (lines : List Line) → o ≡ accepted lines → tooMany lines ≡ true → r ≡ refusalWord 22 0 → after ≡ before → TextEdges o before r after

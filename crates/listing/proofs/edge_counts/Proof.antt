@@ -20,7 +20,8 @@ count-edges-requires : tie.Need-count-edges-requires
 count-edges-requires c κs = search needs
 
 returns-2 : tie.Need-returns-2
-returns-2 c = counts-told _ _ (c .before .before .before .before .before .tabled .ensures) (c .before .before .before .if1 .left) _ (c .count-edges .ensures)
+returns-2 c =
+    counts-told _ _ (c .before .before .before .before .before .tabled .ensures) (c .before .before .before .if1 .left) _ (c .count-edges .ensures)
 
 pub edge-counts-spec : {M : Type 1} → statement M
 edge-counts-spec =
