@@ -418,6 +418,11 @@ links-bound : faults (relations 0 1 ++ keys 0 1 ++ programs 0 1 ++ statements 0 
 unfolding faults relations keys programs statements links
 links-bound = refl
 
+-- R9: links do not count among the 64 lines
+links-apart : faults (relations 0 1 ++ keys 0 1 ++ programs 0 1 ++ statements 0 32 ++ loops 16) (links 1) ≡ none ∷ []
+unfolding faults relations keys programs statements loops links
+links-apart = refl
+
 -- R9: blocks 8 deep, a loop or a branch counts one
 deep-bound : faults (programs 0 1 ++ openers 7) (flow Br ∷ flow Lo ∷ []) ≡ none ∷ some 9 ∷ []
 unfolding faults programs openers flow
