@@ -2,6 +2,7 @@
 // Each is one call from the bytes on, and one number answers it: bit 31 tells a refusal, and then its number and its line follow.
 
 use edges::Edge;
+use judging::Totals;
 use judging::Verdict;
 use putting::Put;
 use text::Line;

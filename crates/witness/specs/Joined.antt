@@ -6,9 +6,8 @@ use mathlib.Core.Path.{_≡_, refl, subst}
 use Rattle.base.specs.Basic.{keep}
 use Rattle.text.specs.declared.Line.{Line}
 use Rattle.text.specs.Reading.{isLink}
-use Rattle.text.specs.Quoted.{rereads}
 use Rattle.text.specs.Value.{Given, valueOf}
-use Rattle.reading.specs.Written.{written}
+use Rattle.reading.specs.Written.{written, rereads}
 use Rattle.reading.specs.ValueLaws.{value-given, lines-of-value}
 use Rattle.graph.specs.Graph.Flow.{forward, back}
 use Rattle.graph.specs.Walk.{isEdge, dangerousPair, isDangerous}
