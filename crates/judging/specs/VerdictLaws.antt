@@ -84,45 +84,10 @@ module _ (w : Workload) (programs nodes places : ℕ) (table : List ℕ) (p : Pi
       let walk = tableWalk (p .ahead) (p .behind) in
       judged (taken (whole .given) (whole .few) room) _ _ (danger walk (danger-from w walk some-step (picked .verdict)) short)
 
-      area : after ≡ shownIn (tableWalk ahead behind) before
-      area = shown .area ∙ ap (λ (steps : List Step). shownIn steps before) whole
-
-      go : ((isDangerous (summaryGraph (linesOf w)) (tableWalk ahead behind) ≡ true) × (length (tableWalk ahead behind) ≤ 65))
-          ⊎ ((tableWalk ahead behind ≡ []) × Robust (linesOf w))
-          → Word (linesOf w) before (toldOf (countsOf (linesOf w)) steps) after
-      go (inl (d, short)) =
-          let word = danger (tableWalk ahead behind) d short in
-          let some-step = not-empty (summaryGraph (linesOf w)) (tableWalk ahead behind) d steps many in
-          rw (area, some-step, many) word
-      go (inr (e, safe)) =
-          let word = robust safe (λ s. demand-3 w given safe s) in
-          let no-step : steps ≡ 0 = many ∙ ap length e in
-          let same : after ≡ before = area ∙ ap (λ (steps : List Step). shownIn steps before) e ∙ shown-empty before in
-          rw (same, no-step) word
-
--- a refusal of the table of places is the verdict's
-pub judged-rows : (w : Workload) (table : List ℕ) (f : Rows) (filled before : List ℕ) (r : Verdict) (n : ℕ) → RowsSettled w table f filled
-    → f ≡ Refused n → r ≡ refusedWith n → Judged w before r before
-judged-rows w table f filled before r n settled e same =
-    let refusal = whole-refused (shortForWalk (length before / 4)) settled e in
-    let d = number-some refl refusal in
-    let m : n ≡ suc (pred n) = omega arith in
-    judged-refused w before r (pred n) (subst (λ (k : ℕ). StateRefusal w (shortForWalk (length before / 4)) (some k)) m refusal)
-    (same ∙ ap refusedWith m)
-
--- S20: an area under 65 steps, which is tested behind 21 and 22
-pub judged-short : (w : Workload) (programs nodes places : ℕ) (filled before : List ℕ) (r : Verdict) → Whole w programs nodes places filled
-    → length before < 260 → r ≡ refusedWith 20 → Judged w before r before
-unfolding shortForWalk
-judged-short w programs nodes places filled before r whole short e =
-    judged-refused w before r 19 (too-short (whole .given) (whole .few) (lt-ltb (length before / 4) 65 (omega arith))) e
-
--- the counts told are the workload's
-counts-same : (w : Workload) (programs nodes places : ℕ) (table : List ℕ) (p : PickedEdges) → Whole w programs nodes places table
-    → PickedVerdict (linesOf w) p → (steps : ℕ) → told programs nodes (p .edges) (p .back) steps ≡ toldOf (countsOf (linesOf w)) steps
-unfolding countsOf
-counts-same w programs nodes places table p whole picked steps =
-    rw (whole .programs-are, whole .nodes-are, picked .edges, picked .back) refl
+-- a refusal of the table of places is the verdict's, and leaves the area
+pub judged-rows : (w : Workload) (table : List ℕ) (f : Rows) (filled before : List ℕ) (n : ℕ) → RowsSettled w table f filled → f ≡ Refused n
+    → Judged w before (Told.refused n) before
+judged-rows w table f filled before n settled e = refused n (whole-refused (shortForWalk (length before / 4)) settled e)
 
 -- what is picked from the table, and the walk that is found in it, are the verdict
 pub judged-picked : (w : Workload) (programs nodes places : ℕ) (filled before after : List ℕ) (p : PickedEdges) (found : WalkFound) (answer : Told)

@@ -20,17 +20,10 @@ returns c = judged-rows _ _ _ _ _ _ (c .before .before .before .fill-rows .ensur
 enum-known-f-2 : tie.Need-enum-known-f-2
 enum-known-f-2 c = search needs
 
-refused-requires-2 : tie.Need-refused-requires-2
-refused-requires-2 c κs = search needs
-
-returns-2 : tie.Need-returns-2
-returns-2 c =
-    judged-short _ _ _ _ _ _ _
-    (whole-filled (c .before .before .before .before .before .fill-rows .ensures) (c .before .before .before .f2 .given .1)) (c .before .if1 .taken) (c .refused2 .ensures)
-
 mul-n : tie.Need-mul-n
 mul-n c =
-    let h = whole-filled (c .before .before .before .before .fill-rows .ensures) (c .before .before .f2 .given .1) .short in
+    let whole = whole-filled (c .before .before .before .fill-rows .ensures) (c .before .f2 .given .1) in
+    let few = whole .short in
     record { fits = omega arith }
 
 array-share-prefix-table : tie.Need-array-share-prefix-table
@@ -38,8 +31,8 @@ array-share-prefix-table c = whole-filled (c .before .before .before .fill-rows 
 
 slice-aggregate-pick-edges : tie.Need-slice-aggregate-pick-edges
 slice-aggregate-pick-edges c =
-    sym (length-take-le _ _
-    (whole-filled (c .before .before .before .before .before .fill-rows .ensures) (c .before .before .before .f2 .given .1) .inside))
+    let whole = whole-filled (c .before .before .before .before .fill-rows .ensures) (c .before .before .f2 .given .1) in
+    sym (length-take-le _ _ (whole .inside))
 
 pick-edges-requires : tie.Need-pick-edges-requires
 pick-edges-requires c κs = search needs
