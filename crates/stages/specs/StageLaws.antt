@@ -7,7 +7,6 @@ use lib.Dec.{eqb}
 use borrow.Author.Tests.{eq-eqb, ne-eqb}
 use Rattle.reader.specs.declared.Parsed.{Parsed}
 use Rattle.unfolder.specs.declared.Unfolded.{Unfolded}
-use Rattle.judging.specs.declared.Verdict.{Verdict}
 use Rattle.stages.specs.Stages.{refusalWord, lineSum, middleLine, readWord, placesTold, unfoldWord, verdictWord}
 use Rattle.stages.specs.Stages.{Unfolds, Judges, UnfoldStage, VerdictStage}
 

@@ -13,8 +13,7 @@ use Rattle.reader.specs.declared.Parsed.{Parsed}
 use Rattle.reader.specs.Parse.{parsedAs}
 use Rattle.unfolder.specs.declared.Unfolded.{Unfolded}
 use Rattle.unfolder.specs.Settled.{Settled}
-use Rattle.judging.specs.declared.Verdict.{Verdict}
-use Rattle.judging.specs.Verdict.{Judged}
+use Rattle.judging.specs.Verdict.{Told, Judged}
 
 -- what a text gives: its workload value, or a refusal's number and line
 abbrev pub given : List ℕ → Parsed

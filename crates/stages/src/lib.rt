@@ -13,6 +13,7 @@ ghost use Prim.Native.Nat.{_+_, _*_, _%_};
 ghost use Rattle.text.specs.Reading.{read};
 ghost use Rattle.putting.specs.Put.{putSaid};
 ghost use Rattle.stages.specs.Stages.{given, refusalWord, lineSum, middleLine, readWord, placesTold, unfoldWord, verdictWord};
+ghost use Rattle.judging.specs.Verdict.{told};
 ghost use Rattle.stages.specs.Stages.{Unfolds, Judges, UnfoldStage, VerdictStage};
 ghost use Rattle.stages.specs.TextEdges.{edgesWord, FewPut, TextEdges};
 
