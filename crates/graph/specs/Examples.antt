@@ -1,6 +1,7 @@
 -- Small workloads that pin each rule of unfoldings (U) and walks (W).
 use mathlib.Core.Bool.{Bool, true, false, not}
 use mathlib.Core.List.{List, [], _∷_, _++_, map, flatMap}
+use mathlib.Core.Option.{none, some}
 use mathlib.Core.Path.{_≡_, refl}
 use Prim.Native.Nat.{ℕ}
 use lib.Dec.{eqb}
@@ -13,7 +14,7 @@ use Rattle.graph.specs.Graph.{Flow}
 use Rattle.graph.specs.Program.{statementOf, runOf, programsOf}
 use Rattle.graph.specs.Program.Run.{done}
 use Rattle.graph.specs.Unfolding.{Around, nodesOf}
-use Rattle.graph.specs.Edge.{leads}
+use Rattle.graph.specs.Edge.{leads, placeAt}
 use Rattle.graph.specs.Walk.{Step, isDangerous}
 use Rattle.graph.specs.ExampleText.{line, rl, fk, pr, is, ks, ps, ku, pu, kd, pd, lo, br, el, en, li, step}
 use Rattle.graph.specs.ExampleText.{nodes, ids, graph, dangerous, sizes, base, twice, select-first}
@@ -170,6 +171,11 @@ N2-sizes = refl
 N2-past : (graph twice .places 2 ≡ 0) × (graph twice .loose 2 0 ≡ false) × (map (graph twice .loose 1) (1 ∷ 2 ∷ []) ≡ true ∷ false ∷ [])
 unfolding graph
 N2-past = (refl, refl, refl)
+
+-- N2: the place with this number of the node with this number
+N2-place : _≡_ {A = ℕ × ℕ × ℕ} (elim (placeAt (nodesOf twice) 1 0) [ none ↦ (9, 9, 9) | some s ↦ (s .number, s .place, s .node .program) ]) (1, 0, 1)
+unfolding graph
+N2-place = refl
 
 -- ---- W: the dangerous walk
 
