@@ -2,8 +2,8 @@
 -- is of a robust workload, so demand 3 speaks of it; the lost update and the phantom are of dangerous ones.
 use mathlib.Core.Bool.{false}
 use mathlib.Core.Path.{_≡_, refl}
-use Rattle.text.specs.Quoted.{rereads}
-use Rattle.text.specs.Value.{Given, valueOf, written}
+use Rattle.text.specs.Value.{Given, valueOf}
+use Rattle.reading.specs.Written.{written, rereads}
 use Rattle.reading.specs.ValueLaws.{value-given}
 use Rattle.walks.specs.Reach.{dangerTest}
 use Rattle.report.specs.State.{summaryGraph, Robust}

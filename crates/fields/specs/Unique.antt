@@ -20,7 +20,8 @@ use Rattle.text.specs.declared.StatementKind.the-variants.{Is, Ks, Ps, Ku, Pu, 
 use Rattle.text.specs.Text.{same, onFirst, fieldsIn, Form, formsOf, fieldOf, valuesOf, wordOf, kindOf, lineWith, lineOf}
 use Rattle.text.specs.Text.Form.{number, set, nothing}
 use Rattle.text.specs.Text.{space, dash, newline, isDecimal, isHexadecimal, digitsForm, digitValue, valueBehind, numberOf, setOf, dashOf}
-use Rattle.text.specs.Value.{digit, digitsOf, fieldWritten, fieldsWritten, lineWritten}
+use Rattle.text.specs.Text.{digit, digitsOf}
+use Rattle.reading.specs.Written.{fieldWritten, fieldsWritten, lineWritten}
 use Rattle.reading.specs.TextLaws.{digit-below, same-equal, forms-six, six-values, fits, allFit, valuesIn, lineFits}
 use Rattle.fields.specs.DigitLaws.{Digit, digit-view}
 use Rattle.fields.specs.Field.{fieldLength, othersIn, lineFrom, lineBehind}

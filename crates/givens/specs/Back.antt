@@ -4,7 +4,8 @@ use mathlib.Core.Path.{_≡_, sym}
 use Rattle.text.specs.declared.Workload.{Workload}
 use Rattle.text.specs.Reading.{read}
 use Rattle.text.specs.Reading.Outcome.{accepted}
-use Rattle.text.specs.Value.{Given, linesOf, valueOf, written}
+use Rattle.text.specs.Value.{Given, linesOf, valueOf}
+use Rattle.reading.specs.Written.{written}
 use Rattle.reading.specs.ValueLaws.{given-value}
 use Rattle.writing.specs.Givens.{given-written}
 use Rattle.givens.specs.Decided.{Decided}

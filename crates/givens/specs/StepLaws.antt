@@ -19,7 +19,8 @@ use Rattle.text.specs.declared.LineKind.the-variants.{Rl, Fk, Pr, St, Lo, Br, E
 use Rattle.text.specs.declared.Workload.{Workload}
 use Rattle.text.specs.Text.{unusedLine, namesLine, newline}
 use Rattle.text.specs.Reading.{fault, noneOpen}
-use Rattle.text.specs.Value.{linesOf, lineWritten, linesWritten, written}
+use Rattle.text.specs.Value.{linesOf}
+use Rattle.reading.specs.Written.{lineWritten, linesWritten, written}
 use Rattle.reading.specs.TextLaws.{fits, lineFits}
 use Rattle.writing.specs.Givens.{SoundLines, SoundValue, sound-given, given-sound}
 use Rattle.readstate.specs.Holds.{faultOf}

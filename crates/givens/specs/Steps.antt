@@ -10,7 +10,7 @@ use Rattle.text.specs.declared.Line.{Line}
 use Rattle.text.specs.declared.LineKind.{LineKind}
 use Rattle.text.specs.declared.LineKind.the-variants.{Rl, Fk, Pr, St, Lo, Br, El, En, Li}
 use Rattle.text.specs.Reading.{fault, noneOpen}
-use Rattle.text.specs.Value.{lineWritten, written}
+use Rattle.reading.specs.Written.{lineWritten, written}
 use Rattle.reading.specs.TextLaws.{lineFits}
 use Rattle.writing.specs.Givens.{SoundLines}
 use Rattle.readstate.specs.Words.{HoldsWords}

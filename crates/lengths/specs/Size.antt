@@ -4,7 +4,7 @@ use Prim.Native.Nat.{ℕ}
 use lib.Dec.{eqb}
 use lib.ListN.{length}
 use Rattle.text.specs.declared.Line.{Line}
-use Rattle.text.specs.Value.{lineWritten}
+use Rattle.reading.specs.Written.{lineWritten}
 use Rattle.reading.specs.TextLaws.{lineFits}
 
 unfoldable pub isZero : ℕ → Bool

@@ -17,7 +17,8 @@ use Rattle.text.specs.declared.LineKind.the-variants.{Rl, Fk, Pr, St, Lo, Br, E
 use Rattle.text.specs.declared.StatementKind.the-variants.{Is, Ks, Ps, Ku, Pu, Kd, Pd}
 use Rattle.text.specs.Text.{Form, newline, formsOf, wordOf}
 use Rattle.text.specs.Text.Form.{number, set, nothing}
-use Rattle.text.specs.Value.{digit, digitsOf, fieldWritten, fieldsWritten, lineWritten}
+use Rattle.text.specs.Text.{digit, digitsOf}
+use Rattle.reading.specs.Written.{fieldWritten, fieldsWritten, lineWritten}
 use Rattle.reading.specs.TextLaws.{fits, allFit, lineFits, valuesIn}
 use Rattle.fields.specs.Field.{numberIf, setIf, formsWith}
 use Rattle.lengths.specs.Size.{isZero, sizeOf}

@@ -9,7 +9,7 @@ ghost use lib.ListN.{length};
 ghost use Rattle.base.specs.Basic.{all};
 ghost use Rattle.text.specs.declared.LineKind.the-variants.{St};
 ghost use Rattle.text.specs.Text.{formsOf};
-ghost use Rattle.text.specs.Value.{digitsOf};
+ghost use Rattle.text.specs.Text.{digitsOf};
 ghost use Rattle.reading.specs.TextLaws.{allFit, lineFits, valuesIn};
 ghost use Rattle.lengths.specs.Size.{isZero, sizeOf};
 

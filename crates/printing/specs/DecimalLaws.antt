@@ -7,7 +7,7 @@ use native.Mathlib.Omega.{arith}
 use lib.Dec.{ltb}
 use lib.ListN.{length, length-append}
 use borrow.Author.Tests.{lt-ltb, le-ltb, ltb-true, ltb-false}
-use Rattle.text.specs.Value.{digit, digitsOf}
+use Rattle.text.specs.Text.{digit, digitsOf}
 use Rattle.report.specs.Report.{decimal}
 use Rattle.printing.specs.Printed.{Put}
 use Rattle.printing.specs.PutLaws.{put-both, put-most, put-same}

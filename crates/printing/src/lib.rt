@@ -6,7 +6,7 @@ ghost use mathlib.Core.List.{[], _∷_};
 ghost use Prim.Native.Nat.{_+_, _*_, _≤_, _<_, min};
 ghost use lib.ListN.{length};
 ghost use Rattle.text.specs.Text.{space, newline};
-ghost use Rattle.text.specs.Value.{digit};
+ghost use Rattle.text.specs.Text.{digit};
 ghost use Rattle.report.specs.State.{counted};
 ghost use Rattle.report.specs.Report.{decimal, flowLetter, stepLine, stepLines, refusalReport, robustReport, dangerReport};
 ghost use Rattle.printing.specs.Printed.{printedAs, verdictLines, flowOf, stepAt, stepsIn, walkIn, Put, DangerPut};

@@ -1,4 +1,5 @@
 pub mod TextLaws
+pub mod Written
 pub mod ReadingLaws
 pub mod SizeLaws
 pub mod ValueLaws

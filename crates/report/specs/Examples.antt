@@ -14,7 +14,8 @@ use Rattle.text.specs.declared.LineKind.{LineKind}
 use Rattle.text.specs.declared.LineKind.the-variants.{Pr, St, Lo, Br, El, En}
 use Rattle.text.specs.declared.StatementKind.the-variants.{Ks, Ku}
 use Rattle.text.specs.Reading.Outcome.{refused, accepted}
-use Rattle.text.specs.Value.{digit, digitsOf, valueOf, linesOf}
+use Rattle.text.specs.Text.{digit, digitsOf}
+use Rattle.text.specs.Value.{valueOf, linesOf}
 use Rattle.text.specs.Quoted.{bytes, text, readBytes}
 use Rattle.graph.specs.Graph.{Flow}
 use Rattle.graph.specs.Program.{statementOf, behind, runOf, linksOf, programsOf}

@@ -8,7 +8,7 @@ use Rattle.text.specs.declared.Line.{Line}
 use Rattle.text.specs.Text.{newline, space}
 use Rattle.text.specs.Reading.{read}
 use Rattle.text.specs.Reading.Outcome.{refused, accepted}
-use Rattle.text.specs.Value.{digitsOf}
+use Rattle.text.specs.Text.{digitsOf}
 use Rattle.graph.specs.Graph.{Flow}
 use Rattle.graph.specs.Walk.{Step, isDangerous}
 use Rattle.report.specs.State.{Counts, countsOf, tooMany, summaryGraph, Robust}

@@ -19,7 +19,8 @@ use Rattle.text.specs.declared.Line.{Line}
 use Rattle.text.specs.Text.{newline, space}
 use Rattle.text.specs.Reading.{read}
 use Rattle.text.specs.Reading.Outcome.{accepted}
-use Rattle.text.specs.Value.{valueOf, digit, digitsOf}
+use Rattle.text.specs.Text.{digit, digitsOf}
+use Rattle.text.specs.Value.{valueOf}
 use Rattle.graph.specs.Walk.{Step}
 use Rattle.schedule.specs.Schedule.{Schedule}
 use Rattle.schedule.specs.Serial.{Serialisable}

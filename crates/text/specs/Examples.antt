@@ -13,12 +13,12 @@ use Rattle.text.specs.declared.LineKind.{LineKind}
 use Rattle.text.specs.declared.LineKind.the-variants.{Rl, Fk, Pr, St, Lo, Br, El, En, Li}
 use Rattle.text.specs.declared.StatementKind.the-variants.{Is, Ks, Ps, Ku, Pu, Kd, Pd}
 use Rattle.text.specs.declared.Workload.{Workload}
-use Rattle.text.specs.Text.{isHexadecimal, linesIn, fieldsIn, namesLine, lineWith, numberOf, setOf, kinds, unusedLine, lineOf}
+use Rattle.text.specs.Text.{isHexadecimal, linesIn, fieldsIn, namesLine, lineWith, numberOf, setOf, digit, digitsOf, kinds, unusedLine, lineOf}
 use Rattle.text.specs.Reading.{sort, isStatementOf, program, relation, key, statement, Block, blocksAfter, openBlocks, blocksAround}
 use Rattle.text.specs.Reading.{Outcome, isAllowed, otherByte, fault, readLines, read}
 use Rattle.text.specs.Reading.Outcome.{refused, accepted}
-use Rattle.text.specs.Value.{linesOf, valueOf, Given, written}
-use Rattle.text.specs.Quoted.{bytes, text, readBytes, given, rereads}
+use Rattle.text.specs.Value.{linesOf, valueOf, Given}
+use Rattle.text.specs.Quoted.{bytes, text, readBytes, given}
 
 -- two relations, a key from relation 1 to relation 0, one from relation 0 to itself, and a program
 base : List String
@@ -158,6 +158,14 @@ hexadecimal-bytes : keep isHexadecimal (numbers 256) ≡ bytes "0123456789abcdef
 unfolding bytes
 hexadecimal-bytes = refl
 
+-- T3, T4: the digits of numbers and sets, as many as are asked for
+digits
+    : (map (digitsOf 10 20) (0 ∷ 7 ∷ 10 ∷ 255 ∷ 524288 ∷ []) ≡ map bytes ("0" ∷ "7" ∷ "10" ∷ "255" ∷ "524288" ∷ []))
+    × (map (digitsOf 16 16) (0 ∷ 9 ∷ 10 ∷ 31 ∷ (2 ^ 64 - 1) ∷ []) ≡ map bytes ("0" ∷ "9" ∷ "a" ∷ "1f" ∷ "ffffffffffffffff" ∷ []))
+    × (map (digitsOf 10 2) (7 ∷ 89 ∷ 789 ∷ []) ≡ map bytes ("7" ∷ "89" ∷ "89" ∷ []))
+unfolding bytes digit digitsOf
+digits = (refl, refl, refl)
+
 -- T4: bit k stands for attribute k
 set-attributes : map (has 0x5) (numbers 4) ≡ true ∷ false ∷ true ∷ false ∷ []
 set-attributes = refl
@@ -168,7 +176,7 @@ unfolding lineWith
 line-with = refl
 
 -- T5: a text with a line of each kind, and its lines
-each-kind : List String
+unfoldable pub each-kind : List String
 each-kind =
     "rl 0 - - ffffffffffffffff - -" ∷ "rl 1 - - 3 - -"
     ∷ "fk 0 1 0 - - -"
@@ -179,7 +187,7 @@ each-kind =
     ∷ "pd 6 1 - - 3 0"
     ∷ "li 0 0 1 - - -" ∷ []
 
-each-kind-lines : List Line
+unfoldable pub each-kind-lines : List Line
 unfolding lineWith
 each-kind-lines =
     lineWith Rl (0 ∷ 0 ∷ 0 ∷ (2 ^ 64 - 1) ∷ 0 ∷ 0 ∷ []) ∷ lineWith Rl (1 ∷ 0 ∷ 0 ∷ 3 ∷ 0 ∷ 0 ∷ [])
@@ -202,11 +210,6 @@ each-kind-lines =
 each-kind-read : given each-kind ≡ accepted each-kind-lines
 unfolding given each-kind each-kind-lines
 each-kind-read = refl
-
--- T1: these lines, written out, are the text
-each-kind-written : written each-kind-lines ≡ text ("kind id rel to reads writes tests" ∷ each-kind)
-unfolding rereads text each-kind each-kind-lines
-each-kind-written = refl
 
 -- R4: field count
 six-fields : given ("rl 0 - - 3 -" ∷ []) ≡ refused 4 2

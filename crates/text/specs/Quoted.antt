@@ -1,9 +1,8 @@
--- Quoted texts, for closed cases: who unfolds one of these unfolds all that reading and writing are defined by.
+-- Quoted texts, for closed cases: who unfolds one of these unfolds all that reading is defined by.
 use mathlib.Core.List.{List, [], _∷_, _++_, headD}
 use Prim.Native.Nat.{ℕ}
 use Prim.Native.Char.{code}
 use Prim.Native.String.{String}
-use Rattle.text.specs.declared.Line.{Line}
 use Rattle.text.specs.Text.{newline, same, onFirst, linesIn, fieldsIn, namesLine, digitsForm, digitValue, valueBehind, numberOf}
 use Rattle.text.specs.Text.{setOf, dashOf, wordOf, kinds, kindOf, formsOf, fieldOf, valuesOf, lineWith, lineOf, unusedLine}
 use Rattle.text.specs.Reading.{sort, isRelation, isKey, isProgram, isStatementOrFlow, isLink, isStatementOf, isStatement}
@@ -11,7 +10,6 @@ use Rattle.text.specs.Reading.{program, relation, key, statement, sameBl
 use Rattle.text.specs.Reading.{beforeStatement, blocksAround, relationSet, bounded, withinBounds, inBody, noneOpen, innermost}
 use Rattle.text.specs.Reading.{ordered, named, kindSets, setsFit, canBeParent, allAround, linkFits, testsOf, firstFailed, fault}
 use Rattle.text.specs.Reading.{Outcome, readLines, isAllowed, otherByte, endsLine, read}
-use Rattle.text.specs.Value.{written, digit, digitsOf, fieldWritten, fieldsWritten, lineWritten, linesWritten}
 
 -- the bytes of a quoted text
 unfoldable pub bytes : String → List ℕ
@@ -38,8 +36,3 @@ readBytes b = read b
 unfoldable pub given : List String → Outcome
 unfolding text readBytes
 given lines = readBytes (text ("kind id rel to reads writes tests" ∷ lines))
-
--- what is read of lines written out
-unfoldable pub rereads : List Line → Outcome
-unfolding written digit digitsOf fieldWritten fieldsWritten lineWritten linesWritten readBytes
-rereads lines = readBytes (written lines)

@@ -1,9 +1,9 @@
 -- The form of the workload text (document 01, "The workload text"). Believed. A text is the list of its bytes.
 use mathlib.Core.Bool.{Bool, true, false, cond, not, _&&_, _||_}
-use mathlib.Core.List.{List, [], _∷_}
+use mathlib.Core.List.{List, [], _∷_, _++_}
 use mathlib.Core.Option.{Option, none, some}
-use Prim.Native.Nat.{ℕ, _+_, _*_, _-_}
-use lib.Dec.{eqb, leb}
+use Prim.Native.Nat.{ℕ, zero, suc, _+_, _*_, _-_, _/_, _%_}
+use lib.Dec.{eqb, leb, ltb}
 use lib.ListN.{length, getD}
 use Rattle.base.specs.Basic.{all, first}
 use Rattle.text.specs.declared.Line.{Line}
@@ -77,6 +77,15 @@ digitValue d = cond (isDecimal d) (d - 0x30) (d - 0x61 + 10)
 unfoldable pub valueBehind : ℕ → ℕ → List ℕ → ℕ
 valueBehind base n [] = n
 valueBehind base n (d ∷ digits) = valueBehind base (n * base + digitValue d) digits
+
+-- T3, T4: the digit for a number below the base
+unfoldable pub digit : ℕ → ℕ
+digit n = cond (ltb n 10) (0x30 + n) (0x61 + (n - 10))
+
+-- T3, T4: the digits of a number in a base, with no leading zero except 0 itself; `most` bounds them
+unfoldable pub digitsOf : ℕ → ℕ → ℕ → List ℕ
+digitsOf base zero n = []
+digitsOf base (suc most) n = elim (ltb n base) [ true ↦ digit n ∷ [] | false ↦ digitsOf base most (n / base) ++ (digit (n % base) ∷ []) ]
 
 -- T3: a number: decimal, 1 to 3 digits, at most 255
 unfoldable pub numberOf : List ℕ → Option ℕ

@@ -14,7 +14,8 @@ use Rattle.text.specs.declared.Workload.{Workload}
 use Rattle.text.specs.Text.{unusedLine, wordOf, formsOf}
 use Rattle.text.specs.Reading.{fault, noneOpen, read}
 use Rattle.text.specs.Reading.Outcome.{accepted}
-use Rattle.text.specs.Value.{Given, fieldsWritten, linesOf, written}
+use Rattle.text.specs.Value.{Given, linesOf}
+use Rattle.reading.specs.Written.{fieldsWritten, written}
 use Rattle.reading.specs.TextLaws.{lineFits, line-fits}
 use Rattle.reading.specs.ReadingLaws.{Taken, read-accepted, read-taken, read-closed}
 use Rattle.reading.specs.ValueLaws.{given-read, given-fits, given-cells, given-others, cells-value}

@@ -16,7 +16,8 @@ use Rattle.text.specs.declared.StatementKind.the-variants.{Is, Ks, Ps, Ku, Pu, 
 use Rattle.text.specs.Text.{Form, newline, space, dash, isDecimal, isLetter, wordOf}
 use Rattle.text.specs.Text.Form.{number, set, nothing}
 use Rattle.text.specs.Reading.{isAllowed}
-use Rattle.text.specs.Value.{digit, digitsOf, fieldWritten, fieldsWritten}
+use Rattle.text.specs.Text.{digit, digitsOf}
+use Rattle.reading.specs.Written.{fieldWritten, fieldsWritten}
 
 -- a byte that may stand inside a line
 unfoldable pub printable : ℕ → Bool

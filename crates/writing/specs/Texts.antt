@@ -14,7 +14,7 @@ use Rattle.text.specs.declared.Line.{Line}
 use Rattle.text.specs.Text.{newline, lineOf, linesIn, namesLine, same}
 use Rattle.text.specs.Reading.{isAllowed, noneOpen, fault, readLines, otherByte, endsLine, read}
 use Rattle.text.specs.Reading.Outcome.{refused, accepted}
-use Rattle.text.specs.Value.{lineWritten, linesWritten, written}
+use Rattle.reading.specs.Written.{lineWritten, linesWritten, written}
 use Rattle.reading.specs.TextLaws.{same-equal}
 use Rattle.reading.specs.ReadingLaws.{read-accepted}
 use Rattle.writing.specs.Printable.{printable}
