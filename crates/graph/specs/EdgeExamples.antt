@@ -10,8 +10,9 @@ use Rattle.text.specs.declared.LineKind.the-variants.{St}
 use Rattle.text.specs.declared.StatementKind.{StatementKind}
 use Rattle.text.specs.declared.StatementKind.the-variants.{Is, Ks, Ps, Ku, Pu, Kd, Pd}
 use Rattle.graph.specs.Graph.{Flow}
+use Rattle.graph.specs.Program.{statementOf}
 use Rattle.graph.specs.Unfolding.{nodesOf}
-use Rattle.graph.specs.Edge.{Letter, Place, Edge, holds, at, stands, placesOf, placeAt, bothPass}
+use Rattle.graph.specs.Edge.{Letter, Place, Edge, R, W, T, holds, at, stands, placesOf, placeAt, bothPass}
 use Rattle.graph.specs.Edge.{hasReads, hasWrites, hasTests, inserts, deletes, selects, shields, loosens}
 use Rattle.graph.specs.Edge.Letter.{A, B, C, D, E}
 use Rattle.graph.specs.ExampleText.{line, rl, fk, pr, is, ks, ps, ku, pu, kd, pd, lo, br, el, en, li, edge}
@@ -33,6 +34,12 @@ E-kinds : map (λ test. keep test kinds) (hasReads ∷ hasWrites ∷ hasTests �
     ∷ []
 unfolding kinds
 E-kinds = refl
+
+-- E0: R, W and T of a statement of each kind, with something in every field
+E0-sets : map {B = ℕ × ℕ × ℕ} (λ k. let s = statementOf k (line (St k) 0 0 0 1 2 4) in (R s, W s, T s)) kinds
+    ≡ (0, 2, 0) ∷ (1, 0, 0) ∷ (1, 0, 4) ∷ (1, 2, 0) ∷ (1, 2, 4) ∷ (0, 2, 0) ∷ (0, 2, 4) ∷ []
+unfolding kinds edges
+E0-sets = refl
 
 -- ---- E0 to E2, E5, E6: letters, edges and their records
 

@@ -1,6 +1,7 @@
 -- Small workloads that pin each rule of unfoldings (U) and walks (W).
 use mathlib.Core.Bool.{Bool, true, false, not}
 use mathlib.Core.List.{List, [], _∷_, _++_, map, flatMap}
+use mathlib.Core.Option.{none, some}
 use mathlib.Core.Path.{_≡_, refl}
 use Prim.Native.Nat.{ℕ}
 use lib.Dec.{eqb}
@@ -13,7 +14,7 @@ use Rattle.graph.specs.Graph.{Flow}
 use Rattle.graph.specs.Program.{statementOf, runOf, programsOf}
 use Rattle.graph.specs.Program.Run.{done}
 use Rattle.graph.specs.Unfolding.{Around, nodesOf}
-use Rattle.graph.specs.Edge.{leads}
+use Rattle.graph.specs.Edge.{leads, placeAt}
 use Rattle.graph.specs.Walk.{Step, isDangerous}
 use Rattle.graph.specs.ExampleText.{line, rl, fk, pr, is, ks, ps, ku, pu, kd, pd, lo, br, el, en, li, step}
 use Rattle.graph.specs.ExampleText.{nodes, ids, graph, dangerous, sizes, base, twice, select-first}
@@ -25,7 +26,9 @@ T5-statement : statementOf Pu (line (St Pu) 1 2 3 4 5 6) ≡ record { kind = Pu;
 unfolding statementOf
 T5-statement = refl
 
-T5-links : map (λ p. p .links) (programsOf (fk 0 0 0 ∷ pr 0 ∷ lo ∷ ks 0 0 1 ∷ en ∷ br ∷ el ∷ en ∷ li 5 6 7 ∷ li 8 9 10 ∷ pr 1 ∷ pr 2 ∷ rl 0 1 ∷ fk 0 0 0 ∷ li 1 2 3 ∷ []))
+T5-links : map
+    (λ p. p .links)
+    (programsOf (fk 0 0 0 ∷ pr 0 ∷ lo ∷ ks 0 0 1 ∷ en ∷ br ∷ el ∷ en ∷ li 5 6 7 ∷ li 8 9 10 ∷ pr 1 ∷ pr 2 ∷ rl 0 1 ∷ fk 0 0 0 ∷ li 1 2 3 ∷ []))
     ≡ (record { key = 5; child = 6; parent = 7 } ∷ record { key = 8; child = 9; parent = 10 } ∷ [])
     ∷ []
     ∷ (record { key = 1; child = 2; parent = 3 } ∷ [])
@@ -33,7 +36,7 @@ T5-links : map (λ p. p .links) (programsOf (fk 0 0 0 ∷ pr 0 ∷ lo ∷ ks 0 0
 unfolding nodes
 T5-links = refl
 
--- T8: the lines that end a run stay behind it, and so does what the number does not reach
+-- T8: a line that ends a run stays in the rest after it, and so does what the number does not reach
 T8-ends : let ends = rl 0 1 ∷ fk 0 0 0 ∷ pr 0 ∷ el ∷ en ∷ li 0 0 0 ∷ [] in
     (map (λ l. runOf 3 (l ∷ ks 0 0 1 ∷ [])) ends ≡ map (λ l. record { run = done; rest = l ∷ ks 0 0 1 ∷ [] }) ends)
     × (runOf 0 (ks 0 0 1 ∷ []) ≡ record { run = done; rest = ks 0 0 1 ∷ [] })
@@ -135,7 +138,9 @@ paths body = map (λ n. map (λ o. map (λ a. (a .item, a .turn)) (o .path)) (n 
 -- E4: a loop around a branch, as the second and third items of their runs: no turn, one, two
 E4-paths : paths (ks 0 0 1 ∷ lo ∷ ks 1 0 1 ∷ ks 2 0 1 ∷ br ∷ ks 3 0 1 ∷ el ∷ ks 4 0 1 ∷ en ∷ en ∷ [])
     ≡ let one : ℕ → ℕ → List (List (ℕ × ℕ)) = λ turn arm. ((1, turn) ∷ []) ∷ ((1, turn) ∷ []) ∷ ((1, turn) ∷ (2, arm) ∷ []) ∷ [] in
-    map (λ turns. [] ∷ turns) ([] ∷ one 0 0 ∷ one 0 1 ∷ (one 0 0 ++ one 1 0) ∷ (one 0 0 ++ one 1 1) ∷ (one 0 1 ++ one 1 0) ∷ (one 0 1 ++ one 1 1) ∷ [])
+    map
+    (λ turns. [] ∷ turns)
+    ([] ∷ one 0 0 ∷ one 0 1 ∷ (one 0 0 ++ one 1 0) ∷ (one 0 0 ++ one 1 1) ∷ (one 0 1 ++ one 1 0) ∷ (one 0 1 ++ one 1 1) ∷ [])
 unfolding paths
 E4-paths = refl
 
@@ -170,6 +175,11 @@ N2-sizes = refl
 N2-past : (graph twice .places 2 ≡ 0) × (graph twice .loose 2 0 ≡ false) × (map (graph twice .loose 1) (1 ∷ 2 ∷ []) ≡ true ∷ false ∷ [])
 unfolding graph
 N2-past = (refl, refl, refl)
+
+-- N2: the place with this number of the node with this number
+N2-place : _≡_ {A = ℕ × ℕ × ℕ} (elim (placeAt (nodesOf twice) 1 0) [ none ↦ (9, 9, 9) | some s ↦ (s .number, s .place, s .node .program) ]) (1, 0, 1)
+unfolding graph
+N2-place = refl
 
 -- ---- W: the dangerous walk
 

@@ -72,11 +72,11 @@ unfolding many shortForUnfoldings
 short lines area = shortForUnfoldings lines area
 
 -- S20: an area for unfoldings as long as their statements is long enough; one for the walk has 65 steps
-area-enough : short (line Pr ∷ line Lo ∷ line (St Ku) ∷ line En ∷ []) 3 ≡ false
+area-enough : short (line Pr ∷ line Lo ∷ line (St Ku) ∷ line (St Ku) ∷ line En ∷ []) 6 ≡ false
 unfolding short
 area-enough = refl
 
-area-short : short (line Pr ∷ line Lo ∷ line (St Ku) ∷ line En ∷ []) 2 ≡ true
+area-short : short (line Pr ∷ line Lo ∷ line (St Ku) ∷ line (St Ku) ∷ line En ∷ []) 5 ≡ true
 unfolding short
 area-short = refl
 

@@ -53,7 +53,8 @@ refused-accepted : {m n : ℕ} {lines : List Line} → refused m n ≡ accepted 
 refused-accepted e = let wrong : _≡_ {A = ℕ} 0 1 = cc in omega arith
 
 -- P3: the report of a text that is refused
-pub reported-refused : {text bytes : List ℕ} {number line : ℕ} → Report text bytes → read text ≡ refused number line → bytes ≡ refusalReport number line
+pub reported-refused : {text bytes : List ℕ} {number line : ℕ} → Report text bytes → read text ≡ refused number line
+    → bytes ≡ refusalReport number line
 reported-refused (refusal number line r) e = cc
 reported-refused (unfolding-refusal lines r many) e = absurd (refused-accepted (sym e ∙ r))
 reported-refused (robust lines r few none-dangerous) e = absurd (refused-accepted (sym e ∙ r))

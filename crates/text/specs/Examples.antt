@@ -134,7 +134,8 @@ lines-parted : linesIn (bytes "a b\n\n c\nd") ≡ map bytes ("a b" ∷ "" ∷ " 
 unfolding readBytes bytes
 lines-parted = refl
 
-fields-parted : map fieldsIn (map bytes ("a b\nc" ∷ " a  b " ∷ "" ∷ [])) ≡ map (map bytes) (("a" ∷ "b\nc" ∷ []) ∷ ("" ∷ "a" ∷ "" ∷ "b" ∷ "" ∷ []) ∷ ("" ∷ []) ∷ [])
+fields-parted : map fieldsIn (map bytes ("a b\nc" ∷ " a  b " ∷ "" ∷ []))
+    ≡ map (map bytes) (("a" ∷ "b\nc" ∷ []) ∷ ("" ∷ "a" ∷ "" ∷ "b" ∷ "" ∷ []) ∷ ("" ∷ []) ∷ [])
 unfolding readBytes bytes
 fields-parted = refl
 
@@ -322,7 +323,9 @@ statement-kinds = refl
 
 -- T6: the lines of the program at hand: none before the first `pr`
 programs-lines
-    : map program (relations 0 2 ∷ (relations 0 2 ++ programs 0 1 ++ statements 0 2) ∷ (programs 0 1 ++ statements 0 2 ++ programs 1 1 ++ statements 0 1) ∷ [])
+    : map
+    program
+    (relations 0 2 ∷ (relations 0 2 ++ programs 0 1 ++ statements 0 2) ∷ (programs 0 1 ++ statements 0 2 ++ programs 1 1 ++ statements 0 1) ∷ [])
     ≡ [] ∷ statements 0 2 ∷ statements 0 1 ∷ []
 unfolding readBytes relations programs statements
 programs-lines = refl
@@ -346,7 +349,7 @@ blocks-after
 unfolding readBytes shown
 blocks-after = refl
 
--- T8: the blocks open behind lines, and those around a statement
+-- T8: the blocks open after lines, and those around a statement
 blocks-open : let lines = flow Lo ∷ statements 0 1 ++ (flow Br ∷ flow El ∷ statements 1 1) in
     (shown (openBlocks lines) ≡ (2, 2) ∷ (0, 0) ∷ [])
     × (map (λ s. shown (blocksAround lines s)) (0 ∷ 1 ∷ []) ≡ ((0, 0) ∷ []) ∷ ((2, 2) ∷ (0, 0) ∷ []) ∷ [])
@@ -603,7 +606,8 @@ unfolding behind
 parent-of-other-program = refl
 
 -- R6: a line of flow is no statement
-flow-no-statement : map behind ((is0 ∷ lo ∷ en ∷ "li 1 1 0 - - -" ∷ []) ∷ (is0 ∷ lo ∷ en ∷ "li 1 0 1 - - -" ∷ []) ∷ []) ≡ refused 6 10 ∷ refused 6 10 ∷ []
+flow-no-statement : map behind ((is0 ∷ lo ∷ en ∷ "li 1 1 0 - - -" ∷ []) ∷ (is0 ∷ lo ∷ en ∷ "li 1 0 1 - - -" ∷ []) ∷ [])
+    ≡ refused 6 10 ∷ refused 6 10 ∷ []
 unfolding behind
 flow-no-statement = refl
 
@@ -877,7 +881,7 @@ number-fields
 unfolding formed
 number-fields = refl
 
--- R4: an empty field, two dashes, letters or a dash behind a word or a digit, a kind cut short or drawn out
+-- R4: an empty field, two dashes, a letter or a dash after a digit, a kind cut short or drawn out
 not-formed
     : any formed
     (" 0 - - 1 - -"
