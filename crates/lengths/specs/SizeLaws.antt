@@ -12,7 +12,7 @@ use borrow.Author.Tests.{ltb-true, ltb-false, lt-ltb, le-ltb, eqb-true}
 use Rattle.base.specs.BoolLaws.{and-true}
 use Rattle.text.specs.declared.Line.{Line}
 use Rattle.text.specs.Text.{Form, newline, formsOf, wordOf}
-use Rattle.text.specs.Text.Form.{number, set, nothing}
+use Rattle.text.specs.Text.Form.{number, set}
 use Rattle.text.specs.Text.{digit, digitsOf}
 use Rattle.reading.specs.Written.{fieldWritten, fieldsWritten, lineWritten}
 use Rattle.reading.specs.TextLaws.{fits, allFit, lineFits, valuesIn}

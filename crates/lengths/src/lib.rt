@@ -4,12 +4,9 @@ use text::Line;
 ghost use mathlib.Core.Path.{_≡_};
 ghost use Prim.Native.Nat.{_≤_};
 ghost use lib.ListN.{length};
-ghost use Rattle.base.specs.Basic.{all};
-ghost use Rattle.text.specs.declared.LineKind.the-variants.{St};
-ghost use Rattle.text.specs.Text.{formsOf};
 ghost use Rattle.text.specs.Text.{digitsOf};
-ghost use Rattle.reading.specs.TextLaws.{allFit, lineFits, valuesIn};
-ghost use Rattle.lengths.specs.Size.{isZero, sizeOf};
+ghost use Rattle.reading.specs.TextLaws.{lineFits};
+ghost use Rattle.lengths.specs.Size.{valueFits, sizeOf};
 
 fn decimal_digits(n: u8) -> u64
     ensures { λ r. ⌜ (r ≡ length (digitsOf 10 3 n)) × (r ≤ 3) ⌝ }

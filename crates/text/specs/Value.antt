@@ -23,3 +23,7 @@ pub record Given (w : Workload) : Type 0 where
   pub lines : List Line
   pub isRead : read text ≡ accepted lines
   pub value : w ≡ valueOf lines
+
+-- S21: no workload, which a refused text is read into: one line more than there are cells, so no text gives it
+unfoldable pub noWorkload : Workload
+noWorkload = record { count = 1617; lines = replicate 1616 unusedLine }
