@@ -1,3 +1,5 @@
+-- The first edge from slot x on is the first from `from` on: where `look_at` finds none it names a later slot with the same first edge. Past the
+-- last slot there is none (edge-none).
 use mathlib.Core.Path.{_≡_, refl, sym, _∙_}
 use Prim.Native.Nat.{_-_}
 use native.Mathlib.Omega.{arith}

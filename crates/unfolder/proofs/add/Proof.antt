@@ -1,3 +1,4 @@
+-- The cells of program, start and length at the count are set, and count and used places go up, as `added` says.
 use Rattle.unfolder.specs.Table.{added}
 use native.Mathlib.Omega.{arith}
 use mathlib.Core.Path.{_≡_, refl, ap, sym, _∙_}

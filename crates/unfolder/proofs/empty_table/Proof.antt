@@ -1,3 +1,4 @@
+-- No unfolding and cells of zeros are the table of no pieces, by computation.
 use Rattle.unfolder.specs.Result.{cells}
 use Rattle.unfolder.specs.Table.{table, starts}
 use Rattle.choosing.specs.Pieces.{flat}

@@ -1,3 +1,4 @@
+-- The fields of the table with refusal 0 are `tableTold`, by computation.
 use Rattle.unfolder.specs.Steps.{tableTold}
 use borrow.Author.Needs.{needs}
 use native.Mathlib.Omega.{arith}
