@@ -1,5 +1,6 @@
 -- Slots: each row of a table has 1024 slots, two for each row that an edge of it can enter, the forward edge's first.
 -- So a slot's rows and flow are told without dividing by the number of rows. Slots past the table's last row stay empty.
+-- Believed: `flowByte`, `letterByte`, `coded` and `foundAs`.
 use mathlib.Core.Bool.{Bool, cond, _&&_}
 use mathlib.Core.Option.{Option, none, some}
 use mathlib.Core.List.{List}

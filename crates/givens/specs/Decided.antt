@@ -1,4 +1,4 @@
--- S21 decided: what the answer to "does some accepted text give this workload value" means.
+-- S21 decided: what the answer to "does some accepted text give this workload value" means. Believed.
 use mathlib.Core.Bool.{Bool, true, false}
 use mathlib.Core.Path.{_≡_}
 use Rattle.text.specs.declared.Workload.{Workload}

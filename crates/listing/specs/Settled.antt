@@ -1,4 +1,4 @@
--- What the open functions promise for every workload value.
+-- What the open functions promise for every workload value. Believed.
 use mathlib.Core.Bool.{false}
 use mathlib.Core.List.{List, _++_, map}
 use mathlib.Core.Logic.{_⊎_, inl, inr}

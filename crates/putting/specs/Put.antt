@@ -1,4 +1,4 @@
--- Edges by their numbers, and edges put into a list.
+-- Edges by their numbers, and edges put into a list. Believed: `putSaid` and `PutAs`.
 use mathlib.Core.Path.{_≡_}
 use mathlib.Core.Bool.{cond}
 use mathlib.Core.Logic.{_⊎_, inl, inr}

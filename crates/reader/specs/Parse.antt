@@ -1,4 +1,4 @@
--- What reading a text answers, and the steps of the code that reads it.
+-- What reading a text answers, and the steps of the code that reads it. Believed: `parsedAs`.
 use mathlib.Core.Bool.{cond}
 use mathlib.Core.List.{List, []}
 use mathlib.Core.Option.{Option, none, some}

@@ -1,4 +1,4 @@
--- What the printed word `robust` is worth.
+-- What the printed word `robust` is worth. Believed: its first part, up to `Promised`.
 --
 -- Take any text, and any bytes that are a report of it; `reporter::report_of` prints nothing else. Look at the second line of the report. If it
 -- begins with the word `robust`, then the text is a lawful workload, and whatever schedule its programs run through under Read Committed, there is

@@ -1,4 +1,4 @@
--- What the printed report of a text is.
+-- What the printed report of a text is. Believed: `Reported`.
 use mathlib.Core.List.{List}
 use mathlib.Core.Path.{_≡_}
 use Prim.Native.Nat.{ℕ, _-_, _≤_}

@@ -1,4 +1,4 @@
--- What the exports answer, as one number each. Bit 31 tells a refusal; then its number and its line follow.
+-- What the exports answer, as one number each. Bit 31 tells a refusal; then its number and its line follow. Believed.
 use mathlib.Core.Bool.{cond}
 use mathlib.Core.List.{List}
 use mathlib.Core.Path.{_≡_}

@@ -1,4 +1,4 @@
--- What the export of a text's edges answers, and what the caller's list holds afterwards.
+-- What the export of a text's edges answers, and what the caller's list holds afterwards. Believed.
 use mathlib.Core.Bool.{true, false}
 use mathlib.Core.List.{List, _++_, map}
 use mathlib.Core.Logic.{_⊎_, inl, inr}

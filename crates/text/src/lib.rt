@@ -1,4 +1,4 @@
-// The workload value: what a text is read into, as the values of its lines.
+// The workload value: what a text is read into, as the values of its lines. Believed.
 
 // The seven kinds of statement.
 pub enum StatementKind {

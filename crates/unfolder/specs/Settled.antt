@@ -1,4 +1,4 @@
--- What the open functions promise for every workload value and every area.
+-- What the open functions promise for every workload value and every area. Believed.
 use mathlib.Core.List.{List, _++_}
 use mathlib.Core.Option.{none, some}
 use mathlib.Core.Path.{_≡_}
