@@ -6,7 +6,8 @@ use Rattle.answering.specs.declared.Answer.{Answer}
 use Rattle.answering.specs.declared.Answer.the-variants.{Shown, Cut, Unread}
 use Rattle.answering.specs.Shown.{Came}
 
--- of an area of so many bytes: a report was handed to standard output, whole or cut, where no read failed; none was where one failed
+-- of an area of so many bytes, what the answer tells of its reads: none failed where a report was shown, whole or cut; one failed where none
+-- was shown. That the report was written is no part of it: C's contracts say nothing of bytes.
 abbrev pub Answered : ℕ → Answer → Type 0
 Answered size (Shown read) = Ends size read × Came read
 Answered size (Cut read) = Ends size read × Came read

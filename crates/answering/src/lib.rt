@@ -1,9 +1,9 @@
 // What the program `verdict` does: standard input is read into an area, and its report is handed to standard output. The programs that
 // the gate runs, one for each sort of report, call this and nothing else.
 //
-// Proved: what is handed to standard output is a report of the text that was read, and nothing is where a read failed (`show`, the one
-// function that writes there). Tested only (outside/): which bytes C's read puts into the area, that its answers are the system's, and what
-// becomes of the bytes handed to C's write; its contract says nothing of them.
+// Proved: `show` is called only with a report of the text that was read, and never where a read failed. Seen in these lines and tested
+// (outside/), since C's contracts tie no bytes to a descriptor: that `show` alone writes to standard output, that nothing here changes the
+// area after it was read, which bytes C's read puts there, that its answers are the system's, and what becomes of what C's write is handed.
 use input::Input;
 use libc::STDERR_FILENO;
 use libc::STDOUT_FILENO;

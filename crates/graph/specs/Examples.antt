@@ -9,15 +9,34 @@ use lib.ListN.{replicate}
 use Rattle.base.specs.Basic.{numbers}
 use Rattle.text.specs.declared.Line.{Line}
 use Rattle.text.specs.declared.LineKind.the-variants.{St}
-use Rattle.text.specs.declared.StatementKind.the-variants.{Pu}
+use Rattle.text.specs.declared.StatementKind.the-variants.{Ks, Pu}
 use Rattle.graph.specs.Graph.{Flow}
-use Rattle.graph.specs.Program.{statementOf, runOf, programsOf}
-use Rattle.graph.specs.Program.Run.{done}
-use Rattle.graph.specs.Unfolding.{Around, nodesOf}
+use Rattle.graph.specs.Program.{Run, statementOf, runOf, programsOf}
+use Rattle.graph.specs.Program.Run.{done, next}
+use Rattle.graph.specs.Program.Item.{statement, loop, branch}
+use Rattle.graph.specs.Unfolding.{Around, occurrences, nodesOf}
+use Rattle.graph.specs.Unfolding.Execution.{end, step as then}
+use Rattle.graph.specs.Unfolding.ItemExecution.{perform, turns, arm-one, arm-two}
+use Rattle.graph.specs.Unfolding.Turns.{stop, turn}
 use Rattle.graph.specs.Edge.{leads, placeAt}
 use Rattle.graph.specs.Walk.{Step, isDangerous}
 use Rattle.graph.specs.ExampleText.{line, rl, fk, pr, is, ks, ps, ku, pu, kd, pd, lo, br, el, en, li, step}
 use Rattle.graph.specs.ExampleText.{nodes, ids, graph, dangerous, sizes, base, twice, select-first}
+
+-- ---- H1: executions
+
+abbrev one : ℕ → Run
+one i = next (statement (statementOf Ks (ks i 0 1))) done
+
+-- H1: a loop turns any number of times, here three times, and takes either arm of a branch afresh in each turn
+H1-three-turns : map (λ o. o .statement .id)
+    (occurrences {r = next (loop (next (branch (one 0) (one 1)) done)) done}
+    (then (turns (turn (then (arm-two (then perform end)) end)
+    (turn (then (arm-one (then perform end)) end) (turn (then (arm-two (then perform end)) end) stop)))) end)
+    0)
+    ≡ 1 ∷ 0 ∷ 1 ∷ []
+unfolding nodes
+H1-three-turns = refl
 
 -- ---- T5, T6: statements, links and programs of lines
 
