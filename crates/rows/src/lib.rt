@@ -359,8 +359,8 @@ fn put_places(
     table: &mut [u64],
 ) -> usize
     requires { ⌜ (start + n) * 8 ≤ length (now table) ⌝ }
-    ensures { λ r. ⌜ (now (table .exit) ≡ putAt (now (table .entry)) (start * 8) (nodeRows (now (lines .entry)) first node (now (words .entry)) start n))
-        × (r ≡ start + n) ⌝ }
+    ensures { λ r. ⌜ (now (table .exit)
+        ≡ putAt (now (table .entry)) (start * 8) (nodeRows (now (lines .entry)) first node (now (words .entry)) start n)) × (r ≡ start + n) ⌝ }
 {
     let mut i: usize = 0;
     while i < n {
