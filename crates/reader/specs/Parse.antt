@@ -3,7 +3,7 @@ use mathlib.Core.Bool.{cond}
 use mathlib.Core.List.{List, []}
 use mathlib.Core.Option.{Option, none, some}
 use mathlib.Core.Path.{_≡_}
-use Prim.Native.Nat.{ℕ, suc, _+_}
+use Prim.Native.Nat.{ℕ, suc, _+_, _≤_}
 use lib.Dec.{eqb}
 use lib.ListN.{length, drop, replicate}
 use Rattle.text.specs.declared.Line.{Line}
@@ -16,6 +16,7 @@ use Rattle.kept.specs.Records.{State}
 use Rattle.kept.specs.Kept.{checkOf}
 use Rattle.kept.specs.Words.{stateIn, Taken}
 use Rattle.readstate.specs.Words.{HoldsWords}
+use Rattle.lines.specs.Going.{goneThrough}
 use Rattle.reader.specs.declared.Parsed.{Parsed}
 use Rattle.reader.specs.declared.Seen.{Seen}
 use Rattle.reader.specs.declared.Whole.{Whole}
@@ -54,10 +55,13 @@ pub record Saw (before : List ℕ) (o : Option Line) (after : List ℕ) (r : See
   pub value : r .number ≡ 0 → o ≡ some (r .line)
   pub taken : r .number ≡ 0 → Taken before (r .line) after
 
--- between two lines: these were taken, the value and the words hold them, and what is read is what the lines left give behind them
+-- between two lines: these were taken, the value and the words hold them, and what is read is what the lines that the reader still comes to,
+-- in steps that are enough for the bytes left, give after them
 pub record Going (text : List ℕ) (start : ℕ) (w : Workload) (words : List ℕ) (at line : ℕ) : Type 0 where
   pub before : List Line
   pub work : w ≡ valueOf before
   pub holds : HoldsWords words before
   pub number : line ≡ length before + 2
-  pub reads : readLines before (linesIn (drop at text)) ≡ readLines [] (linesIn (drop start text))
+  pub steps : ℕ
+  pub enough : length text ≤ at + steps
+  pub reads : readLines before (goneThrough steps text at line) ≡ readLines [] (linesIn (drop start text))

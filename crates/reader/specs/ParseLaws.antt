@@ -3,7 +3,7 @@ use mathlib.Core.Path.{_≡_, refl, sym, ap, ap₂, subst, _∙_}
 use mathlib.Core.Bool.{Bool, true, false, cond, _&&_}
 use mathlib.Core.List.{List, [], _∷_, _++_, tail, headD, append-assoc}
 use mathlib.Core.Option.{Option, none, some}
-use Prim.Native.Nat.{ℕ, suc, _+_, _-_, _≤_, _<_}
+use Prim.Native.Nat.{ℕ, zero, suc, _+_, _-_, _≤_, _<_}
 use native.Mathlib.Omega.{arith}
 use native.Mathlib.Numerals.{add-one}
 use native.Mathlib.Nat.{not-suc-le-zero}
@@ -27,7 +27,10 @@ use Rattle.readstate.specs.WordsLaws.{words-take}
 use Rattle.reader.specs.declared.Parsed.{Parsed}
 use Rattle.reader.specs.declared.Seen.{Seen}
 use Rattle.lines.specs.declared.Span.{Span}
-use Rattle.lines.specs.Going.{bytesOf, Came}
+use Rattle.lines.specs.declared.Step.the-variants.{Line as AtLine, End as AtEnd}
+use Rattle.lines.specs.Span.{lineAt}
+use Rattle.lines.specs.Going.{bytesOf, goneThrough}
+use Rattle.lines.specs.GoingLaws.{came, gone-through}
 use Rattle.reader.specs.Parse.{parsedAs, unusedCells, lineOr, lineBehindByte, numberOf, Saw, Going}
 
 -- ---- bytes
@@ -280,10 +283,35 @@ endsLine-none (b ∷ text) h = absurd (omega arith)
 
 -- ---- between two lines
 
+-- the reader comes to a line: the first of those that it comes to; the others are those that it comes to from the next place on
+gone-line : (steps : ℕ) (text : List ℕ) (at line : ℕ) {span : Span} → AtLine span ≡ lineAt text at line → length text ≤ at + steps
+    → goneThrough steps text at line ≡ bytesOf text span ∷ goneThrough (steps - 1) text (span .next) (span .behind)
+unfolding goneThrough
+gone-line zero text at line e h = let here = came text at line e in absurd (omega arith)
+gone-line (suc steps) text at line {span} e h =
+    let less : steps ≡ suc steps - 1 = omega arith in
+    rw (← e, goneThrough) (ap (λ k. bytesOf text span ∷ goneThrough k text (span .next) (span .behind)) less)
+
+-- it comes to the end: it comes to no line more
+gone-end : (steps : ℕ) (text : List ℕ) (at line : ℕ) → AtEnd ≡ lineAt text at line → goneThrough steps text at line ≡ []
+unfolding goneThrough
+gone-end zero text at line e = refl
+gone-end (suc steps) text at line e = rw (← e, goneThrough) refl
+
+-- at the start the lines that the reader comes to are the lines of the text from there on
 pub going-first : (text : List ℕ) (start : ℕ) {w : Workload} {words : List ℕ} → w ≡ unusedCells 0 → HoldsWords words []
     → Going text start w words start 2
 unfolding valueOf
-going-first text start w h = record { before = []; work = w; holds = h; number = refl; reads = refl }
+going-first text start w h =
+    record {
+      before = [];
+      work = w;
+      holds = h;
+      number = refl;
+      steps = length text;
+      enough = omega arith;
+      reads = ap (readLines []) (gone-through (length text) text start 2 (omega arith));
+    }
 
 pub going-few : {text words : List ℕ} {start at line : ℕ} {w : Workload} → Going text start w words at line
     → (w .count ≤ 1616) × (line ≡ w .count + 2)
@@ -294,13 +322,14 @@ going-few {words = words} g =
     (omega (arith, few, same), omega (arith, line, same))
 
 pub going-refused : {text words after : List ℕ} {start at line : ℕ} {w : Workload} {r : Seen} {span : Span} → Going text start w words at line
-    → Came text at line span → Saw words (lineOf (bytesOf text span)) after r → (r .number ≡ 0 → ⊥)
+    → AtLine span ≡ lineAt text at line → Saw words (lineOf (bytesOf text span)) after r → (r .number ≡ 0 → ⊥)
     → refused (r .number) line ≡ readLines [] (linesIn (drop start text))
-going-refused {text} {words} {r = r} {span = span} g here saw z =
+going-refused {text} {words} {at = at} {line = line} {r = r} {span = span} g here saw z =
     ap (refused (r .number)) (g .number)
     ∙ sym
-    (line-refused (g .before) (stateIn words) (r .number) (bytesOf text span) (linesIn (drop (span .next) text)) (g .holds .state) (saw .number) z)
-    ∙ ap (readLines (g .before)) (sym (here .lines))
+    (line-refused (g .before) (stateIn words) (r .number) (bytesOf text span) (goneThrough (g .steps - 1) text (span .next) (span .behind))
+    (g .holds .state) (saw .number) z)
+    ∙ ap (readLines (g .before)) (sym (gone-line (g .steps) text at line here (g .enough)))
     ∙ g .reads
 
 -- the line taken
@@ -319,9 +348,11 @@ going-room {words = words} {after = after} {r = r} g saw z =
     omega (arith, few, same, length-append (g .before) (r .line ∷ []))
 
 pub going-next : {text words after : List ℕ} {start at line : ℕ} {w : Workload} {r : Seen} {span : Span} (g : Going text start w words at line)
-    → Came text at line span → Saw words (lineOf (bytesOf text span)) after r → r .number ≡ 0
+    → AtLine span ≡ lineAt text at line → Saw words (lineOf (bytesOf text span)) after r → r .number ≡ 0
     → Going text start (record { count = w .count + 1; lines = set (w .lines) (w .count) (r .line) }) after (span .next) (span .behind)
-going-next {text} {line = line} {w = w} {r = r} {span = span} g here saw z =
+going-next {text} {at = at} {line = line} {w = w} {r = r} {span = span} g here saw z =
+    let there = came text at line here in
+    let more = g .enough in
     let few = going-few g in
     let room = going-room g saw z in
     let same = ap (λ (x : Workload). x .count) (g .work) ∙ value-count (g .before) in
@@ -332,13 +363,16 @@ going-next {text} {line = line} {w = w} {r = r} {span = span} g here saw z =
           ∙ appended-value (g .before) (r .line) (omega arith);
       holds = words-take (saw .taken z) (g .before) (g .holds) (passes g saw z);
       number =
-          here .number (omega (arith, few .0, few .1))
+          there .number (omega (arith, few .0, few .1))
           ∙ ap (λ m. m + 1) (g .number)
           ∙ omega (arith, length-append (g .before) (r .line ∷ []));
+      steps = g .steps - 1;
+      enough = let further = there .further in omega arith;
       reads =
           sym
-          (line-taken (g .before) (r .line) (bytesOf text span) (linesIn (drop (span .next) text)) (saw .value z) (passes g saw z))
-          ∙ ap (readLines (g .before)) (sym (here .lines))
+          (line-taken (g .before) (r .line) (bytesOf text span) (goneThrough (g .steps - 1) text (span .next) (span .behind)) (saw .value z)
+          (passes g saw z))
+          ∙ ap (readLines (g .before)) (sym (gone-line (g .steps) text at line here (g .enough)))
           ∙ g .reads;
     }
 
@@ -348,26 +382,26 @@ end-reads : (before : List Line) {lines : List (List ℕ)} → lines ≡ []
 unfolding readLines
 end-reads before h = ap (readLines before) h
 
-pub going-open : {text words : List ℕ} {start at line d : ℕ} {w : Workload} (g : Going text start w words at line) → linesIn (drop at text) ≡ []
+pub going-open : {text words : List ℕ} {start at line d : ℕ} {w : Workload} (g : Going text start w words at line) → AtEnd ≡ lineAt text at line
     → ((lines : List Line) → HoldsWords words lines → noneOpen lines ≡ eqb d 0) → (d ≡ 0 → ⊥)
     → refused 7 (line - 1) ≡ readLines [] (linesIn (drop start text))
-going-open {line = line} {d = d} g h open-blocks z =
+going-open {text} {at = at} {line = line} {d = d} g h open-blocks z =
     let number = g .number in
     let less : line - 1 ≡ length (g .before) + 1 = omega arith in
     ap (refused 7) less
-    ∙ sym (end-reads (g .before) h
+    ∙ sym (end-reads (g .before) (gone-end (g .steps) text at line h)
     ∙ ap {B = Outcome} (λ t. elim t [ true ↦ accepted (g .before) | false ↦ refused 7 (length (g .before) + 1) ])
     (open-blocks (g .before) (g .holds) ∙ ne-eqb d 0 z))
     ∙ g .reads
 
-pub going-closed : {text words : List ℕ} {start at line d : ℕ} {w : Workload} (g : Going text start w words at line) → linesIn (drop at text) ≡ []
+pub going-closed : {text words : List ℕ} {start at line d : ℕ} {w : Workload} (g : Going text start w words at line) → AtEnd ≡ lineAt text at line
     → ((lines : List Line) → HoldsWords words lines → noneOpen lines ≡ eqb d 0) → d ≡ 0
     → _≡_ {A = Parsed} (record { work = w; number = 0; line = 0 }) (parsedAs (readLines [] (linesIn (drop start text))))
 unfolding parsedAs
-going-closed {d = d} g h open-blocks z =
+going-closed {text} {at = at} {line = line} {d = d} g h open-blocks z =
     ap {B = Parsed} (λ (x : Workload). record { work = x; number = 0; line = 0 }) (g .work)
     ∙ ap parsedAs
-    (sym (end-reads (g .before) h
+    (sym (end-reads (g .before) (gone-end (g .steps) text at line h)
     ∙ ap {B = Outcome} (λ t. elim t [ true ↦ accepted (g .before) | false ↦ refused 7 (length (g .before) + 1) ])
     (open-blocks (g .before) (g .holds) ∙ eq-eqb d 0 z))
     ∙ g .reads)

@@ -1,14 +1,14 @@
--- Each line that the reader comes to is the first of those left (`came`): a fault ends reading with its number, else the line is taken and
--- those left stand from the next place on; where the reader comes to the end none is left (`ended`).
+-- The lines that the reader comes to, each where the line before it says, are the lines of the text (`gone-through`): at each a fault ends
+-- reading with its number, else the line is taken and the reader goes on from the next place; at the end it comes to no line more.
 use mathlib.Core.Path.{_≡_, sym, ap, _∙_}
-use mathlib.Core.List.{[]}
 use native.Mathlib.Omega.{arith}
 use Prim.Native.Nat.{ℕ, _-_}
-use lib.ListN.{length, drop, length-replicate}
+use lib.ListN.{length, length-replicate}
 use borrow.Author.Needs.{needs}
-use Rattle.text.specs.Text.{linesIn}
+use Rattle.lines.specs.declared.Step.the-variants.{Line as AtLine, End as AtEnd}
+use Rattle.lines.specs.Span.{lineAt}
 use Rattle.lines.specs.Going.{Came}
-use Rattle.lines.specs.GoingLaws.{came, ended}
+use Rattle.lines.specs.GoingLaws.{came}
 use Rattle.reader.specs.Parse.{parsedAs, Going}
 use Rattle.reader.specs.ParseLaws.{going-first, going-few, going-refused, going-room, going-next, going-open, going-closed}
 use Rattle.reader.proofs.read_lines.Statement.{statement}
@@ -21,16 +21,22 @@ abbrev μ-loop : tie.MeasureT-loop
 μ-loop text start w₀ words₀ at₀ line₀ w words at line = length text - at
 
 -- where the reader has come to a line
+line-at : (c : tie.After-known-told Inv-loop μ-loop) → AtLine (c .before .span .given .0 .0)
+    ≡ lineAt (c .before .before .before .before .before .before .before .before .before .before .args .text .now)
+    (c .before .before .before .before .loop .at) (c .before .before .before .before .loop .line)
+line-at c = sym (c .before .span .given .1) ∙ c .before .before .before .line-from .ensures
+
+-- what that line is
 came-at : (c : tie.After-known-told Inv-loop μ-loop)
     → Came (c .before .before .before .before .before .before .before .before .before .before .args .text .now)
     (c .before .before .before .before .loop .at) (c .before .before .before .before .loop .line) (c .before .span .given .0 .0)
-came-at c = came _ _ _ (sym (c .before .span .given .1) ∙ c .before .before .before .line-from .ensures)
+came-at c = came _ _ _ (line-at c)
 
 -- where it has come to the end
-ended-at : (c : tie.After-enum-told Inv-loop μ-loop)
-    → linesIn (drop (c .before .before .before .loop .at)
-    (c .before .before .before .before .before .before .before .before .before .args .text .now)) ≡ []
-ended-at c = ended _ _ _ (sym (c .enum-told .given .1) ∙ c .before .before .line-from .ensures)
+end-at : (c : tie.After-enum-told Inv-loop μ-loop) → AtEnd
+    ≡ lineAt (c .before .before .before .before .before .before .before .before .before .args .text .now)
+    (c .before .before .before .loop .at) (c .before .before .before .loop .line)
+end-at c = sym (c .enum-told .given .1) ∙ c .before .before .line-from .ensures
 
 unused-cells-requires : tie.Need-unused-cells-requires Inv-loop μ-loop
 unused-cells-requires c κs = search needs
@@ -81,7 +87,7 @@ returns c =
     c .refused .ensures
     ∙ ap parsedAs
     (going-refused (c .before .before .before .before .before .before .before .before .before .before .loop .inv .1)
-    (came-at (c .before .before .before .before .before .before)) (c .before .before .before .see-bytes .ensures) (c .before .if1 .taken))
+    (line-at (c .before .before .before .before .before .before)) (c .before .before .before .see-bytes .ensures) (c .before .if1 .taken))
 
 mul-l : tie.Need-mul-l Inv-loop μ-loop
 mul-l c = omega (
@@ -111,7 +117,7 @@ loop-again : tie.Need-loop-again Inv-loop μ-loop
 loop-again c = (
   search needs,
   going-next (c .before .before .before .before .before .before .before .before .before .before .loop .inv .1)
-      (came-at (c .before .before .before .before .before .before)) (c .before .before .before .see-bytes .ensures) (c .before .if1 .left),
+      (line-at (c .before .before .before .before .before .before)) (c .before .before .before .see-bytes .ensures) (c .before .if1 .left),
 )
 
 slice-aggregate-depth : tie.Need-slice-aggregate-depth Inv-loop μ-loop
@@ -130,12 +136,12 @@ returns-2 : tie.Need-returns-2 Inv-loop μ-loop
 returns-2 c =
     c .refused2 .ensures
     ∙ ap parsedAs
-    (going-open (c .before .before .before .before .before .before .before .loop .inv .1) (ended-at (c .before .before .before .before))
+    (going-open (c .before .before .before .before .before .before .before .loop .inv .1) (end-at (c .before .before .before .before))
     (c .before .before .depth .ensures .1) (c .before .if2 .taken))
 
 returns-3 : tie.Need-returns-3 Inv-loop μ-loop
 returns-3 c =
-    going-closed (c .before .before .before .before .before .before .loop .inv .1) (ended-at (c .before .before .before))
+    going-closed (c .before .before .before .before .before .before .loop .inv .1) (end-at (c .before .before .before))
     (c .before .depth .ensures .1) (c .if2 .left)
 
 pub read-lines-spec : {M : Type 1} → statement M
