@@ -12,7 +12,7 @@ use lib.ListN.{length, getD, take, drop, replicate, length-append, length-drop, 
 use lib.Seq.{take-suc, drop-cons, getD-take, take-take, length-take-le}
 use borrow.Author.Tests.{eqb-true, leb-true, leb-false, eq-eqb, ne-eqb}
 use Rattle.base.specs.Basic.{all}
-use Rattle.base.specs.BoolLaws.{and-true, and-of, true-false, true-of}
+use Rattle.base.specs.BoolLaws.{and-true, and-of, true-false}
 use Rattle.text.specs.declared.Line.{Line}
 use Rattle.text.specs.declared.LineKind.{LineKind}
 use Rattle.text.specs.declared.LineKind.the-variants.{Rl, Fk, Pr, St, Lo, Br, El, En, Li}
@@ -25,7 +25,7 @@ use Rattle.reading.specs.TextLaws.{fits, lineFits}
 use Rattle.writing.specs.Givens.{SoundLines, SoundValue, sound-given, given-sound}
 use Rattle.readstate.specs.Holds.{faultOf}
 use Rattle.lengths.specs.Size.{sizeOf}
-use Rattle.lengths.specs.SizeLaws.{size-fits, size-unfit, size-small}
+use Rattle.lengths.specs.SizeLaws.{unfit-none, size-told}
 use Rattle.givens.specs.Decided.{Decided}
 use Rattle.readstate.specs.Words.{HoldsWords}
 use Rattle.givens.specs.Steps.{isEnd, isEmpty, Stepped, Measured}
@@ -172,19 +172,13 @@ size-decides w r cells fit rest m other = go (leb r 32768) refl
 
 -- ---- a line
 
-size-zero : (l : Line) → sizeOf l ≡ 0 → lineFits l ≡ true → ⊥
-size-zero l e f = omega (arith, size-fits l f .0)
-
-size-some : (l : Line) → (sizeOf l ≡ 0 → ⊥) → lineFits l ≡ true
-size-some l h = true-of (lineFits l) (λ e. h (size-unfit l e))
-
 -- the line does not fit
-pub step-unfit : (words : List ℕ) (l : Line) → sizeOf l ≡ 0 → Stepped words l 0 words
+pub step-unfit : (words : List ℕ) (l : Line) → sizeOf l ≡ none → Stepped words l 0 words
 step-unfit words l e =
     record {
       size = refl;
       small = omega arith;
-      wrong = λ lines h q f p. size-zero l e f;
+      wrong = λ lines h q f p. unfit-none l e f;
       fits = λ lines h some. absurd (some refl);
       passes = λ lines h some. absurd (some refl);
       bytes = λ lines h some. absurd (some refl);
@@ -208,19 +202,20 @@ step-fault words l number other told =
     }
 
 -- the line is taken
-pub step-taken : (words after : List ℕ) (l : Line) (number : ℕ) → length after ≡ length words → (sizeOf l ≡ 0 → ⊥) → number ≡ 0
+pub step-taken : (words after : List ℕ) (l : Line) (size number : ℕ) → length after ≡ length words → sizeOf l ≡ Option.some size → number ≡ 0
     → ((lines : List Line) → HoldsWords words lines → faultOf number ≡ fault lines l)
     → ((lines : List Line) → HoldsWords words lines → fault lines l ≡ none → HoldsWords after (lines ++ (l ∷ [])))
-    → Stepped words l (sizeOf l) after
+    → Stepped words l size after
 unfolding faultOf
-step-taken words after l number same some zero-number told taken =
+step-taken words after l size number same is zero-number told taken =
+    let sized = size-told l size is in
     record {
       size = same;
-      small = size-small l;
-      wrong = λ lines h q. absurd (some q);
-      fits = λ lines h q. size-some l some;
+      small = sized .most;
+      wrong = λ lines h q. absurd (omega (arith, sized .least));
+      fits = λ lines h q. sized .fits;
       passes = λ lines h q. passes lines h;
-      bytes = λ lines h q. size-fits l (size-some l some) .1;
+      bytes = λ lines h q. sized .bytes;
       holds = λ lines h q. taken lines h (passes lines h);
     }
   where

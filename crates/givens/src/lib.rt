@@ -1,4 +1,5 @@
 // S21 decided: whether some accepted text gives a workload value.
+use lengths::LineSize;
 use text::Line;
 use text::LineKind;
 use text::Workload;
@@ -60,16 +61,20 @@ fn rest_empty(w: Workload) -> bool
 fn step(words: &mut [u64], l: Line) -> u64
     ensures { λ r. ⌜ Stepped (now (words .entry)) l r (now (words .exit)) ⌝ }
 {
-    let size = lengths::line_size(l);
-    if size == 0 {
-        return 0;
+    let found = lengths::line_size(l);
+    match found {
+        LineSize::Unfit => {
+            return 0;
+        }
+        LineSize::Bytes(size) => {
+            let number = readstate::check(words, l);
+            if number != 0 {
+                return 0;
+            }
+            readstate::take(words, l);
+            return size;
+        }
     }
-    let number = readstate::check(words, l);
-    if number != 0 {
-        return 0;
-    }
-    readstate::take(words, l);
-    size
 }
 
 // The bytes of the lines' text, or 0 where a line does not fit or has a fault, or a block is open at the end. The names line and its

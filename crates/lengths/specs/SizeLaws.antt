@@ -1,6 +1,7 @@
 -- How many digits a number is written with, and how many bytes a line.
 use mathlib.Core.Bool.{Bool, true, false, not, _&&_, _||_}
 use mathlib.Core.List.{List, [], _∷_, _++_}
+use mathlib.Core.Option.{none, some, Option·none-ne-some}
 use mathlib.Core.Path.{_≡_, refl, sym, ap, subst, _∙_}
 use Prim.Native.Nat.{ℕ, zero, suc, _+_, _*_, _-_, _/_, _%_, _^_, _≤_, _<_}
 use native.Mathlib.Omega.{arith}
@@ -245,28 +246,46 @@ width-of l e =
       length-append (wordOf (l .kind)) (fieldsWritten (formsOf (l .kind)) (valuesIn l)),
     )
 
--- a line that fits has at least 9 bytes and at most 66
-pub size-fits : (l : Line) → lineFits l ≡ true → (sizeOf l ≡ 9 + digitCount l) × (sizeOf l ≡ length (lineWritten l))
+-- a line that fits has these bytes, and one that does not has none
+pub size-fits : (l : Line) → lineFits l ≡ true → sizeOf l ≡ some (9 + digitCount l)
 unfolding sizeOf
-size-fits l e = (rw (e, sizeOf) (width-of l e), rw (e, sizeOf))
+size-fits l e = rw (e, sizeOf) (ap some (width-of l e))
 
-pub size-unfit : (l : Line) → lineFits l ≡ false → sizeOf l ≡ 0
+pub size-unfit : (l : Line) → lineFits l ≡ false → sizeOf l ≡ none
 unfolding sizeOf
 size-unfit l e = rw (e, sizeOf)
 
-pub size-small : (l : Line) → sizeOf l ≤ 66
-size-small l = go (lineFits l) refl
+-- a line without a size does not fit
+pub unfit-none : (l : Line) → sizeOf l ≡ none → lineFits l ≡ true → ⊥
+unfit-none l e f = Option·none-ne-some (9 + digitCount l) (sym e ∙ size-fits l f)
+
+-- a line with a size fits; it has at least 9 bytes and at most 66
+pub record Sized (l : Line) (n : ℕ) : Type 0 where
+  pub fits : lineFits l ≡ true
+  pub bytes : n ≡ length (lineWritten l)
+  pub least : 9 ≤ n
+  pub most : n ≤ 66
+
+pub size-told : (l : Line) (n : ℕ) → sizeOf l ≡ some n → Sized l n
+size-told l n s = go (lineFits l) refl
   where
-    go : (t : Bool) → lineFits l ≡ t → sizeOf l ≤ 66
+    go : (t : Bool) → lineFits l ≡ t → Sized l n
     go true e =
-        omega (
-          arith,
-          size-fits l e .0,
-          digits-most 10 3 (l .id),
-          digits-most 10 3 (l .rel),
-          digits-most 10 3 (l .to),
-          digits-most 16 16 (l .reads),
-          digits-most 16 16 (l .writes),
-          digits-most 16 16 (l .tests),
-        )
-    go false e = omega (arith, size-unfit l e)
+        let fit = size-fits l e in
+        let told : n ≡ 9 + digitCount l = cc in
+        record {
+          fits = e;
+          bytes = told ∙ sym (width-of l e);
+          least = omega arith;
+          most =
+              omega (
+                arith,
+                digits-most 10 3 (l .id),
+                digits-most 10 3 (l .rel),
+                digits-most 10 3 (l .to),
+                digits-most 16 16 (l .reads),
+                digits-most 16 16 (l .writes),
+                digits-most 16 16 (l .tests),
+              );
+        }
+    go false e = absurd (Option·none-ne-some n (sym (size-unfit l e) ∙ s))

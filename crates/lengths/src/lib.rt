@@ -6,7 +6,13 @@ ghost use Prim.Native.Nat.{_≤_};
 ghost use lib.ListN.{length};
 ghost use Rattle.text.specs.Text.{digitsOf};
 ghost use Rattle.reading.specs.TextLaws.{lineFits};
-ghost use Rattle.lengths.specs.Size.{valueFits, sizeOf};
+ghost use Rattle.lengths.specs.Size.{valueFits, sizeSaid, sizeOf};
+
+// The bytes that a line is written with, or that a value does not fit its field.
+pub enum LineSize {
+    Bytes(u64),
+    Unfit,
+}
 
 fn decimal_digits(n: u8) -> u64
     ensures { λ r. ⌜ (r ≡ length (digitsOf 10 3 n)) × (r ≤ 3) ⌝ }
@@ -53,17 +59,18 @@ fn line_fits(l: Line) -> bool
     (id & rel & to) & (reads & writes & tests)
 }
 
-// The bytes that the line is written with, 0 where a value does not fit. What is not there is written as one byte, as 0 is: so in a line
+// The bytes that the line is written with, if its values fit. What is not there is written as one byte, as 0 is: so in a line
 // that fits each field takes up the digits of its value.
-pub fn line_size(l: Line) -> u64
-    ensures { λ r. ⌜ r ≡ sizeOf l ⌝ }
+pub fn line_size(l: Line) -> LineSize
+    ensures { λ r. ⌜ sizeSaid r ≡ sizeOf l ⌝ }
 {
     if !line_fits(l) {
-        return 0;
+        return LineSize::Unfit;
     }
     let numbers = decimal_digits(l.id) + decimal_digits(l.rel) + decimal_digits(l.to);
     let sets = hexadecimal_digits(l.reads)
         + hexadecimal_digits(l.writes)
         + hexadecimal_digits(l.tests);
-    9 + numbers + sets
+    let bytes = 9 + numbers + sets;
+    LineSize::Bytes(bytes)
 }

@@ -1,9 +1,11 @@
--- A line that does not fit has size 0 (size-unfit); one that fits has the digits of its six values and 9 bytes more: the word, six spaces, the
+-- A line that does not fit has no size (size-unfit); one that fits has the digits of its six values and 9 bytes more: the word, six spaces, the
 -- line end (size-fits).
 use borrow.Author.Tests.{not-true, not-false}
+use Rattle.lengths.specs.Size.{sizeSaid}
 use Rattle.lengths.specs.SizeLaws.{size-fits, size-unfit}
 use native.Mathlib.Omega.{arith}
-use mathlib.Core.Path.{sym, _∙_}
+use mathlib.Core.Option.{some}
+use mathlib.Core.Path.{sym, ap, _∙_}
 use borrow.Author.Needs.{needs}
 use Rattle.lengths.proofs.line_size.Statement.{statement}
 use Rattle.lengths.proofs.line_size.Tie as tie
@@ -12,6 +14,7 @@ line-fits-requires : tie.Need-line-fits-requires
 line-fits-requires c κs = search needs
 
 returns : tie.Need-returns
+unfolding sizeSaid
 returns c = sym (size-unfit _ (sym (c .before .line-fits .ensures) ∙ not-true _ (c .if1 .taken)))
 
 decimal-digits-requires : tie.Need-decimal-digits-requires
@@ -44,17 +47,18 @@ hexadecimal-digits-requires-3 c κs = search needs
 add-sets-2 : tie.Need-add-sets-2
 add-sets-2 c = search needs
 
-add-result : tie.Need-add-result
-add-result c = search needs
+add-bytes : tie.Need-add-bytes
+add-bytes c = search needs
 
-add-result-2 : tie.Need-add-result-2
-add-result-2 c = search needs
+add-bytes-2 : tie.Need-add-bytes-2
+add-bytes-2 c = search needs
 
 returns-2 : tie.Need-returns-2
+unfolding sizeSaid
 returns-2 c =
     let tested = c .before .before .before .before .before .before .before in
     let fit = sym (tested .line-fits .ensures) ∙ not-false _ (c .before .before .before .before .before .before .if1 .left) in
-    omega (arith, size-fits (tested .before .args .l) fit .0)
+    ap some (omega arith) ∙ sym (size-fits (tested .before .args .l) fit)
 
 pub line-size-spec : {M : Type 1} → statement M
 line-size-spec =
@@ -72,6 +76,6 @@ line-size-spec =
     add-sets
     hexadecimal-digits-requires-3
     add-sets-2
-    add-result
-    add-result-2
+    add-bytes
+    add-bytes-2
     returns-2)
