@@ -3,7 +3,7 @@ use mathlib.Core.List.{List}
 use mathlib.Core.Logic.{_⊎_, inl, inr}
 use mathlib.Core.Option.{Option, none, some}
 use mathlib.Core.Path.{_≡_, refl, sym, ap, subst, _∙_}
-use Prim.Native.Nat.{ℕ, _+_, _*_, _%_, _≤_, _<_}
+use Prim.Native.Nat.{ℕ, _+_, _*_, _/_, _%_, _≤_, _<_}
 use native.Mathlib.Omega.{arith}
 use lib.ListN.{length}
 use Rattle.text.specs.declared.Line.{Line}
@@ -27,6 +27,7 @@ use Rattle.reader.specs.declared.Parsed.{Parsed}
 use Rattle.reader.specs.Parse.{parsedAs}
 use Rattle.reporter.specs.NumberLaws.{parsed-refused, parsed-accepted}
 use Rattle.stages.specs.Stages.{refusalWord}
+use Rattle.stages.specs.RefusalLaws.{refusal-small, word-back}
 use Rattle.stages.specs.TextEdges.{edgesPut, TextEdges, edgesWord, FewPut}
 use Rattle.stages.specs.TextEdges.TextEdges.{unread, large, short, put}
 
@@ -45,6 +46,24 @@ never-mistaken text (put lines o t s e same) =
     let few = edges-few (valueOf lines) (value-given text o) (ap tooMany (lines-of-value lines) ∙ t) in
     let same-lines = ap (λ (l : List Line). length (E.edgesOf (nodesOf l))) (lines-of-value lines) in
     inl (omega arith, (lines, o, e, same))
+
+-- no text is both refused and accepted
+not-both-read : {number line : ℕ} {lines : List Line} → refused number line ≡ accepted lines → ⊥
+not-both-read e = let z : _≡_ {A = ℕ} 0 1 = cc in omega arith
+
+-- A text that is refused: number and line are read back from the answer, and the list is as it was.
+pub refusal-told : (text : List ℕ) {before : List Edge} {r : ℕ} {after : List Edge} {number line : ℕ} → TextEdges (read text) before r after
+    → read text ≡ refused number line → (r / 65536 % 32768 ≡ number) × (r % 65536 ≡ line) × (after ≡ before)
+refusal-told text {number = number} {line = line} (unread n l o e same) q =
+    let both : refused n l ≡ refused number line = sym o ∙ q in
+    let n-same : n ≡ number = cc in
+    let l-same : l ≡ line = cc in
+    let small = refusal-small text o in
+    let back = word-back n l (omega (arith, small .0)) (small .1) in
+    (ap (λ k. k / 65536 % 32768) e ∙ back .0 ∙ n-same, ap (λ k. k % 65536) e ∙ back .1 ∙ l-same, same)
+refusal-told text (large lines o t e same) q = absurd (not-both-read (sym q ∙ o))
+refusal-told text (short lines o t s e same) q = absurd (not-both-read (sym q ∙ o))
+refusal-told text (put lines o t s e same) q = absurd (not-both-read (sym q ∙ o))
 
 -- ---- the answers
 
