@@ -9,10 +9,10 @@ repo="$room/a repository"
 bin=$room/bin
 failed=0
 tried=0
-mkdir -p "$repo/crates/verdict/src" "$repo/crates/base/src" "$bin" "$room/elsewhere"
+mkdir -p "$repo/crates/verdict/src" "$repo/crates/spec_base/src" "$bin" "$room/elsewhere"
 cp "$here/../judge" "$repo/judge"
 printf '# a comment\nbase:\nverdict: base libc\nother: base\n' >"$repo/crates.txt"
-echo "// base" >"$repo/crates/base/src/lib.rt"
+echo "// base" >"$repo/crates/spec_base/src/lib.rt"
 printf 'a text\n' >"$room/text"
 source=$repo/crates/verdict/src/main.rt
 
@@ -115,7 +115,7 @@ touch -t 200001010000 "$source"
 run "$repo/judge" text; want "the first sources again" 0 robust 2
 echo "kit 2" >"$room/kit"
 run "$repo/judge" text; want "another toolchain" 0 robust 3
-echo "// base, changed" >"$repo/crates/base/src/lib.rt"
+echo "// base, changed" >"$repo/crates/spec_base/src/lib.rt"
 run "$repo/judge" text; want "another crate changed" 0 robust 4
 rm "$repo/target/bin/verdict"
 run "$repo/judge" text; want "the build's own program removed" 0 robust 4

@@ -1,4 +1,4 @@
-//! The proved code's exports, linked in by `RATTLE_LIB=path/libstages.a outside/build.sh` (programs `bench` and `records`). Each is one
+//! The proved code's exports, linked in by `RATTLE_LIB=path/libexports.a outside/build.sh` (programs `bench` and `records`). Each is one
 //! call on the bytes of a text. Results are those of `stages.rs`: one number, with bit 31 for a refusal.
 
 use outside::edges::Edge;

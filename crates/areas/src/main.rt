@@ -2,18 +2,18 @@
 // that no text gives, the edges are counted, told by number and put into an area of eight records; unfoldings and verdict go into areas
 // with and without room.
 
-use edges::Edge;
-use judging::Verdict;
+use edge_count::Edge;
+use edge_list::EdgeAnswer;
+use edge_list::EdgeCounts;
+use edge_put::Put;
 use libc::STDOUT_FILENO;
-use listing::EdgeAnswer;
-use listing::EdgeCounts;
-use putting::Put;
-use rows::Rows;
-use text::Line;
-use text::LineKind;
-use text::Workload;
+use place_table::Rows;
+use spec_text::Line;
+use spec_text::LineKind;
+use spec_text::Workload;
+use verdict_of::Verdict;
 ghost use Rattle.io.specs.Counts.{Counts};
-ghost use Rattle.listing.specs.Settled.{PutSettled};
+ghost use Rattle.edge_list.specs.EdgesSettled.{PutSettled};
 
 // What became of the edges, and the area afterwards.
 struct Eight {
@@ -26,7 +26,7 @@ fn put_in_eight(w: Workload, before: Eight) -> Eight
     ensures { λ r. ⌜ PutSettled w (before .area) (r .put) (r .area) ⌝ }
 {
     let mut area = before.area;
-    let put = listing::put_workload_edges(w, &mut area);
+    let put = edge_list::put_workload_edges(w, &mut area);
     Eight { put, area }
 }
 
@@ -34,7 +34,7 @@ fn print(bytes: &[u8]) {
     io::write_all(STDOUT_FILENO, bytes);
 }
 
-// A number behind others of its line.
+// A number after others of its line.
 fn print_next(n: u64) {
     print(b" ");
     io::print_decimal(STDOUT_FILENO, n);
@@ -53,7 +53,7 @@ fn print_edge(e: Edge) {
 
 // Edge number k, if there is one.
 fn show_number(w: Workload, k: u64) {
-    let a = listing::edge_number(w, k);
+    let a = edge_list::edge_number(w, k);
     print(b"edge");
     print_next(k);
     match a {
@@ -88,7 +88,7 @@ fn show_counted(w: Workload, refusal: u64, edges: u64, back: u64) {
 }
 
 fn show_edges(w: Workload) {
-    let c = listing::edge_counts(w);
+    let c = edge_list::edge_counts(w);
     match c {
         EdgeCounts::Counted { edges, back } => {
             show_counted(w, 0, edges, back);
@@ -167,7 +167,7 @@ fn print_cells(area: &[u64; 12]) {
 fn show_unfoldings(w: Workload, room: u64) {
     let mut area = [77u64; 12];
     let n = room_in(room, &area);
-    let told = unfolder::unfold(w, &mut area[..n]);
+    let told = unfold::unfold(w, &mut area[..n]);
     print(b"unfold");
     print_next(room);
     print_next(told.refusal as u64);
@@ -198,7 +198,7 @@ fn print_verdict(refusal: u64, danger: u64, edges: u64, back: u64, area: &[u64; 
     print(b"\n");
 }
 
-// A verdict, and whether a cell behind its walk has changed.
+// A verdict, and whether a cell after its walk has changed.
 fn show_answer(v: Verdict, area: &[u64; 264]) {
     match v {
         Verdict::Robust(c) => print_verdict(0, 0, c.edges, c.back, area, 0),
@@ -211,7 +211,7 @@ fn show_answer(v: Verdict, area: &[u64; 264]) {
 fn show_verdict(w: Workload, room: u64) {
     let mut area = [77u64; 264];
     let n = room_in(room, &area);
-    let v = judging::verdict_of(w, &mut area[..n]);
+    let v = verdict_of::verdict_of(w, &mut area[..n]);
     print(b"verdict");
     print_next(room);
     show_answer(v, &area);
@@ -234,7 +234,7 @@ fn show_value(w: Workload, places: u64) {
 // How many places the unfoldings of a workload have, or 0 where it is refused.
 fn places_of(w: Workload) -> u64 {
     let mut table = [0u64; 4096];
-    let r = rows::fill_rows(w, &mut table);
+    let r = place_table::fill_rows(w, &mut table);
     match r {
         Rows::Refused(_) => 0,
         Rows::Filled {
@@ -266,7 +266,7 @@ fn line_of(kind: LineKind, writes: u64) -> Line {
     }
 }
 
-// A loop is opened behind the last line, and never closed.
+// A loop is opened after the last line, and never closed.
 fn loop_open(w: Workload) -> Workload {
     let opens = Line {
         kind: LineKind::Lo,
@@ -306,7 +306,7 @@ fn show_values(w: Workload) {
 }
 
 fn show_text(text: &[u8]) {
-    let parsed = reader::read_text(text);
+    let parsed = text_read::read_text(text);
     let number = parsed.number;
     if number != 0 {
         print(b"refused");

@@ -6,24 +6,24 @@ use Prim.Native.Nat.{ℕ}
 use lib.Count.{onesIn, trailingZeros}
 use lib.Dec.{eqb}
 use borrow.Author.Tests.{eqb-true}
-use Rattle.base.specs.Basic.{all}
-use Rattle.base.specs.BoolLaws.{and-true, not-true, true-false}
-use Rattle.base.specs.ListLaws.{all-true}
-use Rattle.text.specs.declared.Line.{Line}
-use Rattle.text.specs.Reading.{Outcome, read}
-use Rattle.text.specs.Reading.Outcome.{refused, accepted}
-use Rattle.text.specs.Quoted.{readBytes}
-use Rattle.graph.specs.Program.{statementOf, behind, runOf, linksOf, programsOf}
-use Rattle.graph.specs.Unfolding.{inside, occurrences, pairs, unfoldings, nodesOfProgram, nodesFrom, nodesOf}
-use Rattle.graph.specs.Edge.{W, R, T, holds, sameRelation, leads, binds, guarded, shielded, forward, back, placesFrom, placesOf, letterOf}
-use Rattle.graph.specs.Edge.{shared, edgeOf, edgesBetween, edgesOf, placeAt, graphOf}
-use Rattle.walks.specs.Reach.{leavesFor, joins, joinedTo, grow, reachedFrom, opens, closesAt, dangerTest}
-use Rattle.graph.specs.Walk.{Step}
-use Rattle.report.specs.State.{Counts, counted, countsOf, statementsIn, tooMany, summaryGraph}
-use Rattle.report.specs.Report.{Report, refusalReport, robustReport, dangerReport}
-use Rattle.report.specs.Report.Report.{refusal, robust, danger}
-use Rattle.reporting.specs.Reports.{robust-of, danger-of}
-use Rattle.reporting.specs.Shown.{shown-walk}
+use Rattle.spec_base.specs.Basic.{all}
+use Rattle.law_base.specs.BoolLaws.{and-true, not-true, true-false}
+use Rattle.law_base.specs.ListLaws.{all-true}
+use Rattle.spec_text.specs.declared.Line.{Line}
+use Rattle.spec_text.specs.Reading.{Outcome, read}
+use Rattle.spec_text.specs.Reading.Outcome.{refused, accepted}
+use Rattle.spec_text.specs.Quoted.{readBytes}
+use Rattle.spec_graph.specs.Program.{statementOf, behind, runOf, linksOf, programsOf}
+use Rattle.spec_graph.specs.Unfolding.{inside, occurrences, pairs, unfoldings, nodesOfProgram, nodesFrom, nodesOf}
+use Rattle.spec_graph.specs.Edge.{W, R, T, holds, sameRelation, leads, binds, guarded, shielded, forward, back, placesFrom, placesOf, letterOf}
+use Rattle.spec_graph.specs.Edge.{shared, edgeOf, edgesBetween, edgesOf, placeAt, graphOf}
+use Rattle.law_walk.specs.Reach.{leavesFor, joins, joinedTo, grow, reachedFrom, opens, closesAt, dangerTest}
+use Rattle.spec_graph.specs.Walk.{Step}
+use Rattle.spec_report.specs.State.{Counts, counted, countsOf, statementsIn, tooMany, summaryGraph}
+use Rattle.spec_report.specs.Report.{Report, refusalReport, robustReport, dangerReport}
+use Rattle.spec_report.specs.Report.Report.{refusal, robust, danger}
+use Rattle.law_report.specs.Reports.{robust-of, danger-of}
+use Rattle.law_report.specs.ShownWalk.{shown-walk}
 
 -- what a case expects
 pub data Expected : Type 0 where

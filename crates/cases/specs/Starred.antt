@@ -3,7 +3,7 @@ use mathlib.Core.Bool.{true}
 use mathlib.Core.List.{List, [], _∷_, _++_, List·Memᴰ}
 use mathlib.Core.Path.{_≡_, refl}
 use Prim.Native.String.{String}
-use Rattle.text.specs.Quoted.{text}
+use Rattle.spec_text.specs.Quoted.{text}
 use Rattle.cases.specs.Computed.{Case, Expected, Holds, allPass, table-holds}
 use Rattle.cases.specs.Computed.Expected.{isRefused, isRobust, isDanger}
 

@@ -2,16 +2,16 @@
 -- is of a robust workload, so demand 3 speaks of it; the lost update, the phantom and the one with every kind are of dangerous ones.
 use mathlib.Core.Bool.{false}
 use mathlib.Core.Path.{_≡_, refl}
-use Rattle.text.specs.Value.{Given, valueOf}
-use Rattle.reading.specs.Written.{written, rereads}
-use Rattle.reading.specs.ValueLaws.{value-given}
-use Rattle.walks.specs.Reach.{dangerTest}
-use Rattle.report.specs.State.{summaryGraph, Robust}
-use Rattle.schedule.specs.Interleaved as Interleaved
-use Rattle.schedule.specs.Unserialisable as Unserialisable
-use Rattle.schedule.specs.Phantom as Phantom
-use Rattle.schedule.specs.Kinds as Kinds
-use Rattle.reporting.specs.Reports.{robust-of}
+use Rattle.spec_text.specs.Value.{Given, valueOf}
+use Rattle.law_text.specs.Written.{written, rereads}
+use Rattle.law_text.specs.ValueLaws.{value-given}
+use Rattle.law_walk.specs.Reach.{dangerTest}
+use Rattle.spec_report.specs.State.{summaryGraph, Robust}
+use Rattle.spec_schedule.specs.Interleaved as Interleaved
+use Rattle.spec_schedule.specs.Unserialisable as Unserialisable
+use Rattle.spec_schedule.specs.Phantom as Phantom
+use Rattle.spec_schedule.specs.AllKinds as Kinds
+use Rattle.law_report.specs.Reports.{robust-of}
 use Rattle.cases.specs.Computed.{allPass}
 
 -- the workload of the interleaved schedule is robust: no dangerous closed walk of any length

@@ -1,15 +1,15 @@
 // Shows what the parts make of workload texts: what is read, the unfoldings, the edges, the report. Arguments are words and file names in order:
-// `--read`, `--unfold`, `--edges` and `--report` say what is printed of the files behind them.
+// `--read`, `--unfold`, `--edges` and `--report` say what is printed of the files after them.
 
 use check::same;
-use edges::Edge;
-use edges::Found;
+use edge_count::Edge;
+use edge_count::Found;
 use libc::STDOUT_FILENO;
-use rows::Rows;
-use text::Line;
-use text::LineKind;
-use text::StatementKind;
-use text::Workload;
+use place_table::Rows;
+use spec_text::Line;
+use spec_text::LineKind;
+use spec_text::StatementKind;
+use spec_text::Workload;
 ghost use Rattle.io.specs.Counts.{Counts};
 
 // What is printed of a file.
@@ -43,7 +43,7 @@ fn print_number(n: u64) {
     io::print_decimal(STDOUT_FILENO, n);
 }
 
-// A number behind others of its line.
+// A number after others of its line.
 fn print_next(n: u64) {
     print(b" ");
     print_number(n);
@@ -100,7 +100,7 @@ fn mix_line(before: u64, l: Line) -> u64 {
     mix(f, l.tests)
 }
 
-// The sum of all cells, those behind the last line too.
+// The sum of all cells, those after the last line too.
 fn sum_cells(w: Workload) -> u64 {
     let mut sum: u64 = 0;
     let mut i: usize = 0;
@@ -147,7 +147,7 @@ fn print_unfolding(node: u64, program: u8, start: u64, length: u64, statements: 
 
 fn list_unfoldings(w: Workload) {
     let mut statements = [0u64; 512];
-    let told = unfolder::unfold(w, &mut statements);
+    let told = unfold::unfold(w, &mut statements);
     let number = told.refusal;
     if number != 0 {
         print_refused(number, 0);
@@ -191,7 +191,7 @@ fn print_found(found: Found) {
     }
 }
 
-// The slot behind a slot; a table has 524,288 at most.
+// The slot after a slot; a table has 524,288 at most.
 fn behind(slot: usize) -> usize {
     if slot < 524288 {
         return slot + 1;
@@ -199,15 +199,15 @@ fn behind(slot: usize) -> usize {
     slot
 }
 
-// The edges of a table in order, each found from behind the slot of the one before.
+// The edges of a table in order, each found from after the slot of the one before.
 fn print_edges(table: &[u64]) {
     print(b"node leaves node enters flow letter shared lowest\n");
-    let counts = edges::count_edges(table);
+    let counts = edge_count::count_edges(table);
     let n = counts.edges;
     let mut from: usize = 0;
     let mut k: usize = 0;
     while k < n {
-        let step = finding::edge_from(table, from);
+        let step = edge_find::edge_from(table, from);
         let found = step.found;
         print_found(found);
         from = behind(step.slot);
@@ -217,7 +217,7 @@ fn print_edges(table: &[u64]) {
 
 fn list_edges(w: Workload) {
     let mut table = [0u64; 4096];
-    let filled = rows::fill_rows(w, &mut table);
+    let filled = place_table::fill_rows(w, &mut table);
     match filled {
         Rows::Refused(number) => {
             print_refused(number, 0);
@@ -250,7 +250,7 @@ fn list_value(w: Workload, listing: Listing) {
 
 // What a text is read into, or its refusal.
 fn show_value(text: &[u8], listing: Listing) {
-    let parsed = reader::read_text(text);
+    let parsed = text_read::read_text(text);
     let number = parsed.number;
     if number != 0 {
         print_refused(number, parsed.line);
@@ -260,7 +260,7 @@ fn show_value(text: &[u8], listing: Listing) {
     list_value(w, listing);
 }
 
-// The place behind the first line end from a place on, or the end.
+// The place after the first line end from a place on, or the end.
 fn behind_line(bytes: &[u8], from: usize) -> usize
     ensures { λ r. ⌜ Counts r (now (bytes .entry)) ⌝ }
 {
@@ -281,7 +281,7 @@ fn print_verdict(report: &[u8]) {
 }
 
 fn show_report(text: &[u8]) {
-    let report = reporter::report_of(text);
+    let report = report_text::report_of(text);
     let n = report.length;
     let bytes = report.bytes;
     print_verdict(&bytes[..n]);
@@ -330,7 +330,7 @@ fn argument_of(word: &[u8]) -> Argument {
     Argument::File
 }
 
-// Argument i, with what the words before ask for; answers what is asked for behind it.
+// Argument i, with what the words before ask for; answers what is asked for after it.
 fn take_argument(i: usize, before: Listing) -> Listing {
     let mut word = io::buffer();
     let n = os::arg(i, &mut word);

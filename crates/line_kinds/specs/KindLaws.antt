@@ -3,13 +3,13 @@ use mathlib.Core.Bool.{Bool, true, false, cond, _&&_}
 use mathlib.Core.Path.{_≡_, refl, _∙_}
 use Prim.Native.Nat.{ℕ, _/_}
 use lib.Bits.{bitAnd}
-use Rattle.text.specs.declared.Line.{Line}
-use Rattle.text.specs.declared.LineKind.{LineKind}
-use Rattle.text.specs.declared.LineKind.the-variants.{Rl, Fk, Pr, St, Lo, Br, El, En, Li}
-use Rattle.text.specs.declared.StatementKind.{StatementKind}
-use Rattle.text.specs.declared.StatementKind.the-variants.{Is, Ks, Ps, Ku, Pu, Kd, Pd}
-use Rattle.text.specs.Text.{formsOf}
-use Rattle.text.specs.Reading.{kindSets, canBeParent}
+use Rattle.spec_text.specs.declared.Line.{Line}
+use Rattle.spec_text.specs.declared.LineKind.{LineKind}
+use Rattle.spec_text.specs.declared.LineKind.the-variants.{Rl, Fk, Pr, St, Lo, Br, El, En, Li}
+use Rattle.spec_text.specs.declared.StatementKind.{StatementKind}
+use Rattle.spec_text.specs.declared.StatementKind.the-variants.{Is, Ks, Ps, Ku, Pu, Kd, Pd}
+use Rattle.spec_text.specs.Text.{formsOf}
+use Rattle.spec_text.specs.Reading.{kindSets, canBeParent}
 use Rattle.line_kinds.specs.Kinds.{factsOf, lineFacts, mayParent, formsBy, formsWith, numberIf, setIf, setsBy}
 
 -- what the facts of a kind of statement say

@@ -1,13 +1,13 @@
 // What document 01 says of the kinds, as one table: which fields a line has, what the sets of a statement must be, which statement may be a
 // link's parent. Code that reads lines asks a kind nothing else, so that a new kind of statement is a line here.
-use text::Line;
-use text::LineKind;
-use text::StatementKind;
+use spec_text::Line;
+use spec_text::LineKind;
+use spec_text::StatementKind;
 ghost use mathlib.Core.Path.{_≡_};
 ghost use mathlib.Core.Bool.{_&&_};
 ghost use Prim.Native.Nat.{_<_};
-ghost use Rattle.base.specs.Basic.{within};
-ghost use Rattle.text.specs.Reading.{kindSets};
+ghost use Rattle.spec_base.specs.Basic.{within};
+ghost use Rattle.spec_text.specs.Reading.{kindSets};
 ghost use Rattle.line_kinds.specs.Kinds.{factsOf, lineFacts};
 
 // The facts of a kind, a bit each. It has reads, writes, tests;

@@ -1,11 +1,11 @@
 // R8: whether a link fits the statements and the keys that words keep.
-use text::Line;
+use spec_text::Line;
 ghost use mathlib.Core.Path.{_≡_};
 ghost use lib.Dec.{eqb};
 ghost use lib.ListN.{getD};
-ghost use Rattle.base.specs.Basic.{within};
-ghost use Rattle.kept.specs.Kept.{blocksWithinOf, linkFitsOf};
-ghost use Rattle.kept.specs.Words.{stateIn, arrayIn};
+ghost use Rattle.spec_base.specs.Basic.{within};
+ghost use Rattle.line_state.specs.StateSteps.{blocksWithinOf, linkFitsOf};
+ghost use Rattle.line_state.specs.StateWords.{stateIn, arrayIn};
 
 // Two cells of an array as sets: the first within the second.
 fn cell_within(words: &[u64], from: usize, parent: u64, child: u64) -> bool
@@ -13,8 +13,8 @@ fn cell_within(words: &[u64], from: usize, parent: u64, child: u64) -> bool
         r ≡ within (getD (arrayIn (now (words .entry)) from) parent 0) (getD (arrayIn (now (words .entry)) from) child 0)
         ⌝ }
 {
-    let outer = kept::cell(words, from, parent);
-    let inner = kept::cell(words, from, child);
+    let outer = line_state::cell(words, from, parent);
+    let inner = line_state::cell(words, from, child);
     outer & inner == outer
 }
 
@@ -22,9 +22,9 @@ fn cell_within(words: &[u64], from: usize, parent: u64, child: u64) -> bool
 fn blocks_within(words: &[u64], parent: u64, child: u64) -> bool
     ensures { λ r. ⌜ r ≡ blocksWithinOf (stateIn (now (words .entry)) .statements) parent child ⌝ }
 {
-    let loops = cell_within(words, kept::AROUND_LOOPS, parent, child);
-    let firsts = cell_within(words, kept::AROUND_FIRSTS, parent, child);
-    let seconds = cell_within(words, kept::AROUND_SECONDS, parent, child);
+    let loops = cell_within(words, line_state::AROUND_LOOPS, parent, child);
+    let firsts = cell_within(words, line_state::AROUND_FIRSTS, parent, child);
+    let seconds = cell_within(words, line_state::AROUND_SECONDS, parent, child);
     loops & firsts & seconds
 }
 
@@ -32,7 +32,7 @@ fn blocks_within(words: &[u64], parent: u64, child: u64) -> bool
 fn same_cell(words: &[u64], a: usize, i: u64, b: usize, j: u64) -> bool
     ensures { λ r. ⌜ r ≡ eqb (getD (arrayIn (now (words .entry)) a) i 0) (getD (arrayIn (now (words .entry)) b) j 0) ⌝ }
 {
-    kept::cell(words, a, i) == kept::cell(words, b, j)
+    line_state::cell(words, a, i) == line_state::cell(words, b, j)
 }
 
 // A link fits the words: child and parent are over its key's relations, the parent is of a kind that may be one, and its blocks are the child's.
@@ -42,8 +42,20 @@ pub fn link_fits(words: &[u64], l: Line) -> bool
     let id = l.id as u64;
     let child = l.rel as u64;
     let parent = l.to as u64;
-    let of_child = same_cell(words, kept::STATEMENT_RELATIONS, child, kept::CHILDREN, id);
-    let of_parent = same_cell(words, kept::STATEMENT_RELATIONS, parent, kept::PARENTS, id);
-    let parental = kept::cell(words, kept::PARENTAL, parent);
+    let of_child = same_cell(
+        words,
+        line_state::STATEMENT_RELATIONS,
+        child,
+        line_state::CHILDREN,
+        id,
+    );
+    let of_parent = same_cell(
+        words,
+        line_state::STATEMENT_RELATIONS,
+        parent,
+        line_state::PARENTS,
+        id,
+    );
+    let parental = line_state::cell(words, line_state::PARENTAL, parent);
     (of_child & of_parent & (parental == 1)) & blocks_within(words, parent, child)
 }

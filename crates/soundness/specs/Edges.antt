@@ -9,26 +9,26 @@ use Prim.Native.Nat.{ℕ, _≤_, _<_}
 use native.Mathlib.Omega.{arith}
 use lib.ListN.{getElem?}
 use borrow.Author.Tests.{eq-eqb}
-use Rattle.base.specs.BoolLaws.{and-true, and-of, or-left, or-right, true-false, not-of-false, false-of}
-use Rattle.base.specs.ListLaws.{any-true, getElem?-member}
-use Rattle.text.specs.declared.Line.{Line}
-use Rattle.text.specs.declared.StatementKind.{StatementKind}
-use Rattle.graph.specs.Program.{Statement}
-use Rattle.graph.specs.Unfolding.{Occurrence, occurrences}
-use Rattle.graph.specs.Edge.{Letter, at, holds, sameRelation, guarded, shielded, forward, back, stands, hasReads, hasTests, selects, loosens}
-use Rattle.graph.specs.Edge.Letter.{A, B, C, D, E}
-use Rattle.schedule.specs.Event.{Action, Event, isRead, isWrite, isPredicateRead}
-use Rattle.schedule.specs.Event.Action.{read, write, insert, delete, predicateRead, commit}
-use Rattle.schedule.specs.Schedule.{Transaction, Performed, Schedule}
-use Rattle.committing.specs.Rules.{CommitsAt, SameTuple}
-use Rattle.committing.specs.Letters.{Dependency}
-use Rattle.committing.specs.Letters.Dependency.{write-write, write-read, write-predicate, read-write, predicate-write}
-use Rattle.committing.specs.Commits.{write-left, update-left, back-not-write, read-left, shield}
-use Rattle.committing.specs.Kinds.{write-write-kinds, write-read-kinds, read-write-kinds}
-use Rattle.transactions.specs.Operations.{Does, updates, statementOf}
-use Rattle.transactions.specs.Events.{schedule-lawful}
-use Rattle.transactions.specs.Statements.{Stated, operationOf, update-next, place-order}
-use Rattle.soundness.specs.Letters.{Sets, kind-implies, letter-A, letter-B, letter-C, letter-D, letter-E, does-read-what, does-test-what}
+use Rattle.law_base.specs.BoolLaws.{and-true, and-of, or-left, or-right, true-false, not-of-false, false-of}
+use Rattle.law_base.specs.ListLaws.{any-true, getElem?-member}
+use Rattle.spec_text.specs.declared.Line.{Line}
+use Rattle.spec_text.specs.declared.StatementKind.{StatementKind}
+use Rattle.spec_graph.specs.Program.{Statement}
+use Rattle.spec_graph.specs.Unfolding.{Occurrence, occurrences}
+use Rattle.spec_graph.specs.Edge.{Letter, at, holds, sameRelation, guarded, shielded, forward, back, stands, hasReads, hasTests, selects, loosens}
+use Rattle.spec_graph.specs.Edge.Letter.{A, B, C, D, E}
+use Rattle.spec_schedule.specs.Event.{Action, Event, isRead, isWrite, isPredicateRead}
+use Rattle.spec_schedule.specs.Event.Action.{read, write, insert, delete, predicateRead, commit}
+use Rattle.spec_schedule.specs.Schedule.{Transaction, Performed, Schedule}
+use Rattle.soundness.specs.committing.Rules.{CommitsAt, SameTuple}
+use Rattle.soundness.specs.committing.Letters.{Dependency}
+use Rattle.soundness.specs.committing.Letters.Dependency.{write-write, write-read, write-predicate, read-write, predicate-write}
+use Rattle.soundness.specs.committing.Commits.{write-left, update-left, back-not-write, read-left, shield}
+use Rattle.soundness.specs.committing.WriteKinds.{write-write-kinds, write-read-kinds, read-write-kinds}
+use Rattle.soundness.specs.transactions.Operations.{Does, updates, statementOf}
+use Rattle.soundness.specs.transactions.Events.{schedule-lawful}
+use Rattle.soundness.specs.transactions.Statements.{Stated, operationOf, update-next, place-order}
+use Rattle.soundness.specs.EdgeLetters.{Sets, kind-implies, letter-A, letter-B, letter-C, letter-D, letter-E, does-read-what, does-test-what}
 use Rattle.soundness.specs.Visits.{Visit, At, Spot, Guard, guard-of, performed-occurrence}
 
 -- ---- what a test of an action says of it
@@ -138,7 +138,7 @@ module _ {lines : List Line} (s : Schedule lines) (set : ℕ → ℕ)
         (subst (λ (x : Statement). holds (t .1) x (at (q .spot)) ≡ true) (sym (p .statement))
         (subst (λ (y : Statement). holds (t .1) (statementOf P) y ≡ true) (sym (q .statement)) (t .2))))
 
-    -- ---- the update's write stands right behind its read, so such a dependency is never back
+    -- ---- the update's write stands right after its read, so such a dependency is never back
     update-commits : isRead (b .action) ≡ true → updates (statementOf P .kind) ≡ true → v .commit < n
     update-commits rb u =
         let f = p .stated .follows u (read-action (b .action) rb) in

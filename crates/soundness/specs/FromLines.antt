@@ -5,18 +5,18 @@ use mathlib.Core.Logic.{_⊎_, inl, inr}
 use mathlib.Core.Path.{_≡_, refl, sym, subst}
 use Prim.Native.Nat.{ℕ, zero, suc}
 use lib.ListN.{length}
-use Rattle.base.specs.ListLaws.{map-member}
-use Rattle.text.specs.declared.Line.{Line}
-use Rattle.text.specs.declared.LineKind.{LineKind}
-use Rattle.text.specs.declared.LineKind.the-variants.{Rl, Fk, Pr, St, Lo, Br, El, En, Li}
-use Rattle.text.specs.declared.StatementKind.{StatementKind}
-use Rattle.graph.specs.Program.{Statement, Item, Run, Program, Parsed, statementOf, behind, runOf, linksOf, programsOf}
-use Rattle.graph.specs.Program.Item.{statement, loop, branch}
-use Rattle.graph.specs.Program.Run.{done, next}
-use Rattle.graph.specs.Unfolding.{Execution, ItemExecution, Turns, Occurrence, inside, occurrences, itemOccurrences, turnOccurrences}
-use Rattle.graph.specs.Unfolding.Execution.{end, step}
-use Rattle.graph.specs.Unfolding.ItemExecution.{perform, turns, arm-one, arm-two}
-use Rattle.graph.specs.Unfolding.Turns.{stop, turn}
+use Rattle.law_base.specs.ListLaws.{map-member}
+use Rattle.spec_text.specs.declared.Line.{Line}
+use Rattle.spec_text.specs.declared.LineKind.{LineKind}
+use Rattle.spec_text.specs.declared.LineKind.the-variants.{Rl, Fk, Pr, St, Lo, Br, El, En, Li}
+use Rattle.spec_text.specs.declared.StatementKind.{StatementKind}
+use Rattle.spec_graph.specs.Program.{Statement, Item, Run, Program, Parsed, statementOf, behind, runOf, linksOf, programsOf}
+use Rattle.spec_graph.specs.Program.Item.{statement, loop, branch}
+use Rattle.spec_graph.specs.Program.Run.{done, next}
+use Rattle.spec_graph.specs.Unfolding.{Execution, ItemExecution, Turns, Occurrence, inside, occurrences, itemOccurrences, turnOccurrences}
+use Rattle.spec_graph.specs.Unfolding.Execution.{end, step}
+use Rattle.spec_graph.specs.Unfolding.ItemExecution.{perform, turns, arm-one, arm-two}
+use Rattle.spec_graph.specs.Unfolding.Turns.{stop, turn}
 
 module _ (P : Statement → Type 0) where
   -- every statement of a run, of an item
@@ -81,7 +81,7 @@ module _ (P : Statement → Type 0) where
   rest-of [] h = h
   rest-of (l ∷ lines) h = fewer l lines h
 
-  -- a run and the lines behind it
+  -- a run and the lines after it
   pub record Reads (p : Parsed) : Type 0 where
     pub run : AllRun (p .run)
     pub rest : OnLines (p .rest)

@@ -1,8 +1,13 @@
-pub mod Letters
+pub mod committing
+pub mod dependency
+pub mod folding
+pub mod order
+pub mod transactions
+pub mod EdgeLetters
 pub mod Nodes
 pub mod Visits
 pub mod Edges
-pub mod Stages
+pub mod ClosedDependencies
 pub mod Schedules
 pub mod FromLines
 pub mod StatementSets

@@ -4,10 +4,10 @@ use mathlib.Core.Option.{some}
 use mathlib.Core.Path.{_≡_, refl, sym, subst}
 use Prim.Native.Nat.{ℕ, suc}
 use lib.ListN.{getElem?}
-use Rattle.base.specs.ListLaws.{member-getElem?}
-use Rattle.text.specs.declared.Line.{Line}
-use Rattle.graph.specs.Program.{Program, programsOf}
-use Rattle.graph.specs.Unfolding.{Execution, Node, occurrences, unfoldings, nodesOfProgram, nodesFrom, nodesOf}
+use Rattle.law_base.specs.ListLaws.{member-getElem?}
+use Rattle.spec_text.specs.declared.Line.{Line}
+use Rattle.spec_graph.specs.Program.{Program, programsOf}
+use Rattle.spec_graph.specs.Unfolding.{Execution, Node, occurrences, unfoldings, nodesOfProgram, nodesFrom, nodesOf}
 
 -- the node of an unfolding
 pub record NodeOf (nodes : List Node) (p : Program) (u : Execution (p .body)) : Type 0 where

@@ -10,14 +10,14 @@ use Prim.Native.Nat.{ℕ, _<_}
 use native.Mathlib.Decide.{decLt}
 use native.Mathlib.Omega.{arith}
 use lib.ListN.{length, getElem?}
-use Rattle.text.specs.declared.Line.{Line}
-use Rattle.schedule.specs.Event.{Event, isRead, isPredicateRead}
-use Rattle.schedule.specs.Schedule.{Schedule}
-use Rattle.schedule.specs.Serial.{serialRun, stateAt, SameRead, SamePredicateRead, Serialisable}
-use Rattle.dependency.specs.Ordered.{Earlier, ordered-earlier, ordered-past, position-take}
-use Rattle.dependency.specs.Positions.{earlier-once}
-use Rattle.dependency.specs.SerialLaw.{EachOnce, Precedes, ahead-apart, ordered-run}
-use Rattle.transactions.specs.Events.{schedule-numbered}
+use Rattle.spec_text.specs.declared.Line.{Line}
+use Rattle.spec_schedule.specs.Event.{Event, isRead, isPredicateRead}
+use Rattle.spec_schedule.specs.Schedule.{Schedule}
+use Rattle.spec_schedule.specs.Serial.{serialRun, stateAt, SameRead, SamePredicateRead, Serialisable}
+use Rattle.soundness.specs.dependency.Ordered.{Earlier, ordered-earlier, ordered-past, position-take}
+use Rattle.soundness.specs.dependency.Positions.{earlier-once}
+use Rattle.soundness.specs.dependency.SerialLaw.{EachOnce, Precedes, ahead-apart, ordered-run}
+use Rattle.soundness.specs.transactions.Events.{schedule-numbered}
 
 module _ {lines : List Line} (s : Schedule lines) where
   module _ (order : List ℕ) (once : EachOnce (length (s .transactions)) order) where

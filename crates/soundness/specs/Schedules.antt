@@ -5,18 +5,18 @@ use mathlib.Core.Option.{some}
 use mathlib.Core.Path.{_≡_}
 use Prim.Native.Nat.{ℕ}
 use lib.ListN.{length, getElem?}
-use Rattle.text.specs.declared.Line.{Line}
-use Rattle.graph.specs.Unfolding.{Occurrence, occurrences, nodesOf}
-use Rattle.graph.specs.Edge.{graphOf}
-use Rattle.graph.specs.Walk.{DangerousWalk}
-use Rattle.schedule.specs.Schedule.{Transaction, Schedule}
-use Rattle.schedule.specs.Serial.{Serialisable}
-use Rattle.order.specs.Order.{ClosedWalk}
-use Rattle.dependency.specs.Dependency.{before}
-use Rattle.dependency.specs.History.{order-or-walk}
-use Rattle.transactions.specs.Events.{schedule-numbered, schedule-filled, schedule-known}
-use Rattle.soundness.specs.Letters.{Sets}
-use Rattle.soundness.specs.Stages.{closed-dangerous}
+use Rattle.spec_text.specs.declared.Line.{Line}
+use Rattle.spec_graph.specs.Unfolding.{Occurrence, occurrences, nodesOf}
+use Rattle.spec_graph.specs.Edge.{graphOf}
+use Rattle.spec_graph.specs.Walk.{DangerousWalk}
+use Rattle.spec_schedule.specs.Schedule.{Transaction, Schedule}
+use Rattle.spec_schedule.specs.Serial.{Serialisable}
+use Rattle.soundness.specs.order.Order.{ClosedWalk}
+use Rattle.soundness.specs.dependency.Dependency.{before}
+use Rattle.soundness.specs.dependency.History.{order-or-walk}
+use Rattle.soundness.specs.transactions.Events.{schedule-numbered, schedule-filled, schedule-known}
+use Rattle.soundness.specs.EdgeLetters.{Sets}
+use Rattle.soundness.specs.ClosedDependencies.{closed-dangerous}
 
 module _ {lines : List Line} (s : Schedule lines) (set : ℕ → ℕ)
     (sets : (x : Transaction) → List·Memᴰ x (s .transactions) → (j : ℕ) (o : Occurrence) → getElem? (occurrences (x .execution) 0) j ≡ some o

@@ -7,21 +7,21 @@ use Prim.Native.Nat.{ℕ}
 use lib.Bits.{bitAnd, and-zero-l}
 use lib.ListN.{getElem?}
 use borrow.Author.Tests.{eq-eqb}
-use Rattle.base.specs.Basic.{within}
-use Rattle.base.specs.BoolLaws.{true-false}
-use Rattle.base.specs.ListLaws.{getElem?-member}
-use Rattle.text.specs.declared.Line.{Line}
-use Rattle.text.specs.declared.StatementKind.{StatementKind}
-use Rattle.text.specs.declared.StatementKind.the-variants.{Is, Ks, Ps, Ku, Pu, Kd, Pd}
-use Rattle.text.specs.Reading.{read, relationSet}
-use Rattle.text.specs.Reading.Outcome.{accepted}
-use Rattle.reading.specs.ReadingLaws.{SetsLawful, statement-sets, insert-whole, key-delete-whole, predicate-delete-whole}
-use Rattle.graph.specs.Program.{statementOf}
-use Rattle.graph.specs.Unfolding.{Occurrence, occurrences}
-use Rattle.graph.specs.Edge.{R, W, hasReads, hasWrites, inserts, deletes}
-use Rattle.schedule.specs.Schedule.{Transaction, Schedule}
+use Rattle.spec_base.specs.Basic.{within}
+use Rattle.law_base.specs.BoolLaws.{true-false}
+use Rattle.law_base.specs.ListLaws.{getElem?-member}
+use Rattle.spec_text.specs.declared.Line.{Line}
+use Rattle.spec_text.specs.declared.StatementKind.{StatementKind}
+use Rattle.spec_text.specs.declared.StatementKind.the-variants.{Is, Ks, Ps, Ku, Pu, Kd, Pd}
+use Rattle.spec_text.specs.Reading.{read, relationSet}
+use Rattle.spec_text.specs.Reading.Outcome.{accepted}
+use Rattle.law_text.specs.ReadingLaws.{SetsLawful, statement-sets, insert-whole, key-delete-whole, predicate-delete-whole}
+use Rattle.spec_graph.specs.Program.{statementOf}
+use Rattle.spec_graph.specs.Unfolding.{Occurrence, occurrences}
+use Rattle.spec_graph.specs.Edge.{R, W, hasReads, hasWrites, inserts, deletes}
+use Rattle.spec_schedule.specs.Schedule.{Transaction, Schedule}
 use Rattle.soundness.specs.FromLines.{OnLines, execution-holds, program-holds}
-use Rattle.soundness.specs.Letters.{Sets, kind-implies}
+use Rattle.soundness.specs.EdgeLetters.{Sets, kind-implies}
 
 -- the empty set lies within every set
 within-empty : (x : ℕ) → within 0 x ≡ true

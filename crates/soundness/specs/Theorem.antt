@@ -1,13 +1,13 @@
 -- Demand 3. For every workload value that some accepted text gives: if its summary graph has no dangerous closed walk of any length, then every
 -- schedule of it has a serial order.
 use mathlib.Core.Logic.{_⊎_, inl, inr}
-use Rattle.text.specs.declared.Workload.{Workload}
-use Rattle.text.specs.Value.{Given, linesOf}
-use Rattle.text.specs.Reading.{relationSet}
-use Rattle.reading.specs.ValueLaws.{given-read}
-use Rattle.report.specs.State.{Danger, Robust, summaryGraph}
-use Rattle.schedule.specs.Schedule.{Schedule}
-use Rattle.schedule.specs.Serial.{Serialisable}
+use Rattle.spec_text.specs.declared.Workload.{Workload}
+use Rattle.spec_text.specs.Value.{Given, linesOf}
+use Rattle.spec_text.specs.Reading.{relationSet}
+use Rattle.law_text.specs.ValueLaws.{given-read}
+use Rattle.spec_report.specs.State.{Danger, Robust, summaryGraph}
+use Rattle.spec_schedule.specs.Schedule.{Schedule}
+use Rattle.spec_schedule.specs.Serial.{Serialisable}
 use Rattle.soundness.specs.StatementSets.{schedule-sets}
 use Rattle.soundness.specs.Schedules.{serialisable-or-dangerous}
 

@@ -10,19 +10,29 @@ use native.Mathlib.Omega.{arith}
 use lib.Dec.{eqb}
 use lib.ListN.{length, getElem?, take}
 use borrow.Author.Tests.{eqb-true, eq-eqb}
-use Rattle.base.specs.Basic.{any, all}
-use Rattle.base.specs.BoolLaws.{and-true, and-of, or-true, true-false, not-true}
-use Rattle.base.specs.ListLaws.{any-true, all-true, getElem?-member, getElem?-found, getElem?-of-take, member-getElem?}
-use Rattle.text.specs.declared.Line.{Line}
-use Rattle.graph.specs.Program.{Statement, Link}
-use Rattle.graph.specs.Unfolding.{Occurrence, Node, occurrences, nodesOf}
-use Rattle.graph.specs.Edge.{Place, at, placeAt, binds, leads, guarded, shields}
-use Rattle.schedule.specs.Event.{Event, isWrite, isPredicateRead}
-use Rattle.schedule.specs.Schedule.{Transaction, Performed, Operation, Schedule, performed, linkKept, keysKept}
-use Rattle.committing.specs.Rules.{CommitsAt}
-use Rattle.transactions.specs.Operations.{Does, does-test, does-read, does-write, does-insert, does-delete, statementOf, performed-at, at-performed}
-use Rattle.transactions.specs.Statements.{Stated, shield-event}
-use Rattle.folding.specs.Folding.{Folded}
+use Rattle.spec_base.specs.Basic.{any, all}
+use Rattle.law_base.specs.BoolLaws.{and-true, and-of, or-true, true-false, not-true}
+use Rattle.law_base.specs.ListLaws.{any-true, all-true, getElem?-member, getElem?-found, getElem?-of-take, member-getElem?}
+use Rattle.spec_text.specs.declared.Line.{Line}
+use Rattle.spec_graph.specs.Program.{Statement, Link}
+use Rattle.spec_graph.specs.Unfolding.{Occurrence, Node, occurrences, nodesOf}
+use Rattle.spec_graph.specs.Edge.{Place, at, placeAt, binds, leads, guarded, shields}
+use Rattle.spec_schedule.specs.Event.{Event, isWrite, isPredicateRead}
+use Rattle.spec_schedule.specs.Schedule.{Transaction, Performed, Operation, Schedule, performed, linkKept, keysKept}
+use Rattle.soundness.specs.committing.Rules.{CommitsAt}
+use Rattle.soundness.specs.transactions.Operations.{
+  Does,
+  does-test,
+  does-read,
+  does-write,
+  does-insert,
+  does-delete,
+  statementOf,
+  performed-at,
+  at-performed,
+}
+use Rattle.soundness.specs.transactions.Statements.{Stated, shield-event}
+use Rattle.soundness.specs.folding.Folding.{Folded}
 
 -- the occurrence of a performed statement
 pub performed-occurrence : (x : Transaction) (j : ℕ) {p : Performed} → getElem? (performed x) j ≡ some p

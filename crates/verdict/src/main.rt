@@ -1,4 +1,4 @@
 // Reads a workload text from standard input and prints its report on standard output. The gate runs it on a robust text.
 fn main() {
-    answering::answer_input();
+    verdict_run::answer_input();
 }

@@ -3,19 +3,19 @@
 use mathlib.Core.Bool.{false, not}
 use mathlib.Core.List.{List, [], _∷_}
 use mathlib.Core.Path.{_≡_, refl, subst}
-use Rattle.base.specs.Basic.{keep}
-use Rattle.text.specs.declared.Line.{Line}
-use Rattle.text.specs.Reading.{isLink}
-use Rattle.text.specs.Value.{Given, valueOf}
-use Rattle.reading.specs.Written.{written, rereads}
-use Rattle.reading.specs.ValueLaws.{value-given, lines-of-value}
-use Rattle.graph.specs.Graph.Flow.{forward, back}
-use Rattle.graph.specs.Walk.{isEdge, dangerousPair, isDangerous}
-use Rattle.walks.specs.Reach.{dangerTest}
-use Rattle.report.specs.State.{Danger, Robust, summaryGraph}
-use Rattle.reporting.specs.Reports.{robust-of}
-use Rattle.schedule.specs.Schedule.{Schedule}
-use Rattle.schedule.specs.Serial.{Serialisable}
+use Rattle.spec_base.specs.Basic.{keep}
+use Rattle.spec_text.specs.declared.Line.{Line}
+use Rattle.spec_text.specs.Reading.{isLink}
+use Rattle.spec_text.specs.Value.{Given, valueOf}
+use Rattle.law_text.specs.Written.{written, rereads}
+use Rattle.law_text.specs.ValueLaws.{value-given, lines-of-value}
+use Rattle.spec_graph.specs.Graph.Flow.{forward, back}
+use Rattle.spec_graph.specs.Walk.{isEdge, dangerousPair, isDangerous}
+use Rattle.law_walk.specs.Reach.{dangerTest}
+use Rattle.spec_report.specs.State.{Danger, Robust, summaryGraph}
+use Rattle.law_report.specs.Reports.{robust-of}
+use Rattle.spec_schedule.specs.Schedule.{Schedule}
+use Rattle.spec_schedule.specs.Serial.{Serialisable}
 use Rattle.soundness.specs.Theorem.{demand-3}
 use Rattle.cases.specs.Computed.{allPass}
 use Rattle.witness.specs.Rich.{lines, rich}

@@ -10,24 +10,24 @@ use mathlib.Core.Path.{_≡_, refl, sym, ap, subst}
 use Prim.Native.Nat.{ℕ, zero, suc, _/_, _%_}
 use lib.Dec.{eqb, ltb}
 use lib.ListN.{length, getD, getElem?}
-use Rattle.base.specs.Basic.{keep, count}
-use Rattle.base.specs.ListLaws.{some-injective}
-use Rattle.text.specs.declared.Line.{Line}
-use Rattle.text.specs.declared.LineKind.the-variants.{Rl, Fk, Pr, St, Lo, En, Li}
-use Rattle.text.specs.declared.StatementKind.the-variants.{Is, Ks, Ps, Ku, Pu, Kd}
-use Rattle.graph.specs.Program.{Program, programsOf}
-use Rattle.graph.specs.Program.Item.{statement, loop}
-use Rattle.graph.specs.Program.Run.{done, next}
-use Rattle.graph.specs.Unfolding.{occurrences}
-use Rattle.graph.specs.Unfolding.Execution.{end, step}
-use Rattle.graph.specs.Unfolding.ItemExecution.{perform, turns}
-use Rattle.graph.specs.Unfolding.Turns.{stop, turn}
-use Rattle.schedule.specs.Event.{Event, by, isDelete, pastAt, writesOf, seen, source}
-use Rattle.schedule.specs.Event.Action.{read, write, insert, delete, predicateRead, commit}
-use Rattle.schedule.specs.Schedule.{Tuple, Transaction, Schedule, everyAttribute, eventsOf}
-use Rattle.schedule.specs.Serial.{Serialisable}
-use Rattle.schedule.specs.SerialTest.{serial-by-test, openTest, actionNumber}
-use Rattle.schedule.specs.Examples.{line, says, event, openWorkload, openRules, no-program, one-program}
+use Rattle.spec_base.specs.Basic.{keep, count}
+use Rattle.law_base.specs.ListLaws.{some-injective}
+use Rattle.spec_text.specs.declared.Line.{Line}
+use Rattle.spec_text.specs.declared.LineKind.the-variants.{Rl, Fk, Pr, St, Lo, En, Li}
+use Rattle.spec_text.specs.declared.StatementKind.the-variants.{Is, Ks, Ps, Ku, Pu, Kd}
+use Rattle.spec_graph.specs.Program.{Program, programsOf}
+use Rattle.spec_graph.specs.Program.Item.{statement, loop}
+use Rattle.spec_graph.specs.Program.Run.{done, next}
+use Rattle.spec_graph.specs.Unfolding.{occurrences}
+use Rattle.spec_graph.specs.Unfolding.Execution.{end, step}
+use Rattle.spec_graph.specs.Unfolding.ItemExecution.{perform, turns}
+use Rattle.spec_graph.specs.Unfolding.Turns.{stop, turn}
+use Rattle.spec_schedule.specs.Event.{Event, by, isDelete, pastAt, writesOf, seen, source}
+use Rattle.spec_schedule.specs.Event.Action.{read, write, insert, delete, predicateRead, commit}
+use Rattle.spec_schedule.specs.Schedule.{Tuple, Transaction, Schedule, everyAttribute, eventsOf}
+use Rattle.spec_schedule.specs.Serial.{Serialisable}
+use Rattle.spec_schedule.specs.SerialTest.{serial-by-test, openTest, actionNumber}
+use Rattle.spec_schedule.specs.ScheduleExamples.{line, says, event, openWorkload, openRules, no-program, one-program}
 
 -- rl 0 - - 1 - -
 -- rl 1 - - 1 - -

@@ -1,7 +1,7 @@
 //! `bench`: times reading, unfolding, edges and verdict in one process, median of many runs, at small, middle and largest
 //! sizes. Each stage is timed from the text on (read; read and unfold; ...), so that a side needs only calls on bytes.
 //!
-//! The Rattle side: build with `RATTLE_LIB=path/libstages.a outside/build.sh bench`; the library exports the calls
+//! The Rattle side: build with `RATTLE_LIB=path/libexports.a outside/build.sh bench`; the library exports the calls
 //! of src/rattle.rs. Both sides' results are compared, and ratios are printed.
 
 use outside::edges::*;

@@ -3,7 +3,7 @@ use mathlib.Core.Path.{sym}
 use native.Mathlib.Omega.{arith}
 use lib.Seq.{length-take-le}
 use borrow.Author.Needs.{needs}
-use Rattle.rows.specs.Whole.{whole-filled}
+use Rattle.place_table.specs.Whole.{whole-filled}
 use Rattle.inspect.proofs.list_edges.Statement.{statement}
 use Rattle.inspect.proofs.list_edges.Tie as tie
 

@@ -1,6 +1,6 @@
 -- `cell_within` tells for loops, first arms and second arms whether the parent's set lies within the child's; `blocksWithinOf` asks for all
 -- three.
-use Rattle.kept.specs.Words.{stateIn}
+use Rattle.line_state.specs.StateWords.{stateIn}
 use borrow.Author.Needs.{needs}
 use Rattle.line_links.proofs.blocks_within.Statement.{statement}
 use Rattle.line_links.proofs.blocks_within.Tie as tie

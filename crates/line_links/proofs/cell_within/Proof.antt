@@ -8,7 +8,7 @@ use Rattle.line_links.proofs.cell_within.Statement.{statement}
 use Rattle.line_links.proofs.cell_within.Tie as tie
 use Rattle.line_links.proofs.cell_within.Reads as reads
 use Rattle.line_links.proofs.cell_within.Lts as lts
-use Rattle.kept.proofs.cell.Reads as cell-reads
+use Rattle.line_state.proofs.cell.Reads as cell-reads
 
 cell-requires : tie.Need-cell-requires
 cell-requires c κs = search needs

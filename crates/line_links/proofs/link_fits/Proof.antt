@@ -1,6 +1,6 @@
 -- The cells are the relations of child and parent, those of the key, and whether the parent may be one; with `blocks_within` they are the tests
 -- of `linkFitsOf`.
-use Rattle.kept.specs.Words.{stateIn}
+use Rattle.line_state.specs.StateWords.{stateIn}
 use borrow.Author.Needs.{needs}
 use Rattle.line_links.proofs.link_fits.Statement.{statement}
 use Rattle.line_links.proofs.link_fits.Tie as tie
@@ -8,7 +8,7 @@ use Rattle.line_links.proofs.link_fits.Reads as reads
 use Rattle.line_links.proofs.link_fits.Lts as lts
 use Rattle.line_links.proofs.blocks_within.Reads as blocks-within-reads
 use Rattle.line_links.proofs.same_cell.Reads as same-cell-reads
-use Rattle.kept.proofs.cell.Reads as cell-reads
+use Rattle.line_state.proofs.cell.Reads as cell-reads
 
 cast-id : tie.Need-cast-id
 cast-id c = search needs

@@ -1,6 +1,0 @@
-pub mod Basic
-pub mod Examples
-pub mod BoolLaws
-pub mod ListLaws
-pub mod WordLaws
-pub mod FlatLaws

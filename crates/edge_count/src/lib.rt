@@ -1,0 +1,80 @@
+// The edges of the summary graph, counted row by row in a table of places: eight words to a row. A row's sets are taken as they stand; in the
+// rows that `place_table::fill_rows` makes, a set that the kind lacks is 0.
+
+ghost use mathlib.Core.Path.{_≡_};
+ghost use Prim.Native.Nat.{_+_, _*_, _<_};
+ghost use Rattle.edge_count.specs.Slots.{tableCounts, one, countsBelow, CountedTo};
+use edge_test::back_stands;
+use edge_test::forward_stands;
+use place_fetch::row_at;
+use place_fetch::row_count;
+
+// An edge: node and place left, node and place entered, how many attributes its sets share and the lowest of them, flow and letter.
+// Numbers only, so that a caller in another language can own a list of edges: flow is b'f' or b'b', letter b'A' to b'E'.
+#[repr(C)]
+pub struct Edge {
+    pub node: u64,
+    pub leaves: u64,
+    pub into: u64,
+    pub enters: u64,
+    pub sharing: u32,
+    pub lowest: u32,
+    pub flow: u8,
+    pub letter: u8,
+}
+
+// The edge asked for, or that there is none.
+pub enum Found {
+    There(Edge),
+    Absent,
+}
+
+// How many edges there are, and how many of them are back edges.
+pub struct Counts {
+    pub edges: usize,
+    pub back: usize,
+}
+
+// One where an edge stands.
+fn one_edge(stands: bool) -> usize
+    ensures { λ r. ⌜ r ≡ one stands ⌝ }
+{
+    if stands {
+        return 1;
+    }
+    0
+}
+
+// The counts before row i, and those of the edges that leave it.
+fn count_row(table: &[u64], n: usize, i: usize, before: Counts) -> Counts
+    requires { ⌜ CountedTo (now table) n i before ⌝ }
+    ensures { λ r. ⌜ r ≡ countsBelow (now (table .entry)) (i * 1024 + 1024) ⌝ }
+{
+    let p = row_at(table, i);
+    let mut edges = before.edges;
+    let mut back = before.back;
+    let mut j: usize = 0;
+    while j < n {
+        let q = row_at(table, j);
+        let f = one_edge(forward_stands(p, q));
+        let b = one_edge(back_stands(p, q));
+        edges = edges + f + b;
+        back += b;
+        j += 1;
+    }
+    Counts { edges, back }
+}
+
+// How many edges a table has, and how many of them are back edges. Rows past the 512th are not looked at: no workload has more.
+pub fn count_edges(table: &[u64]) -> Counts
+    ensures { λ r. ⌜ r ≡ tableCounts (now (table .entry)) ⌝ }
+{
+    let n = row_count(table);
+    let mut counts = Counts { edges: 0, back: 0 };
+    let mut i: usize = 0;
+    while i < n {
+        counts = count_row(table, n, i, counts);
+        i += 1;
+    }
+    counts
+}

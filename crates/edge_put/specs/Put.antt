@@ -1,0 +1,53 @@
+-- Edges by their numbers, and edges put into a list. Believed: `putSaid` and `PutAs`.
+use mathlib.Core.Path.{_≡_}
+use mathlib.Core.Bool.{cond}
+use mathlib.Core.Logic.{_⊎_, inl, inr}
+use mathlib.Core.Option.{some}
+use mathlib.Core.List.{List, _++_, map}
+use Prim.Native.Nat.{ℕ, _+_, _≤_, _<_}
+use lib.Dec.{eqb, leb}
+use lib.ListN.{length, take, drop, getElem?}
+use Rattle.spec_graph.specs.Edge as E
+use Rattle.edge_count.specs.declared.Edge.{Edge}
+use Rattle.edge_put.specs.declared.Next.{Next}
+use Rattle.edge_put.specs.declared.Put.{Put}
+use Rattle.edge_put.specs.declared.Put.the-variants.{All, Refused}
+use Rattle.edge_count.specs.Slots.{coded, tableEdges, edgesBelow}
+
+-- E5: all edges of a table, as the code holds them
+abbrev pub records : List ℕ → List Edge
+records table = map coded (tableEdges table)
+
+-- an edge has number k, and the edges with lower numbers are those that stand in the slots below x
+pub record Ahead (table : List ℕ) (k x : ℕ) : Type 0 where
+  pub below : edgesBelow table x ≡ k
+  pub there : k < length (tableEdges table)
+
+-- the step tells edge number k, and a slot after which the edges with higher numbers stand
+pub record Numbered (table : List ℕ) (k : ℕ) (step : Next) : Type 0 where
+  pub edge : getElem? (records table) k ≡ some (step .edge)
+  pub behind : edgesBelow table (step .slot + 1) ≡ k + 1
+  pub few : step .slot < 524288
+
+-- how many of n edges are put: all, or none where they do not fit
+unfoldable pub fittingIn : ℕ → ℕ → ℕ
+fittingIn n room = cond (leb n room) n 0
+
+-- the first k of a list put at the front of an area
+abbrev pub putFirst : List Edge → List Edge → ℕ → List Edge
+putFirst list area k = take k list ++ drop k area
+
+-- the answer where n of all edges are put
+unfoldable pub answerFor : ℕ → ℕ → Put
+answerFor total n = cond (eqb n total) (All total) (Refused 20)
+
+-- N3: what the answer says: a refusal's number, or how many edges are put
+unfoldable pub putSaid : Put → ℕ ⊎ ℕ
+putSaid (Refused number) = inl number
+putSaid (All count) = inr count
+
+-- S20: an area shorter than the edges is left as it was; else they stand at its front, and the rest of it is as it was (E5, E6)
+pub data PutAs (edges : List E.Edge) (area : List Edge) (r : Put) (after : List Edge) : Type 0 where
+  short : length area < length edges → putSaid r ≡ inl 20 → after ≡ area → PutAs edges area r after
+  put : length edges ≤ length area → putSaid r ≡ inr (length edges) → after ≡ map coded edges ++ drop (length edges) area
+      → PutAs edges area r after

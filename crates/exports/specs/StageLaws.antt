@@ -1,0 +1,57 @@
+-- The answers' numbers, and a stage's answer after a refused and after an accepted text.
+use mathlib.Core.Bool.{cond}
+use mathlib.Core.List.{List}
+use mathlib.Core.Path.{_≡_, refl, sym, ap, subst, _∙_}
+use Prim.Native.Nat.{ℕ, _+_, _*_, _%_}
+use lib.Dec.{eqb}
+use borrow.Author.Tests.{eq-eqb, ne-eqb}
+use Rattle.text_read.specs.declared.Parsed.{Parsed}
+use Rattle.unfold.specs.declared.Unfolded.{Unfolded}
+use Rattle.exports.specs.Stages.{refusalWord, lineSum, middleLine, readWord, placesTold, unfoldWord, verdictWord}
+use Rattle.exports.specs.Stages.{Unfolds, Judges, UnfoldStage, VerdictStage}
+
+-- ---- the numbers
+
+-- a refusal's number is told, or there is none
+told-refused : (n a b : ℕ) → (n ≡ 0 → ⊥) → b ≡ cond (eqb n 0) a b
+told-refused n a b other = sym (ap (λ t. cond t a b) (ne-eqb n 0 other))
+
+told-taken : (n a b : ℕ) → n ≡ 0 → a ≡ cond (eqb n 0) a b
+told-taken n a b e = sym (ap (λ t. cond t a b) (eq-eqb n 0 e))
+
+pub nodes-refused : {r : ℕ} (u : Unfolded) → (u .refusal ≡ 0 → ⊥) → r ≡ refusalWord (u .refusal) 0 → r ≡ unfoldWord u
+unfolding unfoldWord
+nodes-refused u other e = e ∙ told-refused _ _ _ other
+
+pub nodes-taken : {places : ℕ} (u : Unfolded) → u .refusal ≡ 0 → places ≡ placesTold u → u .count % 256 * 65536 + places ≡ unfoldWord u
+unfolding unfoldWord
+nodes-taken u taken e = ap (λ (n : ℕ). u .count % 256 * 65536 + n) e ∙ told-taken _ _ _ taken
+
+-- ---- from a text on
+
+module _ {p q : Parsed} {r : ℕ} (same : p ≡ q) where
+  pub read-refused : (p .number ≡ 0 → ⊥) → r ≡ refusalWord (p .number) (p .line) → r ≡ readWord q
+  unfolding readWord
+  read-refused other e = subst (λ (x : Parsed). r ≡ readWord x) same (e ∙ told-refused _ _ _ other)
+
+  pub read-taken : p .number ≡ 0 → r ≡ lineSum (middleLine (p .work)) * 65536 + p .work .count % 65536 → r ≡ readWord q
+  unfolding readWord
+  read-taken taken e = subst (λ (x : Parsed). r ≡ readWord x) same (e ∙ told-taken _ _ _ taken)
+
+module _ {p q : Parsed} {before : List ℕ} {r : ℕ} (same : p ≡ q) where
+  pub unfold-refused : (p .number ≡ 0 → ⊥) → r ≡ refusalWord (p .number) (p .line) → UnfoldStage q before r before
+  unfold-refused other word =
+      subst (λ (x : Parsed). UnfoldStage x before r before) same (record { refuses = λ _. (word, refl); goes-on = λ e. absurd (other e) })
+
+  pub verdict-refused : (p .number ≡ 0 → ⊥) → r ≡ refusalWord (p .number) (p .line) → VerdictStage q before r before
+  verdict-refused other word =
+      subst (λ (x : Parsed). VerdictStage x before r before) same (record { refuses = λ _. (word, refl); goes-on = λ e. absurd (other e) })
+
+module _ {p q : Parsed} {before : List ℕ} {r : ℕ} {after : List ℕ} (same : p ≡ q) (accepted : p .number ≡ 0) where
+  pub unfold-goes-on : Unfolds (p .work) before r after → UnfoldStage q before r after
+  unfold-goes-on u =
+      subst (λ (x : Parsed). UnfoldStage x before r after) same (record { refuses = λ other. absurd (other accepted); goes-on = λ _. u })
+
+  pub verdict-goes-on : Judges (p .work) before r after → VerdictStage q before r after
+  verdict-goes-on u =
+      subst (λ (x : Parsed). VerdictStage x before r after) same (record { refuses = λ other. absurd (other accepted); goes-on = λ _. u })

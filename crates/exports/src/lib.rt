@@ -1,0 +1,157 @@
+// What is made of a text, as exports: reading, unfolding and the verdict, for timing beside plain Rust, and the edges, put into the caller's list.
+// Each is one call from the bytes on, and one number answers it: bit 31 tells a refusal, and then its number and its line follow.
+
+use edge_count::Edge;
+use edge_put::Put;
+use spec_text::Line;
+use spec_text::Workload;
+use unfold::Unfolded;
+use verdict_of::Totals;
+use verdict_of::Verdict;
+ghost use mathlib.Core.Path.{_≡_};
+ghost use Prim.Native.Nat.{_+_, _*_, _%_};
+ghost use Rattle.spec_text.specs.Reading.{read};
+ghost use Rattle.edge_put.specs.Put.{putSaid};
+ghost use Rattle.exports.specs.Stages.{given, refusalWord, lineSum, middleLine, readWord, placesTold, unfoldWord, verdictWord};
+ghost use Rattle.verdict_of.specs.Verdict.{told};
+ghost use Rattle.exports.specs.Stages.{Unfolds, Judges, UnfoldStage, VerdictStage};
+ghost use Rattle.exports.specs.TextEdges.{edgesWord, FewPut, TextEdges};
+
+fn refusal_word(number: u8, line: u64) -> u32
+    ensures { λ r. ⌜ r ≡ refusalWord number line ⌝ }
+{
+    2147483648 + (number as u32) * 65536 + (line % 65536) as u32
+}
+
+fn line_sum(l: Line) -> u64
+    ensures { λ r. ⌜ r ≡ lineSum l ⌝ }
+{
+    let small = l.id as u64 + l.rel as u64 + l.to as u64;
+    (small + l.reads % 4096 + l.writes % 4096 + l.tests % 4096) % 16384
+}
+
+// Lines read, and the values of the line in the middle.
+fn value_word(w: Workload) -> u32
+    ensures { λ r. ⌜ r ≡ lineSum (middleLine w) * 65536 + w .count % 65536 ⌝ }
+{
+    let l = w.lines[w.count / 2 % 1616];
+    let sum = line_sum(l);
+    (sum * 65536 + (w.count % 65536) as u64) as u32
+}
+
+#[no_mangle]
+pub extern "C" fn stage_read(text: &[u8]) -> u32
+    ensures { λ r. ⌜ r ≡ readWord (given (now (text .entry))) ⌝ }
+{
+    let p = text_read::read_text(text);
+    if p.number != 0 {
+        return refusal_word(p.number, p.line);
+    }
+    let w = p.work;
+    value_word(w)
+}
+
+// Where the last node's statements end.
+fn places_told(u: Unfolded) -> u32
+    ensures { λ r. ⌜ r ≡ placesTold u ⌝ }
+{
+    let last = ((u.count % 64 + 63) % 64) as usize;
+    let start = u.start[last] % 16384;
+    let length = u.length[last] % 16384;
+    (start + length) as u32
+}
+
+fn unfold_word(u: Unfolded) -> u32
+    ensures { λ r. ⌜ r ≡ unfoldWord u ⌝ }
+{
+    if u.refusal != 0 {
+        return refusal_word(u.refusal, 0);
+    }
+    let nodes = (u.count % 256) as u32;
+    nodes * 65536 + places_told(u)
+}
+
+fn unfold_value(w: Workload, area: &mut [u64]) -> u32
+    ensures { λ r. ⌜ Unfolds w (now (area .entry)) r (now (area .exit)) ⌝ }
+{
+    let u = unfold::unfold(w, area);
+    unfold_word(u)
+}
+
+#[no_mangle]
+pub extern "C" fn stage_unfold(text: &[u8], area: &mut [u64]) -> u32
+    ensures { λ r. ⌜ UnfoldStage (given (now (text .entry))) (now (area .entry)) r (now (area .exit)) ⌝ }
+{
+    let p = text_read::read_text(text);
+    if p.number != 0 {
+        return refusal_word(p.number, p.line);
+    }
+    let w = p.work;
+    unfold_value(w, area)
+}
+
+// What became of edges: how many are put, or the refusal.
+fn edges_word(put: Put) -> u32
+    requires { ⌜ FewPut put ⌝ }
+    ensures { λ r. ⌜ r ≡ edgesWord (putSaid put) ⌝ }
+{
+    match put {
+        Put::All(n) => {
+            return n as u32;
+        }
+        Put::Refused(number) => {
+            return refusal_word(number, 0);
+        }
+    }
+}
+
+// Puts the edges of a text at the front of the caller's list; the rest of it stays as it was, and a refusal leaves all of it. Answers how many
+// edges are put, at most 524,288, or the refusal. No text is refused by 21: its value is one that a text gives.
+#[no_mangle]
+pub extern "C" fn text_edges<'b, 'a>(text: &'b [u8], out: &'a mut [Edge]) -> u32
+    ensures { λ r. ⌜ TextEdges (read (now (text .entry))) (now (out .entry)) r (now (out .exit)) ⌝ }
+{
+    let p = text_read::read_text(text);
+    if p.number != 0 {
+        return refusal_word(p.number, p.line);
+    }
+    let w = p.work;
+    let put = edge_list::put_workload_edges(w, out);
+    edges_word(put)
+}
+
+fn edges_told(c: Totals) -> u32
+    ensures { λ r. ⌜ r ≡ c .edges % 1048576 ⌝ }
+{
+    (c.edges % 1048576) as u32
+}
+
+fn verdict_word(v: Verdict) -> u32
+    ensures { λ r. ⌜ r ≡ verdictWord (told v) ⌝ }
+{
+    match v {
+        Verdict::Robust(c) => edges_told(c),
+        Verdict::Danger(c, _) => 1073741824 + edges_told(c),
+        Verdict::Refused(number) => refusal_word(number, 0),
+    }
+}
+
+fn judge_value(w: Workload, area: &mut [u64]) -> u32
+    ensures { λ r. ⌜ Judges w (now (area .entry)) r (now (area .exit)) ⌝ }
+{
+    let v = verdict_of::verdict_of(w, area);
+    verdict_word(v)
+}
+
+// The verdict, with a dangerous walk in the area.
+#[no_mangle]
+pub extern "C" fn stage_verdict(text: &[u8], area: &mut [u64]) -> u32
+    ensures { λ r. ⌜ VerdictStage (given (now (text .entry))) (now (area .entry)) r (now (area .exit)) ⌝ }
+{
+    let p = text_read::read_text(text);
+    if p.number != 0 {
+        return refusal_word(p.number, p.line);
+    }
+    let w = p.work;
+    judge_value(w, area)
+}

@@ -1,4 +1,0 @@
-pub mod Decided
-pub mod Back
-pub mod Steps
-pub mod StepLaws

@@ -1,8 +1,0 @@
-pub mod Program
-pub mod Unfolding
-pub mod Graph
-pub mod Edge
-pub mod Walk
-pub mod ExampleText
-pub mod Examples
-pub mod EdgeExamples

@@ -1,3 +1,0 @@
-pub mod Ids
-pub mod Guarded
-pub mod Keys

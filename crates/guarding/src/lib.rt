@@ -1,1 +1,0 @@
-// Laws only: which keys shield a place, from the word of what is seen there. See specs/.

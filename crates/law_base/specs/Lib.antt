@@ -1,0 +1,4 @@
+pub mod BoolLaws
+pub mod ListLaws
+pub mod SetLaws
+pub mod PositionLaws

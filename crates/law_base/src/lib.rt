@@ -1,0 +1,1 @@
+// Laws of the words on lists and sets of spec_base; no code.

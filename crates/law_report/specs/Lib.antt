@@ -1,0 +1,3 @@
+pub mod ShownWalk
+pub mod Reports
+pub mod One

@@ -1,0 +1,7 @@
+pub mod TextLaws
+pub mod Written
+pub mod ReadingLaws
+pub mod LineCountLaws
+pub mod ValueLaws
+pub mod ReaderState
+pub mod ReaderStateLaws

@@ -1,0 +1,3 @@
+pub mod ClosedWalks
+pub mod WalkExamples
+pub mod Reach

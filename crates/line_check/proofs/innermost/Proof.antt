@@ -1,0 +1,22 @@
+-- The word is the depth and the cell is the part at that depth, of which `innermostOf` asks the same two tests.
+use Rattle.line_state.specs.StateWords.{stateIn}
+use borrow.Author.Needs.{needs}
+use Rattle.line_check.proofs.innermost.Statement.{statement}
+use Rattle.line_check.proofs.innermost.Tie as tie
+use Rattle.line_check.proofs.innermost.Reads as reads
+use Rattle.line_check.proofs.innermost.Lts as lts
+use Rattle.line_state.proofs.cell.Reads as cell-reads
+use Rattle.word_list.proofs.word_at.Reads as word-at-reads
+
+word-at-requires : tie.Need-word-at-requires
+word-at-requires c κs = search needs
+
+cell-requires : tie.Need-cell-requires
+cell-requires c κs = search needs
+
+returns : tie.Need-returns
+unfolding stateIn
+returns c = rw (c .cell .ensures, c .before .word-at .ensures)
+
+pub innermost-spec : {M : Type 1} → statement M
+innermost-spec = tie.close (tie.spec word-at-requires cell-requires returns)

@@ -1,0 +1,197 @@
+// The tests of a line over the state that words keep. They are joined by `&` and `|`, which branch nowhere.
+use line_kinds::sets_fit;
+use line_links::link_fits;
+use spec_text::Line;
+use spec_text::LineKind;
+use spec_text::StatementKind;
+use word_list::word_at;
+ghost use mathlib.Core.Path.{_≡_};
+ghost use mathlib.Core.Bool.{not, _&&_};
+ghost use Prim.Native.Nat.{_-_};
+ghost use lib.Dec.{eqb, ltb};
+ghost use Rattle.spec_text.specs.declared.Line.{Line as LineValue};
+ghost use Rattle.spec_text.specs.declared.LineKind.the-variants.{Rl as Relation, Fk as Key, Pr as Program, St as Statement, Lo as Loop};
+ghost use Rattle.spec_text.specs.declared.LineKind.the-variants.{Br as Branch, El as Second, En as Closing, Li as Link};
+ghost use Rattle.line_state.specs.StateSteps.{inBodyOf, innermostOf, checkBy, checkAs, checkOf};
+ghost use Rattle.line_state.specs.StateWords.{stateIn};
+ghost use lib.ListN.{getD};
+
+// A number is the sum of two.
+fn is_sum(n: u64, a: u64, b: u64) -> bool
+    ensures { λ r. ⌜ r ≡ (not (ltb n a) && eqb (n - a) b) ⌝ }
+{
+    if n < a {
+        return false;
+    }
+    n - a == b
+}
+
+// A program has begun, and its links have not.
+fn in_body(words: &[u64]) -> bool
+    ensures { λ r. ⌜ r ≡ inBodyOf (getD (now (words .entry)) 421 0) (getD (now (words .entry)) 417 0) ⌝ }
+{
+    let programs = word_at(words, line_state::PROGRAMS);
+    let links = word_at(words, line_state::LINKS);
+    (programs != 0) & (links == 0)
+}
+
+// The innermost open block is of this part.
+fn innermost(words: &[u64], part: u64) -> bool
+    ensures { λ r. ⌜ r ≡ innermostOf (stateIn (now (words .entry)) .stack) part ⌝ }
+{
+    let depth = word_at(words, line_state::DEPTH);
+    let innermost = line_state::cell(words, line_state::OPEN_PARTS, depth);
+    (depth != 0) & (innermost == part)
+}
+
+// The number of the first test that fails, in the order of document 01; 0 where none does.
+fn verdict(room: bool, ordered: bool, named: bool, sets: bool, link: bool, fits: bool) -> u8
+    ensures { λ r. ⌜ r ≡ checkBy room ordered named sets link fits ⌝ }
+{
+    if !room {
+        return 9;
+    }
+    if !ordered {
+        return 7;
+    }
+    if !named {
+        return 6;
+    }
+    if !sets {
+        return 5;
+    }
+    if link {
+        if !fits {
+            return 8;
+        }
+    }
+    0
+}
+
+fn check_relation(words: &[u64], l: Line) -> u8
+    ensures { λ r. ⌜ r ≡ checkAs (stateIn (now (words .entry))) l Relation ⌝ }
+{
+    let lines = word_at(words, line_state::LINES);
+    let relations = word_at(words, line_state::RELATIONS);
+    verdict(
+        relations < 32,
+        lines == relations,
+        l.id as u64 == relations,
+        l.reads != 0,
+        false,
+        true,
+    )
+}
+
+fn check_key(words: &[u64], l: Line) -> u8
+    ensures { λ r. ⌜ r ≡ checkAs (stateIn (now (words .entry))) l Key ⌝ }
+{
+    let lines = word_at(words, line_state::LINES);
+    let relations = word_at(words, line_state::RELATIONS);
+    let keys = word_at(words, line_state::KEYS);
+    let ordered = is_sum(lines, relations, keys);
+    let named = (l.id as u64 == keys) & ((l.rel as u64) < relations) & ((l.to as u64) < relations);
+    verdict(keys < 32, ordered, named, true, false, true)
+}
+
+fn check_program(words: &[u64], l: Line) -> u8
+    ensures { λ r. ⌜ r ≡ checkAs (stateIn (now (words .entry))) l Program ⌝ }
+{
+    let programs = word_at(words, line_state::PROGRAMS);
+    let depth = word_at(words, line_state::DEPTH);
+    verdict(
+        programs < 16,
+        depth == 0,
+        l.id as u64 == programs,
+        true,
+        false,
+        true,
+    )
+}
+
+fn check_statement(words: &[u64], kind: StatementKind, l: Line) -> u8
+    ensures { λ r. ⌜ r ≡ checkAs (stateIn (now (words .entry))) l (Statement kind) ⌝ }
+{
+    let programs = word_at(words, line_state::PROGRAMS);
+    let statements = word_at(words, line_state::STATEMENTS);
+    let body = word_at(words, line_state::BODY);
+    let relations = word_at(words, line_state::RELATIONS);
+    let whole = line_state::cell(words, line_state::SETS, l.rel as u64);
+    let room = (programs == 0) | ((statements < 32) & (body < 64));
+    let named = (l.id as u64 == statements) & ((l.rel as u64) < relations);
+    verdict(
+        room,
+        in_body(words),
+        named,
+        sets_fit(whole, kind, l),
+        false,
+        true,
+    )
+}
+
+// A loop or a branch begins.
+fn check_opening(words: &[u64]) -> u8
+    ensures { λ r. ⌜
+        ((l : LineValue) → (r ≡ checkAs (stateIn (now (words .entry))) l Loop) × (r ≡ checkAs (stateIn (now (words .entry))) l Branch))
+        ⌝ }
+{
+    let programs = word_at(words, line_state::PROGRAMS);
+    let body = word_at(words, line_state::BODY);
+    let depth = word_at(words, line_state::DEPTH);
+    let room = (programs == 0) | ((body < 64) & (depth < 8));
+    verdict(room, in_body(words), true, true, false, true)
+}
+
+fn check_second(words: &[u64]) -> u8
+    ensures { λ r. ⌜ ((l : LineValue) → r ≡ checkAs (stateIn (now (words .entry))) l Second) ⌝ }
+{
+    let programs = word_at(words, line_state::PROGRAMS);
+    let body = word_at(words, line_state::BODY);
+    let room = (programs == 0) | (body < 64);
+    let ordered = in_body(words) & innermost(words, 1);
+    verdict(room, ordered, true, true, false, true)
+}
+
+fn check_closing(words: &[u64]) -> u8
+    ensures { λ r. ⌜ ((l : LineValue) → r ≡ checkAs (stateIn (now (words .entry))) l Closing) ⌝ }
+{
+    let programs = word_at(words, line_state::PROGRAMS);
+    let body = word_at(words, line_state::BODY);
+    let room = (programs == 0) | (body < 64);
+    let ordered = in_body(words) & (innermost(words, 0) | innermost(words, 2));
+    verdict(room, ordered, true, true, false, true)
+}
+
+fn check_link(words: &[u64], l: Line) -> u8
+    ensures { λ r. ⌜ r ≡ checkAs (stateIn (now (words .entry))) l Link ⌝ }
+{
+    let programs = word_at(words, line_state::PROGRAMS);
+    let links = word_at(words, line_state::LINKS);
+    let depth = word_at(words, line_state::DEPTH);
+    let keys = word_at(words, line_state::KEYS);
+    let statements = word_at(words, line_state::STATEMENTS);
+    let room = (programs == 0) | (links < 32);
+    let ordered = (programs != 0) & (depth == 0);
+    let named = ((l.id as u64) < keys)
+        & ((l.rel as u64) < statements)
+        & ((l.to as u64) < statements);
+    verdict(room, ordered, named, true, true, link_fits(words, l))
+}
+
+// The number of the first test that the line fails, 0 where it passes all.
+pub fn check(words: &[u64], l: Line) -> u8
+    ensures { λ r. ⌜ r ≡ checkOf (stateIn (now (words .entry))) l ⌝ }
+{
+    let kind = l.kind;
+    match kind {
+        LineKind::Rl => check_relation(words, l),
+        LineKind::Fk => check_key(words, l),
+        LineKind::Pr => check_program(words, l),
+        LineKind::St(j) => check_statement(words, j, l),
+        LineKind::Lo => check_opening(words),
+        LineKind::Br => check_opening(words),
+        LineKind::El => check_second(words),
+        LineKind::En => check_closing(words),
+        LineKind::Li => check_link(words, l),
+    }
+}

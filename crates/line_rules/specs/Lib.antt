@@ -1,0 +1,6 @@
+pub mod Holds
+pub mod ArrayLaws
+pub mod TestLaws
+pub mod HoldsLaws
+pub mod WordsHold
+pub mod WordsHoldLaws

@@ -1,0 +1,56 @@
+// What reading keeps of the lines taken so far, in lent words: no line yet, the tests of a line, and taking a line.
+use spec_text::Line;
+use word_list::word_at;
+ghost use mathlib.Core.Path.{_≡_};
+ghost use mathlib.Core.List.{List, [], _∷_, _++_};
+ghost use mathlib.Core.Option.{none};
+ghost use Prim.Native.Nat.{_≤_};
+ghost use lib.Dec.{eqb};
+ghost use lib.ListN.{length};
+ghost use Rattle.spec_text.specs.declared.Line.{Line as LineValue};
+ghost use Rattle.spec_text.specs.Reading.{fault, noneOpen};
+ghost use Rattle.line_state.specs.StateSteps.{checkOf};
+ghost use Rattle.line_state.specs.StateWords.{stateIn, startedIn, Taken};
+ghost use Rattle.line_rules.specs.Holds.{faultOf};
+ghost use Rattle.line_rules.specs.WordsHold.{HoldsWords};
+
+// No line taken yet. The state needs 424 words; a shorter area stays as it is.
+pub fn start(words: &mut [u64])
+    ensures { λ _. ⌜
+        (now (words .exit) ≡ startedIn (now (words .entry)))
+        × (424 ≤ length (now (words .entry)) → HoldsWords (now (words .exit)) [])
+        ⌝ }
+{
+    line_state::start(words);
+}
+
+// The number of the first test that the line fails after the lines taken, 0 where it passes all.
+pub fn check(words: &[u64], l: Line) -> u8
+    ensures { λ r. ⌜
+        (r ≡ checkOf (stateIn (now (words .entry))) l)
+        × ((lines : List LineValue) → HoldsWords (now (words .entry)) lines → faultOf r ≡ fault lines l)
+        ⌝ }
+{
+    line_check::check(words, l)
+}
+
+// The line taken. An area of fewer than 424 words stays as it is.
+pub fn take(words: &mut [u64], l: Line)
+    ensures { λ _. ⌜
+        Taken (now (words .entry)) l (now (words .exit))
+        × ((lines : List LineValue) → HoldsWords (now (words .entry)) lines → fault lines l ≡ none
+        → HoldsWords (now (words .exit)) (lines ++ (l ∷ [])))
+        ⌝ }
+{
+    line_take::take(words, l);
+}
+
+// How many blocks are open.
+pub fn depth(words: &[u64]) -> u64
+    ensures { λ r. ⌜
+        (r ≡ stateIn (now (words .entry)) .stack .depth)
+        × ((lines : List LineValue) → HoldsWords (now (words .entry)) lines → noneOpen lines ≡ eqb r 0)
+        ⌝ }
+{
+    word_at(words, line_state::DEPTH)
+}

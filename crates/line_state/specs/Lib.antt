@@ -1,0 +1,5 @@
+pub mod Records
+pub mod StateSteps
+pub mod StateWords
+pub mod StateWordsLaws
+pub mod StartLaws

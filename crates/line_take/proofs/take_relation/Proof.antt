@@ -1,0 +1,34 @@
+-- The set is stored at the number of relations so far, and relations and lines go up: the state with one relation more (took-relation).
+use Rattle.line_take.specs.TakeLaws.{took-relation}
+use borrow.Author.Needs.{needs}
+use Rattle.line_take.proofs.take_relation.Statement.{statement}
+use Rattle.line_take.proofs.take_relation.Tie as tie
+use Rattle.line_take.proofs.take_relation.Reads as reads
+use Rattle.line_take.proofs.take_relation.Lts as lts
+use Rattle.line_take.proofs.count_line.Reads as count-line-reads
+use Rattle.line_take.proofs.put.Reads as put-reads
+use Rattle.word_list.proofs.word_at.Reads as word-at-reads
+
+word-at-requires : tie.Need-word-at-requires
+word-at-requires c κs = search needs
+
+put-requires : tie.Need-put-requires
+put-requires c κs = search needs
+
+count-line-requires : tie.Need-count-line-requires
+count-line-requires c κs = search needs
+
+same-length : tie.Need-same-length
+same-length c = search needs
+
+returns : tie.Need-returns
+returns c =
+    let counted = c .before .before in
+    let stored = counted .before .before .before .before in
+    let at = stored .before .before in
+    let entry = at .before .before .before in
+    took-relation (entry .args .reads) (entry .pre) (at .word-at .ensures) (stored .put .ensures) (counted .count-line .ensures)
+
+pub take-relation-spec : {M : Type 1} → statement M
+take-relation-spec =
+    tie.close (tie.spec word-at-requires put-requires count-line-requires same-length returns)

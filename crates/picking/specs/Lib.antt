@@ -1,4 +1,0 @@
-pub mod Picks
-pub mod Kept
-pub mod PairLaws
-pub mod KeptLaws

@@ -1,0 +1,4 @@
+pub mod Ids
+pub mod Guarded
+pub mod Keys
+pub mod Placed

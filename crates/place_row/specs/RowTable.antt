@@ -1,0 +1,143 @@
+-- Tables of places: rows, the edges between rows, and rows as words.
+use mathlib.Core.Bool.{Bool, cond, not, _&&_, _||_}
+use mathlib.Core.List.{List, [], _∷_, _++_, map, flatMap}
+use Prim.Native.Nat.{ℕ, zero, suc, _+_, _*_, _/_, min}
+use lib.Bits.{bitAnd}
+use lib.Count.{onesIn, trailingZeros}
+use lib.Dec.{eqb}
+use lib.ListN.{length, getD}
+use Rattle.spec_base.specs.Basic.{numbers, meets}
+use Rattle.spec_text.specs.declared.StatementKind.{StatementKind}
+use Rattle.spec_text.specs.declared.StatementKind.the-variants.{Is, Ks, Ps, Ku, Pu, Kd, Pd}
+use Rattle.spec_graph.specs.Graph.{Flow}
+use Rattle.spec_graph.specs.Unfolding.{Node}
+use Rattle.spec_graph.specs.Edge.{hasTests, inserts, deletes, selects, R, W, T, Letter, Place, at, guarded, placesOf, Edge}
+use Rattle.spec_graph.specs.Edge.Letter.{A, B, C, D, E}
+use Rattle.place_row.specs.declared.Row.{Row}
+
+-- the word whose bit k is set where the test passes for k, for k below n
+unfoldable pub wordOf : (ℕ → Bool) → ℕ → ℕ
+wordOf test zero = 0
+wordOf test (suc n) = cond (test 0) 1 0 + 2 * wordOf (λ k. test (suc k)) n
+
+-- the row of a place; keys are below 32
+unfoldable pub rowOf : Place → Row
+rowOf s = record {
+  node = s .number;
+  place = s .place;
+  kind = at s .kind;
+  relation = at s .relation;
+  reads = R (at s);
+  writes = W (at s);
+  tests = T (at s);
+  keys = wordOf (λ f. guarded f s) 32;
+}
+
+-- the rows of the places of all nodes
+unfoldable pub rowsOf : List Node → List Row
+rowsOf nodes = map rowOf (placesOf 0 nodes)
+
+-- EA to EE over rows. A row's sets are taken as they stand. Where the kind has no such set a row of a place holds 0 (`rowOf`), and so do all
+-- rows that `rows::fill_rows` makes: there a test of the set is a test of the kind too. Any other table is judged by the sets that it holds.
+unfoldable pub rowHolds : Letter → Row → Row → Bool
+rowHolds A p q = not (deletes (p .kind)) && not (inserts (q .kind)) && meets (p .writes) (q .writes)
+rowHolds B p q = not (deletes (p .kind)) && meets (p .writes) (q .reads)
+rowHolds C p q = hasTests (q .kind) && (inserts (p .kind) || deletes (p .kind) || meets (p .writes) (q .tests))
+rowHolds D p q = not (inserts (q .kind)) && meets (p .reads) (q .writes)
+rowHolds E p q = hasTests (p .kind) && (inserts (q .kind) || deletes (q .kind) || meets (q .writes) (p .tests))
+
+-- E1 over rows
+unfoldable pub rowForward : Row → Row → Bool
+rowForward p q =
+    eqb (p .relation) (q .relation)
+    && (rowHolds A p q || rowHolds B p q || rowHolds C p q || rowHolds D p q || rowHolds E p q)
+
+-- E2 over rows: some key shields the pair where the two words of keys meet
+unfoldable pub rowBack : Row → Row → Bool
+rowBack p q =
+    eqb (p .relation) (q .relation)
+    && (rowHolds E p q || selects (p .kind) && rowHolds D p q && not (meets (p .keys) (q .keys)))
+
+-- an edge with this flow stands between the two rows
+abbrev pub rowStands : Flow → Row → Row → Bool
+rowStands Flow.forward p q = rowForward p q
+rowStands Flow.back p q = rowBack p q
+
+-- E6 over rows
+unfoldable pub rowLetter : Flow → Row → Row → Letter
+rowLetter Flow.forward p q =
+    cond (rowHolds A p q) A (cond (rowHolds B p q) B (cond (rowHolds C p q) C (cond (rowHolds D p q) D E)))
+rowLetter Flow.back p q = cond (rowHolds E p q) E D
+
+unfoldable pub rowShared : Letter → Row → Row → ℕ
+rowShared A p q = bitAnd (p .writes) (q .writes)
+rowShared B p q = bitAnd (p .writes) (q .reads)
+rowShared C p q = bitAnd (p .writes) (q .tests)
+rowShared D p q = bitAnd (p .reads) (q .writes)
+rowShared E p q = bitAnd (p .tests) (q .writes)
+
+unfoldable pub rowEdge : Flow → Row → Row → Edge
+rowEdge flow p q =
+    let letter = rowLetter flow p q in
+    let meeting = rowShared letter p q in
+    record {
+      node = p .node;
+      leaves = p .place;
+      into = q .node;
+      enters = q .place;
+      flow = flow;
+      letter = letter;
+      sharing = onesIn 64 meeting;
+      lowest = trailingZeros 64 meeting;
+    }
+
+-- E5 over rows
+unfoldable pub rowEdges : Row → Row → List Edge
+rowEdges p q =
+    cond (rowForward p q) (rowEdge Flow.forward p q ∷ []) [] ++ cond (rowBack p q) (rowEdge Flow.back p q ∷ []) []
+
+unfoldable pub edgesOfRows : List Row → List Edge
+edgesOfRows rows = flatMap (λ p. flatMap (λ q. rowEdges p q) rows) rows
+
+-- ---- rows as words: eight to a row, in the order of the fields
+
+abbrev pub kindNumber : StatementKind → ℕ
+kindNumber Is = 0
+kindNumber Ks = 1
+kindNumber Ps = 2
+kindNumber Ku = 3
+kindNumber Pu = 4
+kindNumber Kd = 5
+kindNumber Pd = 6
+
+unfoldable pub kindOf : ℕ → StatementKind
+kindOf n =
+    cond (eqb n 0) Is (cond (eqb n 1) Ks (cond (eqb n 2) Ps (cond (eqb n 3) Ku (cond (eqb n 4) Pu (cond (eqb n 5) Kd Pd)))))
+
+unfoldable pub wordsOf : Row → List ℕ
+wordsOf p =
+    p .node ∷ p .place ∷ kindNumber (p .kind) ∷ p .relation ∷ p .reads ∷ p .writes ∷ p .tests ∷ p .keys ∷ []
+
+-- the table of rows
+unfoldable pub tableOf : List Row → List ℕ
+tableOf rows = flatMap wordsOf rows
+
+-- row i of a table
+unfoldable pub rowAt : List ℕ → ℕ → Row
+rowAt table i = record {
+  node = getD table (i * 8) 0;
+  place = getD table (i * 8 + 1) 0;
+  kind = kindOf (getD table (i * 8 + 2) 0);
+  relation = getD table (i * 8 + 3) 0;
+  reads = getD table (i * 8 + 4) 0;
+  writes = getD table (i * 8 + 5) 0;
+  tests = getD table (i * 8 + 6) 0;
+  keys = getD table (i * 8 + 7) 0;
+}
+
+-- a table has at most 512 rows: what stands past them is not looked at
+unfoldable pub rowCount : List ℕ → ℕ
+rowCount table = min (length table / 8) 512
+
+unfoldable pub tableRows : List ℕ → List Row
+tableRows table = map (rowAt table) (numbers (rowCount table))

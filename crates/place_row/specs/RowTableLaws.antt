@@ -1,0 +1,329 @@
+-- Laws of tables: the edges between the rows of places are the edges between the places, and rows are read back from their words.
+use mathlib.Core.Path.{_≡_, refl, sym, ap, ap₂, _∙_, fun-ext}
+use mathlib.Core.Bool.{Bool, true, false, cond, not, _&&_}
+use mathlib.Core.List.{List, [], _∷_, _++_, map, flatMap, List·Memᴰ}
+use mathlib.Core.List.List·Memᴰ.{List·Memᴰ·head, List·Memᴰ·tail}
+use mathlib.Core.List.{List·Memᴰ·not-nil, List·Memᴰ·cases-cons, List·Memᴰ·append-cases}
+use mathlib.Core.Logic.{⊎-elim}
+use Prim.Native.Nat.{ℕ, zero, suc, _+_, _*_, _/_, _%_, _^_, _≤_, _<_, min}
+use native.Mathlib.Nat.{not-suc-le-zero, le-of-suc-le-suc, add-zero}
+use native.Mathlib.Omega.{arith}
+use lib.Count.{onesIn, ones, ones-step, trailingZeros}
+use lib.Dec.{eqb}
+use lib.ListN.{length, getD}
+use lib.Seq.{getD-append-add}
+use borrow.Author.Tests.{eqb-true, eq-eqb, ne-eqb}
+use Rattle.spec_base.specs.Basic.{numbers, numbersFrom, has, meets}
+use Rattle.law_base.specs.BoolLaws.{same-test, and-true, and-of, and-right}
+use Rattle.law_base.specs.ListLaws.{any-true, any-of}
+use Rattle.law_base.specs.SetLaws.{has-first, has-later, meets-has-below, has-meets, meets-comm, meets-empty}
+use Rattle.spec_text.specs.declared.StatementKind.{StatementKind}
+use Rattle.spec_text.specs.declared.StatementKind.the-variants.{Is, Ks, Ps, Ku, Pu, Kd, Pd}
+use Rattle.spec_graph.specs.Graph.{Flow}
+use Rattle.spec_graph.specs.Program.{Link}
+use Rattle.spec_graph.specs.Unfolding.{Node, Occurrence}
+use Rattle.spec_graph.specs.Edge.{
+  R,
+  W,
+  hasWrites,
+  inserts,
+  deletes,
+  Letter,
+  Place,
+  at,
+  holds,
+  sameRelation,
+  guarded,
+  shielded,
+  forward,
+  back,
+  letterOf,
+  shared,
+}
+use Rattle.spec_graph.specs.Edge.{edgeOf, edgesBetween, placesFrom, placesOf, edgesOf}
+use Rattle.spec_graph.specs.Edge.Letter.{A, B, C, D, E}
+use Rattle.place_row.specs.declared.Row.{Row}
+use Rattle.place_row.specs.RowTable.{wordOf, rowOf, rowsOf, rowHolds, rowForward, rowBack, rowLetter, rowShared, rowEdge, rowEdges, edgesOfRows}
+use Rattle.place_row.specs.RowTable.{kindNumber, kindOf, wordsOf, tableOf, rowAt, rowCount, tableRows}
+
+-- ---- words from tests
+
+-- a word from n tests is below 2 ^ n
+pub wordOf-small : (test : ℕ → Bool) (n : ℕ) → wordOf test n < 2 ^ n
+unfolding wordOf
+wordOf-small test zero = omega arith
+wordOf-small test (suc n) = go (test 0) (wordOf-small (λ k. test (suc k)) n)
+  where
+    go : (b : Bool) → wordOf (λ k. test (suc k)) n < 2 ^ n → cond b 1 0 + 2 * wordOf (λ k. test (suc k)) n < 2 ^ suc n
+    go true h = omega arith
+    go false h = omega arith
+
+-- a word from tests has the attributes that pass
+pub wordOf-has : (test : ℕ → Bool) (n k : ℕ) → k < n → has (wordOf test n) k ≡ test k
+unfolding wordOf
+wordOf-has test zero k h = absurd (not-suc-le-zero h)
+wordOf-has test (suc n) zero h = has-first (wordOf test (suc n)) ∙ go (test 0)
+  where
+    go : (b : Bool) → eqb ((cond b 1 0 + 2 * wordOf (λ k. test (suc k)) n) % 2) 1 ≡ b
+    go true = eq-eqb ((1 + 2 * wordOf (λ k. test (suc k)) n) % 2) 1 (omega arith)
+    go false = ne-eqb ((0 + 2 * wordOf (λ k. test (suc k)) n) % 2) 1 (omega arith)
+wordOf-has test (suc n) (suc k) h =
+    has-later (wordOf test (suc n)) k ∙ ap (λ (x : ℕ). has x k) (go (test 0)) ∙ wordOf-has (λ j. test (suc j)) n k (le-of-suc-le-suc h)
+  where
+    go : (b : Bool) → (cond b 1 0 + 2 * wordOf (λ j. test (suc j)) n) / 2 ≡ wordOf (λ j. test (suc j)) n
+    go true = omega arith
+    go false = omega arith
+
+-- ---- the rows of places
+
+-- every key of the node's links is below 32
+abbrev pub KeysSmall : Node → Type 0
+KeysSmall n = (l : Link) → List·Memᴰ l (n .links) → l .key < 32
+
+-- a key that guards a place is the key of a link of its node
+guarded-link : (s : Place) (f : ℕ) → guarded f s ≡ true → (l : Link) × List·Memᴰ l (s .node .links) × (l .key ≡ f)
+unfolding guarded
+guarded-link s f e =
+    let found = any-true _ (s .node .links) e in
+    (found .0, found .1, eqb-true _ _ (and-true _ _ (found .2) .0))
+
+-- the keys of a row are the keys that guard the place
+pub keys-guarded : (s : Place) (f : ℕ) → f < 32 → has (rowOf s .keys) f ≡ guarded f s
+unfolding rowOf
+keys-guarded s f h = wordOf-has (λ k. guarded k s) 32 f h
+
+-- the keys of a row are below 32
+pub keys-small : (s : Place) → rowOf s .keys < 2 ^ 32
+unfolding rowOf
+keys-small s = wordOf-small (λ k. guarded k s) 32
+
+-- a pair of places is shielded where the keys of its rows meet
+pub shielded-rows : (s t : Place) → KeysSmall (s .node) → shielded s t ≡ meets (rowOf s .keys) (rowOf t .keys)
+unfolding shielded
+shielded-rows s t small = same-test _ _ meeting shielding
+  where
+    meeting : shielded s t ≡ true → meets (rowOf s .keys) (rowOf t .keys) ≡ true
+    meeting e =
+        let found = any-true _ (s .node .links) e in
+        let both = and-true _ _ (found .2) in
+        let h = small (found .0) (found .1) in
+        has-meets _ _ (found .0 .key) (keys-guarded s _ h ∙ both .0) (keys-guarded t _ h ∙ both .1)
+
+    shielding : meets (rowOf s .keys) (rowOf t .keys) ≡ true → shielded s t ≡ true
+    shielding e =
+        let found = meets-has-below 32 (rowOf s .keys) (rowOf t .keys) (keys-small s) e in
+        let one = sym (keys-guarded s _ (found .1)) ∙ found .2 in
+        let two = sym (keys-guarded t _ (found .1)) ∙ found .3 in
+        let link = guarded-link s (found .0) one in
+        any-of _ (link .1) (and-of (ap (λ (f : ℕ). guarded f s) (link .2) ∙ one) (ap (λ (f : ℕ). guarded f t) (link .2) ∙ two))
+
+-- a set that the kind lacks meets nothing
+lacking-left : (b : Bool) (rest : Bool) (x y : ℕ) → b && rest && meets (cond b x 0) y ≡ rest && meets (cond b x 0) y
+lacking-left true rest x y = refl
+lacking-left false rest x y = sym (and-right rest (meets-empty y))
+
+lacking-right : (b : Bool) (rest : Bool) (x y : ℕ) → b && rest && meets x (cond b y 0) ≡ rest && meets x (cond b y 0)
+lacking-right true rest x y = refl
+lacking-right false rest x y = sym (and-right rest (meets-comm x 0 ∙ meets-empty x))
+
+lacking-both : (a b c d : Bool) (x y : ℕ)
+    → a && b && c && d && meets (cond a x 0) (cond b y 0) ≡ c && d && meets (cond a x 0) (cond b y 0)
+lacking-both true true c d x y = refl
+lacking-both true false c d x y = sym (and-right (c && d) (meets-comm x 0 ∙ meets-empty x))
+lacking-both false b c d x y = sym (and-right (c && d) (meets-empty (cond b y 0)))
+
+-- letters between rows are letters between their statements
+pub holds-rows : (letter : Letter) (s t : Place) → holds letter (at s) (at t) ≡ rowHolds letter (rowOf s) (rowOf t)
+unfolding holds rowHolds rowOf W
+holds-rows A s t =
+    lacking-both (hasWrites (at s .kind)) (hasWrites (at t .kind)) (not (deletes (at s .kind))) (not (inserts (at t .kind))) (at s .writes)
+    (at t .writes)
+holds-rows B s t = lacking-left (hasWrites (at s .kind)) (not (deletes (at s .kind))) (at s .writes) (R (at t))
+holds-rows C s t = refl
+holds-rows D s t = lacking-right (hasWrites (at t .kind)) (not (inserts (at t .kind))) (R (at s)) (at t .writes)
+holds-rows E s t = refl
+
+-- a forward edge stands between places where it stands between their rows
+pub forward-rows : (s t : Place) → forward s t ≡ rowForward (rowOf s) (rowOf t)
+unfolding forward sameRelation rowForward rowOf
+forward-rows s t = simp (holds-rows A s t, holds-rows B s t, holds-rows C s t, holds-rows D s t, holds-rows E s t) refl
+
+-- a back edge stands between places where it stands between their rows
+pub back-rows : (s t : Place) → KeysSmall (s .node) → back s t ≡ rowBack (rowOf s) (rowOf t)
+unfolding back sameRelation rowBack rowOf
+back-rows s t small = simp (holds-rows D s t, holds-rows E s t, shielded-rows s t small) refl
+
+-- the letter between places is the letter between their rows
+pub letter-rows : (flow : Flow) (s t : Place) → letterOf flow (at s) (at t) ≡ rowLetter flow (rowOf s) (rowOf t)
+unfolding letterOf rowLetter
+letter-rows Flow.forward s t = simp (holds-rows A s t, holds-rows B s t, holds-rows C s t, holds-rows D s t)
+letter-rows Flow.back s t = simp (holds-rows E s t)
+
+-- what a letter's sets share between places they share between their rows
+pub shared-rows : (letter : Letter) (s t : Place) → shared letter (at s) (at t) ≡ rowShared letter (rowOf s) (rowOf t)
+unfolding shared rowShared rowOf
+shared-rows A s t = refl
+shared-rows B s t = refl
+shared-rows C s t = refl
+shared-rows D s t = refl
+shared-rows E s t = refl
+
+-- the edge between places is the edge between their rows
+pub edge-rows : (flow : Flow) (s t : Place) → edgeOf flow s t ≡ rowEdge flow (rowOf s) (rowOf t)
+unfolding edgeOf rowEdge rowOf
+edge-rows flow s t = λ i. record {
+  node = s .number;
+  leaves = s .place;
+  into = t .number;
+  enters = t .place;
+  flow = flow;
+  letter = letter-rows flow s t i;
+  sharing = onesIn 64 (meeting i);
+  lowest = trailingZeros 64 (meeting i);
+}
+  where
+    meeting : shared (letterOf flow (at s) (at t)) (at s) (at t) ≡ rowShared (rowLetter flow (rowOf s) (rowOf t)) (rowOf s) (rowOf t)
+    meeting = shared-rows (letterOf flow (at s) (at t)) s t ∙ ap (λ (l : Letter). rowShared l (rowOf s) (rowOf t)) (letter-rows flow s t)
+
+-- the edges between two places are those between their rows
+pub between-rows : (s t : Place) → KeysSmall (s .node) → edgesBetween s t ≡ rowEdges (rowOf s) (rowOf t)
+unfolding edgesBetween rowEdges
+between-rows s t small = simp (forward-rows s t, back-rows s t small, edge-rows Flow.forward s t, edge-rows Flow.back s t)
+
+-- ---- all pairs
+
+module _ {A B C : Type 0} where
+  -- to map and then to gather is to gather what is mapped
+  pub flatMap-map : (f : B → List C) (g : A → B) (l : List A) → flatMap f (map g l) ≡ flatMap (λ x. f (g x)) l
+  unfolding flatMap
+  flatMap-map f g [] = refl
+  flatMap-map f g (x ∷ l) = ap (λ (r : List C). f (g x) ++ r) (flatMap-map f g l)
+
+module _ {A C : Type 0} where
+  -- what agrees on each element gathers the same
+  pub flatMap-same : (f g : A → List C) (l : List A) → ((x : A) → List·Memᴰ x l → f x ≡ g x) → flatMap f l ≡ flatMap g l
+  unfolding flatMap
+  flatMap-same f g [] same = refl
+  flatMap-same f g (x ∷ l) same =
+      ap₂ (λ (a b : List C). a ++ b) (same x (List·Memᴰ·head refl)) (flatMap-same f g l (λ y m. same y (List·Memᴰ·tail m)))
+
+-- a place of a node stands in that node
+placesFrom-node : (m : ℕ) (n : Node) (i : ℕ) (l : List Occurrence) {s : Place} → List·Memᴰ s (placesFrom m n i l) → s .node ≡ n
+unfolding placesFrom
+placesFrom-node m n i [] h = absurd (List·Memᴰ·not-nil h)
+placesFrom-node m n i (o ∷ l) h =
+    ⊎-elim (λ e. ap (λ (s : Place). s .node) e) (λ r. placesFrom-node m n (suc i) l r) (List·Memᴰ·cases-cons h)
+
+-- a place of nodes stands in one of them
+pub placesOf-node : (m : ℕ) (nodes : List Node) {s : Place} → List·Memᴰ s (placesOf m nodes) → List·Memᴰ (s .node) nodes
+unfolding placesOf
+placesOf-node m [] h = absurd (List·Memᴰ·not-nil h)
+placesOf-node m (n ∷ nodes) h =
+    ⊎-elim
+    (λ e. List·Memᴰ·head (placesFrom-node m n 0 (n .places) e))
+    (λ r. List·Memᴰ·tail (placesOf-node (suc m) nodes r))
+    (List·Memᴰ·append-cases (placesFrom m n 0 (n .places)) h)
+
+-- E5: all edges of nodes are the edges of their rows
+pub edges-rows : (nodes : List Node) → ((n : Node) → List·Memᴰ n nodes → KeysSmall n) → edgesOf nodes ≡ edgesOfRows (rowsOf nodes)
+unfolding edgesOf edgesOfRows rowsOf
+edges-rows nodes small =
+    let places = placesOf 0 nodes in
+    flatMap-same _ _ places (λ s m. flatMap-same _ _ places (λ t k. between-rows s t (small (s .node) (placesOf-node 0 nodes m)))
+    ∙ sym (flatMap-map (rowEdges (rowOf s)) rowOf places))
+    ∙ sym (flatMap-map (λ p. flatMap (λ q. rowEdges p q) (map rowOf places)) rowOf places)
+
+-- ---- rows read back from their words
+
+-- the number of a kind tells the kind
+pub kindOf-number : (k : StatementKind) → kindOf (kindNumber k) ≡ k
+unfolding kindOf
+kindOf-number Is = refl
+kindOf-number Ks = refl
+kindOf-number Ps = refl
+kindOf-number Ku = refl
+kindOf-number Pu = refl
+kindOf-number Kd = refl
+kindOf-number Pd = refl
+
+-- eight words to a row
+pub tableOf-length : (rows : List Row) → length (tableOf rows) ≡ length rows * 8
+unfolding tableOf flatMap wordsOf
+tableOf-length [] = refl
+tableOf-length (p ∷ rows) = let h = tableOf-length rows in omega arith
+
+-- a word past the first row is a word of the rows after it
+word-later : (p : Row) (table : List ℕ) (i k : ℕ) → getD (wordsOf p ++ table) (suc i * 8 + k) 0 ≡ getD table (i * 8 + k) 0
+unfolding wordsOf
+word-later p table i k =
+    let e : suc i * 8 + k ≡ 8 + (i * 8 + k) = omega arith in
+    ap (λ (j : ℕ). getD (wordsOf p ++ table) j 0) e ∙ getD-append-add (wordsOf p) table (i * 8 + k) 0
+
+-- the first row of a table
+rowAt-first : (p : Row) (table : List ℕ) → rowAt (wordsOf p ++ table) 0 ≡ p
+unfolding rowAt wordsOf
+rowAt-first p table = λ i. record {
+  node = p .node;
+  place = p .place;
+  kind = kindOf-number (p .kind) i;
+  relation = p .relation;
+  reads = p .reads;
+  writes = p .writes;
+  tests = p .tests;
+  keys = p .keys;
+}
+
+-- a row past the first is a row of the table after it
+rowAt-later : (p : Row) (table : List ℕ) (i : ℕ) → rowAt (wordsOf p ++ table) (suc i) ≡ rowAt table i
+unfolding rowAt
+rowAt-later p table i = λ j. record {
+  node = first j;
+  place = word-later p table i 1 j;
+  kind = kindOf (word-later p table i 2 j);
+  relation = word-later p table i 3 j;
+  reads = word-later p table i 4 j;
+  writes = word-later p table i 5 j;
+  tests = word-later p table i 6 j;
+  keys = word-later p table i 7 j;
+}
+  where
+    first : getD (wordsOf p ++ table) (suc i * 8) 0 ≡ getD table (i * 8) 0
+    first =
+        ap (λ (j : ℕ). getD (wordsOf p ++ table) j 0) (sym (add-zero (suc i * 8))) ∙ word-later p table i 0
+        ∙ ap (λ (j : ℕ). getD table j 0) (add-zero (i * 8))
+
+-- a function over numbers from one on is the next function over numbers
+map-numbersFrom : {A : Type 0} (f : ℕ → A) (a n : ℕ) → map f (numbersFrom (suc a) n) ≡ map (λ i. f (suc i)) (numbersFrom a n)
+map-numbersFrom f a zero = refl
+map-numbersFrom {A} f a (suc n) = ap (λ (l : List A). f (suc a) ∷ l) (map-numbersFrom f (suc a) n)
+
+-- the rows of a table, one by one
+rows-back : (rows : List Row) → map (rowAt (tableOf rows)) (numbers (length rows)) ≡ rows
+unfolding tableOf flatMap
+rows-back [] = refl
+rows-back (p ∷ rows) =
+    ap₂ (λ (q : Row) (l : List Row). q ∷ l) (rowAt-first p (tableOf rows))
+    (map-numbersFrom (rowAt (wordsOf p ++ tableOf rows)) 0 (length rows)
+    ∙ ap (λ (f : ℕ → Row). map f (numbers (length rows))) (fun-ext (rowAt-later p (tableOf rows)))
+    ∙ rows-back rows)
+
+-- a table of at most 512 rows is read back
+pub table-rows : (rows : List Row) → length rows ≤ 512 → tableRows (tableOf rows) ≡ rows
+unfolding tableRows rowCount
+table-rows rows h =
+    let e = tableOf-length rows in
+    let n : min (length (tableOf rows) / 8) 512 ≡ length rows = omega arith in
+    ap (λ (k : ℕ). map (rowAt (tableOf rows)) (numbers k)) n ∙ rows-back rows
+
+-- ---- the count of ones
+
+-- no digit of 0 is one
+ones-none : ones 0 ≡ 0
+unfolding ones
+ones-none = refl
+
+-- the digits of a word below 2 ^ w counted up to w are all its ones
+pub onesIn-ones : (w x : ℕ) → x < 2 ^ w → onesIn w x ≡ ones x
+unfolding onesIn
+onesIn-ones zero x h = let e : x ≡ 0 = omega arith in sym (ap ones e ∙ ones-none)
+onesIn-ones (suc w) x h = ap (λ (n : ℕ). x % 2 + n) (onesIn-ones w (x / 2) (omega arith)) ∙ sym (ones-step x)

@@ -1,0 +1,16 @@
+// A row of a table of places: what the edges need to know of one place of a node.
+
+use spec_text::StatementKind;
+
+// Node and place count from 0. In the row of a place the sets that the kind lacks hold 0; what a row holds is taken as it stands. Bit f of
+// `keys` is set where key f shields the place.
+pub struct Row {
+    pub node: u64,
+    pub place: u64,
+    pub kind: StatementKind,
+    pub relation: u64,
+    pub reads: u64,
+    pub writes: u64,
+    pub tests: u64,
+    pub keys: u64,
+}

@@ -1,0 +1,153 @@
+-- The paths through the filling of a table for a workload value.
+use mathlib.Core.Bool.{false}
+use mathlib.Core.List.{List, _++_, map}
+use mathlib.Core.Option.{some}
+use mathlib.Core.Path.{_≡_, refl, ap, subst, _∙_}
+use Prim.Native.Nat.{ℕ, _+_, _*_, _-_, _/_, _≤_, _<_}
+use native.Mathlib.Omega.{arith}
+use lib.ListN.{length, getD, getElem?, take, drop, replicate, length-take, length-map, List·getD-append}
+use borrow.Author.Tests.{le-ltb}
+use Rattle.law_base.specs.ListLaws.{getElem?-lt, getElem?-member, getElem?-map-some}
+use Rattle.spec_text.specs.declared.Line.{Line}
+use Rattle.spec_text.specs.declared.Workload.{Workload}
+use Rattle.spec_text.specs.Value.{Given, linesOf}
+use Rattle.law_text.specs.ValueLaws.{given-read, given-fits, given-cells}
+use Rattle.spec_graph.specs.Unfolding.{Node, nodesOf}
+use Rattle.spec_report.specs.State.{StateRefusal, statementsIn, tooMany, shortForUnfoldings}
+use Rattle.spec_report.specs.State.StateRefusal.{taken}
+use Rattle.place_row.specs.RowTable.{rowsOf, tableOf}
+use Rattle.unfold.specs.declared.Unfolded.{Unfolded}
+use Rattle.unfold.specs.UnfoldTold.{cells, nodesTold}
+use Rattle.unfold.specs.UnfoldSettled.{PlacesSettled}
+use Rattle.unfold.specs.Stand.{PlacesStand, places-stand}
+use Rattle.spec_report.specs.Refusals.{refusal-some, refusal-none, places-few, taken-given, other-area}
+use Rattle.place_table.specs.declared.Begun.{Begun}
+use Rattle.place_table.specs.declared.Rows.{Rows}
+use Rattle.place_table.specs.declared.Rows.the-variants.{Refused, Filled}
+use Rattle.place_table.specs.Lines.{lineTable}
+use Rattle.place_table.specs.RowWords.{putAt, totalOf, allRows, begunBefore, begunIn, rowsTold, FilledBy}
+use Rattle.place_table.specs.Rows.{rowsSaid, RowsSettled}
+use Rattle.place_table.specs.Rows.RowsSettled.{refused, filled}
+use Rattle.place_table.proofs.PutRowLaws.{all-length}
+use Rattle.place_table.proofs.PlaceRowLaws.{element-default}
+use Rattle.place_table.proofs.NodeLaws.{Told, table-filled, places-told}
+use Rattle.place_table.proofs.ProgramLaws.{programs-counted, node-begins}
+
+-- ---- filling by the parts
+
+-- the lines' part of the cells
+pub lines-part : (w : Workload) (words : List ℕ) → length words ≡ 12928 → w .count ≤ 1616 → w .count * 8 ≡ length (take (w .count * 8) words)
+lines-part w words many fits = omega (arith, length-take (w .count * 8) words)
+
+pub filled-by : (w : Workload) (words : List ℕ) → take (w .count * 8) words ≡ lineTable (linesOf w) → (programs lengths places : List ℕ) (n : ℕ)
+    (before : List ℕ) (b : Begun) → b ≡ begunBefore (take (w .count * 8) words) (length (take (w .count * 8) words) / 8)
+    → (total : ℕ) → total ≡ totalOf lengths n → (after : List ℕ)
+    → after ≡ putAt before 0 (allRows (take (w .count * 8) words) (b .firsts) programs lengths places n)
+    → FilledBy (lineTable (linesOf w)) programs lengths places n before (Filled (b .programs) n total) after
+unfolding rowsTold begunIn
+filled-by w words e programs lengths places n before b h total t after s =
+    subst
+    (λ (l : List ℕ). FilledBy l programs lengths places n before (Filled (b .programs) n total) after)
+    e
+    (record { tells = rw (h, t) refl; stands = s ∙ rw h refl })
+
+-- ---- refusals
+
+-- 512 words are never too few
+roomy : (w : Workload) (room : ℕ) → room ≡ 512 → tooMany (linesOf w) ≡ false → shortForUnfoldings (linesOf w) room ≡ false
+unfolding shortForUnfoldings
+roomy w room e t = let most = places-few w t in le-ltb room (statementsIn (nodesOf (linesOf w))) (omega arith)
+
+module _ (w : Workload) (zeros : List ℕ) (size : length zeros ≡ 512) (told : Unfolded) (area : List ℕ) (settled : PlacesSettled w zeros told area)
+    (before : List ℕ) where
+  -- S21, S22
+  pub refused-number : (told .refusal ≡ 0 → ⊥) → RowsSettled w before (Refused (told .refusal)) before
+  unfolding rowsSaid
+  refused-number d =
+      let number = refusal-some (told .refusal) d in
+      let refusal = other-area (roomy w (length zeros) size) false number (settled .refusal) in
+      refused (told .refusal) (subst (StateRefusal w false) number refusal) refl refl
+
+  module _ (none-told : told .refusal ≡ 0) where
+    abbrev lines : List Line
+    lines = linesOf w
+
+    abbrev nodes : List Node
+    nodes = nodesOf (linesOf w)
+
+    both : Given w × (tooMany (linesOf w) ≡ false)
+    both = taken-given (settled .refusal) (refusal-none (told .refusal) none-told)
+
+    is-told : told ≡ nodesTold nodes
+    is-told = settled .unfolded (refusal-none (told .refusal) none-told) .0
+
+    stand : PlacesStand lines zeros area
+    stand = places-stand w (both .0) (both .1) zeros area (settled .unfolded (refusal-none (told .refusal) none-told) .1)
+
+    -- a cell of a table of nodes
+    cell-of : (f : Node → ℕ) (j : ℕ) (n : Node) → getElem? nodes j ≡ some n → getD (cells (map f nodes)) j 0 ≡ f n
+    unfolding cells
+    cell-of f j n e =
+        let less = getElem?-lt nodes j e in
+        let many = length-map nodes f in
+        List·getD-append (map f nodes) (replicate (64 - length (map f nodes)) 0) 0 j (omega arith)
+        ∙ element-default (map f nodes) j (getElem?-map-some f nodes j e) 0
+
+    all-told : (j : ℕ) (n : Node) → getElem? nodes j ≡ some n
+        → Told lines nodes (begunIn (lineTable lines) .firsts) (told .program) (told .length) j n
+    unfolding nodesTold
+    all-told j n e =
+        let begins = node-begins (both .0 .text) lines (given-read (both .0)) n (getElem?-member nodes j e) in
+        record {
+          program = ap (λ (u : Unfolded). getD (u .program) j 0) is-told ∙ cell-of (λ x. x .program) j n e;
+          places = ap (λ (u : Unfolded). getD (u .length) j 0) is-told ∙ cell-of (λ x. length (x .places)) j n e;
+          inside = begins .inside;
+          links = begins .links;
+        }
+
+    count-told : told .count ≡ length nodes
+    unfolding nodesTold
+    count-told = ap (λ (u : Unfolded). u .count) is-told
+
+    pub total-told : totalOf (told .length) (told .count) ≡ statementsIn nodes
+    total-told =
+        ap (totalOf (told .length)) count-told
+        ∙ places-told (both .0 .text) lines (given-read (both .0)) nodes (stand .words) (drop (length (stand .words)) zeros)
+        (begunIn (lineTable lines) .firsts) (told .program) (told .length) (stand .fits) all-told
+
+    pub total-few : totalOf (told .length) (told .count) ≤ 512
+    total-few = let a = total-told in let b = places-few w (both .1) in omega arith
+
+    pub workload-cells : length (w .lines) ≡ 1616
+    workload-cells = given-cells (both .0)
+
+    pub workload-count : w .count ≤ 1616
+    workload-count = given-fits (both .0)
+
+    abbrev firsts : List ℕ
+    firsts = begunIn (lineTable lines) .firsts
+
+    abbrev rows : List ℕ
+    rows = allRows (lineTable lines) firsts (told .program) (told .length) area (told .count)
+
+    rows-same : rows ≡ tableOf (rowsOf nodes)
+    rows-same =
+        let rest = drop (length (stand .words)) zeros in
+        ap (λ (a : List ℕ). allRows (lineTable lines) firsts (told .program) (told .length) a (told .count)) (stand .stands)
+        ∙ ap (allRows (lineTable lines) firsts (told .program) (told .length) (stand .words ++ rest)) count-told
+        ∙ table-filled (both .0 .text) lines (given-read (both .0)) nodes (stand .words) rest firsts (told .program) (told .length)
+        (stand .fits) all-told
+
+    -- the table is filled
+    pub filled-table : (r : Rows) (after : List ℕ)
+        → FilledBy (lineTable lines) (told .program) (told .length) area (told .count) before r after → RowsSettled w before r after
+    unfolding rowsSaid rowsTold putAt
+    filled-table r after f =
+        let total = total-told in
+        let size = all-length (lineTable lines) firsts (told .program) (told .length) area (told .count) in
+        let long : 0 + length rows ≡ 8 * statementsIn nodes = omega arith in
+        filled (taken (both .0) (both .1) refl)
+        (ap rowsSaid (f .tells) ∙ rw (programs-counted lines, total, count-told) refl)
+        (f .stands
+        ∙ ap (λ (k : ℕ). rows ++ drop k before) long
+        ∙ ap (λ (l : List ℕ). l ++ drop (8 * statementsIn nodes) before) rows-same)

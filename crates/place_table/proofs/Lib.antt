@@ -1,0 +1,7 @@
+pub mod Laws
+pub mod LineTableLaws
+pub mod PutRowLaws
+pub mod PlaceRowLaws
+pub mod NodeLaws
+pub mod ProgramLaws
+pub mod FillLaws

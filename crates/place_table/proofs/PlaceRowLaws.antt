@@ -1,0 +1,211 @@
+-- The row made of a place's word is the row of the place.
+use mathlib.Core.Bool.{cond}
+use mathlib.Core.List.{List, [], _∷_, _++_, flatMap}
+use mathlib.Core.Option.{some}
+use mathlib.Core.Path.{_≡_, refl, sym, ap, _∙_}
+use Prim.Native.Nat.{ℕ, zero, suc, _+_, _*_, _-_, _/_, _%_, _≤_, _<_}
+use native.Mathlib.Nat.{add-zero}
+use native.Mathlib.Omega.{arith}
+use lib.ListN.{length, getD, getElem?, take, drop, drop-of-length-le, List·getD-append}
+use lib.Seq.{drop-cons, getD-append-add}
+use borrow.Author.Tests.{eq-eqb, ne-eqb}
+use Rattle.law_base.specs.ListLaws.{getElem?-lt, some-injective}
+use Rattle.spec_text.specs.declared.Line.{Line}
+use Rattle.spec_text.specs.declared.LineKind.{LineKind}
+use Rattle.spec_text.specs.declared.LineKind.the-variants.{Rl, Fk, Pr, St, Lo, Br, El, En, Li}
+use Rattle.spec_text.specs.declared.StatementKind.{StatementKind}
+use Rattle.spec_text.specs.declared.StatementKind.the-variants.{Is, Ks, Ps, Ku, Pu, Kd, Pd}
+use Rattle.spec_graph.specs.Program.{Statement, Link, statementOf, linksOf}
+use Rattle.spec_graph.specs.Unfolding.{Occurrence}
+use Rattle.spec_graph.specs.Edge.{hasReads, hasWrites, hasTests, R, W, T, Place, at}
+use Rattle.place_row.specs.RowTable.{kindNumber, rowOf, wordsOf}
+use Rattle.unfold_laws.specs.Seen.{StandsFor, seenAt}
+use Rattle.place_laws.specs.Ids.{FromLine, statement-line}
+use Rattle.place_laws.specs.Guarded.{IdsSmall}
+use Rattle.place_laws.specs.Keys.{withLink, keysOf, keys-of-place}
+use Rattle.place_table.specs.Lines.{lineNumber, readsBy, writesBy, testsBy, lineWords, lineTable}
+use Rattle.place_table.specs.RowWords.{linkOf, linkAt, keyAt, keysFrom, rowWords}
+use Rattle.place_table.proofs.LineTableLaws.{lineTable-length}
+
+-- ---- cells of the table of lines
+
+eight : (l : Line) → length (lineWords l) ≡ 8
+unfolding lineWords
+eight l = refl
+
+-- word k of line i
+pub cell-at : (lines : List Line) (i k : ℕ) (e : Line) → i < length lines → k < 8
+    → getD (lineTable lines) (i * 8 + k) 0 ≡ getD (lineWords (getD lines i e)) k 0
+unfolding lineTable flatMap
+cell-at [] i k e h b = absurd (omega arith)
+cell-at (l ∷ lines) zero k e h b =
+    let z : 0 * 8 + k ≡ k = omega arith in
+    let m = eight l in
+    ap (λ (j : ℕ). getD (lineWords l ++ lineTable lines) j 0) z ∙ List·getD-append (lineWords l) (lineTable lines) 0 k (omega arith)
+cell-at (l ∷ lines) (suc i) k e h b =
+    let m = eight l in
+    let z : suc i * 8 + k ≡ length (lineWords l) + (i * 8 + k) = omega arith in
+    ap (λ (j : ℕ). getD (lineWords l ++ lineTable lines) j 0) z
+    ∙ getD-append-add (lineWords l) (lineTable lines) (i * 8 + k) 0
+    ∙ cell-at lines i k e (omega arith) b
+
+-- its first word
+pub number-at : (lines : List Line) (i : ℕ) (e : Line) → i < length lines → getD (lineTable lines) (i * 8) 0 ≡ lineNumber (getD lines i e .kind)
+unfolding lineWords
+number-at lines i e h = ap (λ (j : ℕ). getD (lineTable lines) j 0) (sym (add-zero (i * 8))) ∙ cell-at lines i 0 e h (omega arith)
+
+-- ---- the keys from the lines
+
+-- a statement's line is no `pr` and no `li`
+pub kind-not : (k : StatementKind) → (kindNumber k ≡ 7 → ⊥) × (kindNumber k ≡ 8 → ⊥)
+kind-not Is = (λ e. omega arith, λ e. omega arith)
+kind-not Ks = (λ e. omega arith, λ e. omega arith)
+kind-not Ps = (λ e. omega arith, λ e. omega arith)
+kind-not Ku = (λ e. omega arith, λ e. omega arith)
+kind-not Pu = (λ e. omega arith, λ e. omega arith)
+kind-not Kd = (λ e. omega arith, λ e. omega arith)
+kind-not Pd = (λ e. omega arith, λ e. omega arith)
+
+module _ (lines : List Line) (child seen : ℕ) where
+  abbrev table : List ℕ
+  table = lineTable lines
+
+  -- the keys that a line adds, and where they stop
+  step : (n i : ℕ) (l : Line) (rest : List Line) (word : ℕ) → getD table (i * 8) 0 ≡ lineNumber (l .kind)
+      → linkAt table i ≡ linkOf (l .id) (l .rel) (l .to)
+      → ((word : ℕ) → keysFrom n table (i + 1) child seen word ≡ keysOf child seen (linksOf rest) word)
+      → keysFrom (suc n) table i child seen word ≡ keysOf child seen (linksOf (l ∷ rest)) word
+  unfolding keysFrom keyAt linksOf keysOf lineNumber
+  step n i l rest word first link again = go (l .kind) first
+    where
+      found : LineKind → List Link
+      found c =
+          elim c [
+            | Li ↦ record { key = l .id; child = l .rel; parent = l .to } ∷ linksOf rest
+            | Pr ↦ []
+            | Rl ↦ linksOf rest
+            | Fk ↦ linksOf rest
+            | St k ↦ linksOf rest
+            | Lo ↦ linksOf rest
+            | Br ↦ linksOf rest
+            | El ↦ linksOf rest
+            | En ↦ linksOf rest
+          ]
+
+      other : (m : ℕ) → getD table (i * 8) 0 ≡ m → (m ≡ 7 → ⊥) → (m ≡ 8 → ⊥)
+          → keysFrom (suc n) table i child seen word ≡ keysOf child seen (linksOf rest) word
+      other m e a b =
+          rw (ne-eqb (getD table (i * 8) 0) 7 (λ x. a (sym e ∙ x)), ne-eqb (getD table (i * 8) 0) 8 (λ x. b (sym e ∙ x))) (again word)
+
+      go : (c : LineKind) → getD table (i * 8) 0 ≡ lineNumber c → keysFrom (suc n) table i child seen word ≡ keysOf child seen (found c) word
+      go Li e =
+          rw (ne-eqb (getD table (i * 8) 0) 7 (λ x. let z : 8 ≡ 7 = sym e ∙ x in omega arith), eq-eqb (getD table (i * 8) 0) 8 e, link)
+          (again (withLink child seen (linkOf (l .id) (l .rel) (l .to)) word))
+      go Pr e = rw (eq-eqb (getD table (i * 8) 0) 7 e) refl
+      go (St k) e = other (kindNumber k) e (kind-not k .0) (kind-not k .1)
+      go Rl e = other 9 e (λ x. omega arith) (λ x. omega arith)
+      go Fk e = other 9 e (λ x. omega arith) (λ x. omega arith)
+      go Lo e = other 9 e (λ x. omega arith) (λ x. omega arith)
+      go Br e = other 9 e (λ x. omega arith) (λ x. omega arith)
+      go El e = other 9 e (λ x. omega arith) (λ x. omega arith)
+      go En e = other 9 e (λ x. omega arith) (λ x. omega arith)
+
+  link-cells : (i : ℕ) (e : Line) → i < length lines → linkAt table i ≡ linkOf (getD lines i e .id) (getD lines i e .rel) (getD lines i e .to)
+  unfolding linkAt lineWords
+  link-cells i e h =
+      rw (cell-at lines i 1 e h (omega arith), cell-at lines i 2 e h (omega arith), cell-at lines i 3 e h (omega arith)) refl
+
+  -- E3: the keys gathered from the table are those gathered from the links
+  pub keys-lines : (n i : ℕ) → n + i ≡ length lines → (word : ℕ)
+      → keysFrom n table i child seen word ≡ keysOf child seen (linksOf (drop i lines)) word
+  unfolding keysFrom linksOf keysOf
+  keys-lines zero i h word = rw (drop-of-length-le lines {i = i} (omega arith)) refl
+  keys-lines (suc n) i h word = go (λ w. keys-lines n (i + 1) (omega arith) w) lines refl
+    where
+      go : ((w : ℕ) → keysFrom n table (i + 1) child seen w ≡ keysOf child seen (linksOf (drop (i + 1) lines)) w)
+          → (ls : List Line) → ls ≡ lines → keysFrom (suc n) table i child seen word ≡ keysOf child seen (linksOf (drop i lines)) word
+      go again [] e = let z = ap length e in absurd (omega arith)
+      go again (d ∷ ls) e =
+          let inside : i < length lines = omega arith in
+          let m : suc i ≡ i + 1 = omega arith in
+          step n i (getD lines i d) (drop (suc i) lines) word (number-at lines i d inside) (link-cells i d inside)
+          (λ w. again w ∙ ap (λ (k : ℕ). keysOf child seen (linksOf (drop k lines)) w) (sym m))
+          ∙ ap (λ (t : List Line). keysOf child seen (linksOf t) word) (sym (drop-cons lines i d inside))
+
+-- ---- the sets of a statement by the number of its kind
+
+reads-kind : (k : StatementKind) (x : ℕ) → readsBy (kindNumber k) x ≡ cond (hasReads k) x 0
+unfolding readsBy
+reads-kind Is x = refl
+reads-kind Ks x = refl
+reads-kind Ps x = refl
+reads-kind Ku x = refl
+reads-kind Pu x = refl
+reads-kind Kd x = refl
+reads-kind Pd x = refl
+
+writes-kind : (k : StatementKind) (x : ℕ) → writesBy (kindNumber k) x ≡ cond (hasWrites k) x 0
+unfolding writesBy
+writes-kind Is x = refl
+writes-kind Ks x = refl
+writes-kind Ps x = refl
+writes-kind Ku x = refl
+writes-kind Pu x = refl
+writes-kind Kd x = refl
+writes-kind Pd x = refl
+
+tests-kind : (k : StatementKind) (x : ℕ) → testsBy (kindNumber k) x ≡ cond (hasTests k) x 0
+unfolding testsBy
+tests-kind Is x = refl
+tests-kind Ks x = refl
+tests-kind Ps x = refl
+tests-kind Ku x = refl
+tests-kind Pu x = refl
+tests-kind Kd x = refl
+tests-kind Pd x = refl
+
+-- what stands at a place is the default where the list has none
+pub element-default : {A : Type 0} (l : List A) (i : ℕ) {x : A} → getElem? l i ≡ some x → (d : A) → getD l i d ≡ x
+element-default [] i e d = let z : _≡_ {A = ℕ} 0 1 = cc in absurd (omega arith)
+element-default (y ∷ l) zero e d = some-injective e
+element-default (y ∷ l) (suc i) e d = element-default l i e d
+
+-- ---- the row of a place
+
+module _ (lines : List Line) (first : ℕ) (s : Place) (word : ℕ) where
+  abbrev before : List Occurrence
+  before = take (s .place) (s .node .places)
+
+  record Cells (x : Statement) (i : ℕ) : Type 0 where
+    number : getD (lineTable lines) (i * 8) 0 ≡ kindNumber (x .kind)
+    id : getD (lineTable lines) (i * 8 + 1) 0 ≡ x .id
+    relation : getD (lineTable lines) (i * 8 + 2) 0 ≡ x .relation
+    reads : getD (lineTable lines) (i * 8 + 4) 0 ≡ R x
+    writes : getD (lineTable lines) (i * 8 + 5) 0 ≡ W x
+    tests : getD (lineTable lines) (i * 8 + 6) 0 ≡ T x
+
+  -- the words of a statement's line
+  cells : (x : Statement) (i : ℕ) → FromLine lines i x → Cells x i
+  unfolding lineWords lineNumber statementOf R W T
+  cells x i f =
+      let inside = getElem?-lt lines i (f .at) in
+      let here = element-default lines i (f .at) (f .line) in
+      rw (f .same) (record {
+        number = number-at lines i (f .line) inside ∙ rw (here, f .kind) refl;
+        id = cell-at lines i 1 (f .line) inside (omega arith) ∙ rw here refl;
+        relation = cell-at lines i 2 (f .line) inside (omega arith) ∙ rw here refl;
+        reads = cell-at lines i 4 (f .line) inside (omega arith) ∙ rw (here, f .kind) (reads-kind (f .sort) (f .line .reads));
+        writes = cell-at lines i 5 (f .line) inside (omega arith) ∙ rw (here, f .kind) (writes-kind (f .sort) (f .line .writes));
+        tests = cell-at lines i 6 (f .line) inside (omega arith) ∙ rw (here, f .kind) (tests-kind (f .sort) (f .line .tests));
+      })
+
+  -- E0, E3: the row made of the word that stands for a place
+  pub row-of-place : StandsFor lines before (s .occurrence) word → IdsSmall before → first ≤ length lines
+      → s .node .links ≡ linksOf (drop first lines)
+      → rowWords (lineTable lines) first (s .number) (s .place) word ≡ wordsOf (rowOf s)
+  unfolding rowWords wordsOf rowOf
+  row-of-place w small inside links =
+      let c = cells (at s) (word % 2048) (statement-line lines (word % 2048) (at s) (w .line)) in
+      let fuel : length (lineTable lines) / 8 - first + first ≡ length lines = omega (arith, lineTable-length lines) in
+      let keys = keys-lines lines (at s .id) (seenAt before (s .occurrence)) (length (lineTable lines) / 8 - first) first fuel 0 in
+      rw (c .number, c .id, c .relation, c .reads, c .writes, c .tests, w .seen, keys, ← links, keys-of-place s small) refl

@@ -1,0 +1,97 @@
+-- The words read are those of the place's line and the keys those of its links; together they are the eight words of the row (row-words).
+use Rattle.place_table.proofs.PutRowLaws.{row-words}
+use Rattle.place_table.specs.RowWords.{putAt}
+use native.Mathlib.Omega.{arith}
+use mathlib.Core.Path.{_≡_, refl, ap, sym, _∙_}
+use Prim.Native.Nat.{ℕ, _+_, _-_, _*_, _≤_, _<_}
+use lib.ListN.{length, set, getD, length-set, take, drop}
+use borrow.Author.Needs.{needs}
+use Rattle.place_table.proofs.put_place.Statement.{statement}
+use Rattle.place_table.proofs.put_place.Tie as tie
+use Rattle.place_table.proofs.put_place.Reads as reads
+use Rattle.place_table.proofs.put_place.Lts as lts
+use Rattle.place_table.proofs.keys_from.Reads as keys-from-reads
+use Rattle.place_table.proofs.put.Reads as put-reads
+use Rattle.word_list.proofs.word_at.Reads as word-at-reads
+
+mul-l : tie.Need-mul-l
+mul-l c = search needs
+
+add-word-at : tie.Need-add-word-at
+add-word-at c = search needs
+
+word-at-requires : tie.Need-word-at-requires
+word-at-requires c κs = search needs
+
+keys-from-requires : tie.Need-keys-from-requires
+keys-from-requires c κs = search needs
+
+word-at-requires-2 : tie.Need-word-at-requires-2
+word-at-requires-2 c κs = search needs
+
+add-word-at-2 : tie.Need-add-word-at-2
+add-word-at-2 c = search needs
+
+word-at-requires-3 : tie.Need-word-at-requires-3
+word-at-requires-3 c κs = search needs
+
+add-word-at-3 : tie.Need-add-word-at-3
+add-word-at-3 c = search needs
+
+word-at-requires-4 : tie.Need-word-at-requires-4
+word-at-requires-4 c κs = search needs
+
+add-word-at-4 : tie.Need-add-word-at-4
+add-word-at-4 c = search needs
+
+word-at-requires-5 : tie.Need-word-at-requires-5
+word-at-requires-5 c κs = search needs
+
+add-word-at-5 : tie.Need-add-word-at-5
+add-word-at-5 c = search needs
+
+word-at-requires-6 : tie.Need-word-at-requires-6
+word-at-requires-6 c κs = search needs
+
+put-requires : tie.Need-put-requires
+put-requires c κs = search needs
+
+same-length : tie.Need-same-length
+same-length c = search needs
+
+returns : tie.Need-returns
+returns c =
+    let c3 = c .before .before .before in
+    let c4 = c3 .before in
+    let c5 = c4 .before in
+    let c6 = c5 .before in
+    let c7 = c6 .before in
+    let c9 = c7 .before .before in
+    let c10 = c9 .before in
+    let entry = c10 .before .before .before in (
+      c .before .before .put .ensures .0 ∙ ap (putAt (entry .args .table .now) (entry .args .at))
+          (row-words (entry .args .lines .now) _ _ _ _ _ _ _ _ _ _ _ (c10 .word-at .ensures) (c9 .keys-from .ensures) (c7 .word-at2 .ensures)
+          (c6 .word-at3 .ensures) (c5 .word-at4 .ensures) (c4 .word-at5 .ensures) (c3 .word-at6 .ensures)),
+      c .before .before .put .ensures .1,
+    )
+
+pub put-place-spec : {M : Type 1} → statement M
+put-place-spec =
+    tie.close
+    (tie.spec
+    mul-l
+    add-word-at
+    word-at-requires
+    keys-from-requires
+    word-at-requires-2
+    add-word-at-2
+    word-at-requires-3
+    add-word-at-3
+    word-at-requires-4
+    add-word-at-4
+    word-at-requires-5
+    add-word-at-5
+    word-at-requires-6
+    put-requires
+    same-length
+    returns)

@@ -1,0 +1,5 @@
+pub mod Lines
+pub mod RowWords
+pub mod Rows
+pub mod Whole
+pub mod NotGiven

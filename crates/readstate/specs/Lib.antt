@@ -1,6 +1,0 @@
-pub mod Holds
-pub mod ArrayLaws
-pub mod TestLaws
-pub mod HoldsLaws
-pub mod Words
-pub mod WordsLaws

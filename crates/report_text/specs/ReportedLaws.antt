@@ -1,0 +1,106 @@
+-- The printed report of a text, case by case.
+use mathlib.Core.Bool.{false}
+use mathlib.Core.List.{List}
+use mathlib.Core.Option.{Option, none, some}
+use mathlib.Core.Path.{_≡_, refl, sym, ap, subst, _∙_}
+use Prim.Native.Nat.{ℕ, _-_, _/_}
+use native.Mathlib.Omega.{arith}
+use lib.ListN.{length, replicate, length-append, length-replicate}
+use lib.Seq.{take-at, drop-at}
+use Rattle.law_base.specs.BoolLaws.{true-false}
+use Rattle.spec_text.specs.declared.Workload.{Workload}
+use Rattle.spec_text.specs.Reading.{read}
+use Rattle.spec_text.specs.Reading.Outcome.{accepted}
+use Rattle.spec_text.specs.Value.{Given, linesOf}
+use Rattle.spec_graph.specs.Walk.{Step}
+use Rattle.law_text.specs.ValueLaws.{lines-of-value, value-given}
+use Rattle.spec_report.specs.State.{countsOf, tooMany, shortForWalk, StateRefusal}
+use Rattle.spec_report.specs.State.StateRefusal.{not-given, too-many, too-short, taken}
+use Rattle.spec_report.specs.Refusals.{taken-given}
+use Rattle.spec_report.specs.Report.{Report, refusalReport, dangerReport}
+use Rattle.spec_report.specs.Report.Report.{refusal, unfolding-refusal, robust, danger}
+use Rattle.text_read.specs.declared.Parsed.{Parsed}
+use Rattle.text_read.specs.Parse.{parsedAs}
+use Rattle.verdict_of.specs.Verdict.{Told, Word, Judged}
+use Rattle.verdict_of.specs.Verdict.Word.{robust as robust-word, danger as danger-word}
+use Rattle.verdict_of.specs.Verdict.Judged.{refused as refused-answer, judged as judged-answer}
+use Rattle.report_print.specs.declared.Printed.{Printed}
+use Rattle.report_print.specs.Printed.{printedAs}
+use Rattle.report_print.specs.ShownWalkLaws.{walk-shown}
+use Rattle.report_print.specs.ReportSizeLaws.{report-size}
+use Rattle.report_text.specs.Reported.{bytesFor, Reported, ValueReported}
+use Rattle.report_text.specs.NumberLaws.{parsed-refused, parsed-accepted}
+
+-- the bytes of a report, printed
+printed-report : {text bytes : List ℕ} → Report text bytes → Reported text (printedAs bytes)
+unfolding printedAs
+printed-report {text} {bytes} h =
+    let most = report-size h in
+    record {
+      size =
+          length-append bytes (replicate (8192 - length bytes) 0)
+          ∙ (let rest = length-replicate {A = ℕ} (8192 - length bytes) 0 in omega arith);
+      fits = omega arith;
+      report = subst (Report text) (sym (take-at bytes (replicate (8192 - length bytes) 0) (length bytes) refl)) h;
+      others = drop-at bytes (replicate (8192 - length bytes) 0) (length bytes) refl;
+    }
+
+reported-as : {text bytes : List ℕ} {r : Printed} → Report text bytes → r ≡ printedAs bytes → Reported text r
+reported-as {text} h e = subst (Reported text) (sym e) (printed-report h)
+
+-- P3: a refusal of the text
+pub reported-refusal : (text : List ℕ) {p : Parsed} {r : Printed} → p ≡ parsedAs (read text) → (p .number ≡ 0 → ⊥)
+    → r ≡ printedAs (refusalReport (p .number) (p .line)) → Reported text r
+reported-refusal text {p} e h q = reported-as (refusal (p .number) (p .line) (parsed-refused text e h)) q
+
+-- a text that is read has the report of its value
+pub reported-value : (text : List ℕ) {p : Parsed} {r : Printed} → p ≡ parsedAs (read text) → p .number ≡ 0 → ValueReported (p .work) r
+    → Reported text r
+reported-value text {p} {r} e h v =
+    let a = parsed-accepted text e h in
+    let given : Given (p .work) = subst Given (sym (a .2)) (value-given text (a .1)) in
+    let same : linesOf (p .work) ≡ a .0 = ap linesOf (a .2) ∙ lines-of-value (a .0) in
+    v text (a .1 ∙ ap accepted (sym same)) given
+
+-- an area of 260 words is not too short for the walk
+long-enough : (area : List ℕ) → length area ≡ 260 → shortForWalk (length area / 4) ≡ false
+unfolding shortForWalk
+long-enough area h = rw h refl
+
+some-number : (m n : ℕ) → _≡_ {A = Option ℕ} (some m) (some n) → m ≡ n
+some-number m n e = cc
+
+none-some : (m : ℕ) → _≡_ {A = Option ℕ} none (some m) → ⊥
+none-some m e = let wrong : _≡_ {A = ℕ} 0 1 = cc in omega arith
+
+module _ {w : Workload} (text : List ℕ) (isRead : read text ≡ accepted (linesOf w)) (given : Given w) (before : List ℕ)
+    (long : length before ≡ 260) where
+  abbrev Refusal : Option ℕ → Type 0
+  Refusal o = StateRefusal w (shortForWalk (length before / 4)) o
+
+  -- S22, P3: of a value that a text gives, with an area of 65 steps, the only refusal is 22
+  refused-reported : (number : ℕ) {o : Option ℕ} → Refusal o → o ≡ some number → Report text (refusalReport number 0)
+  refused-reported number (not-given n) e = absurd (n given)
+  refused-reported number (too-many g many) e =
+      subst (λ (n : ℕ). Report text (refusalReport n 0)) (some-number 22 number e) (unfolding-refusal (linesOf w) isRead many)
+  refused-reported number (too-short g few short) e = absurd (true-false short (long-enough before long))
+  refused-reported number (taken g few room) e = absurd (none-some number e)
+
+  -- P1, P2: a word
+  word-reported : tooMany (linesOf w) ≡ false → {answer : Told} {after : List ℕ} → Word (linesOf w) before answer after
+      → Report text (bytesFor answer after)
+  unfolding bytesFor
+  word-reported few (robust-word none-dangerous serial) = robust (linesOf w) isRead few none-dangerous
+  word-reported few (danger-word walk dangerous short) =
+      subst (λ (l : List Step). Report text (dangerReport (countsOf (linesOf w)) l)) (sym (walk-shown walk before short))
+      (danger (linesOf w) isRead few walk dangerous short)
+
+  judged-reported : {answer : Told} {after : List ℕ} → Judged w before answer after → Report text (bytesFor answer after)
+  unfolding bytesFor
+  judged-reported (refused-answer number s) = refused-reported number s refl
+  judged-reported (judged-answer s answer after word) = word-reported (taken-given s refl .1) word
+
+-- what the verdict answers for an area of 65 steps, printed
+pub value-reported : {w : Workload} {before after : List ℕ} {answer : Told} {r : Printed} → length before ≡ 260 → Judged w before answer after
+    → r ≡ printedAs (bytesFor answer after) → ValueReported w r
+value-reported {before = before} long j e text isRead given = reported-as (judged-reported text isRead given before long j) e

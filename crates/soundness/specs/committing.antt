@@ -1,0 +1,6 @@
+pub mod Past
+pub mod Rules
+pub mod SeenWrites
+pub mod Letters
+pub mod Commits
+pub mod WriteKinds

@@ -1,0 +1,6 @@
+pub mod State
+pub mod Area
+pub mod Report
+pub mod ReportExamples
+pub mod ReportLaws
+pub mod Refusals

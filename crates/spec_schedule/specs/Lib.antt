@@ -1,0 +1,12 @@
+pub mod Event
+pub mod Schedule
+pub mod Serial
+pub mod ScheduleExamples
+pub mod RuleTables
+pub mod SerialCases
+pub mod SerialTest
+pub mod Interleaved
+pub mod AllKinds
+pub mod Unbounded
+pub mod Unserialisable
+pub mod Phantom

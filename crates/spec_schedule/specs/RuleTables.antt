@@ -1,0 +1,213 @@
+-- The rules on events (H) over tables of cases, each table computed at once: what each action is; what may follow what on one tuple; that
+-- nothing hinders what is done elsewhere; and when a statement's operations stand together. Two of them are told again by small machines.
+use mathlib.Core.Bool.{Bool, true, false, cond, not, _&&_, _||_}
+use mathlib.Core.List.{List, [], _∷_, _++_, map, flatMap}
+use mathlib.Core.Option.{Option, none, some}
+use mathlib.Core.Path.{_≡_, refl}
+use Prim.Native.Nat.{ℕ, zero, suc, _+_, _*_, _%_}
+use lib.Dec.{eqb}
+use lib.ListN.{length, getD}
+use Rattle.spec_base.specs.Basic.{all, numbers}
+use Rattle.spec_schedule.specs.Event.{Action, Event, isRead, isPredicateRead, isInsert, isDelete, isCommit, isWrite}
+use Rattle.spec_schedule.specs.Event.{committed, obeys, allObey}
+use Rattle.spec_schedule.specs.Event.Action.{read, write, insert, delete, predicateRead, commit}
+use Rattle.spec_schedule.specs.ScheduleExamples.{event, openRules}
+
+abbrev y : Bool
+y = true
+
+abbrev n : Bool
+n = false
+
+-- what is done to tuples
+abbrev accesses : List Action
+accesses = read ∷ write ∷ insert ∷ delete ∷ predicateRead ∷ []
+
+abbrev actions : List Action
+actions = accesses ++ (commit ∷ [])
+
+-- H2: each action is what its name says, and a write, an insert and a delete write
+what-actions-are :
+    map (λ (is : Action → Bool). map is actions) (isRead ∷ isWrite ∷ isInsert ∷ isDelete ∷ isPredicateRead ∷ isCommit ∷ [])
+    ≡ (y ∷ n ∷ n ∷ n ∷ n ∷ n ∷ [])
+    ∷ (n ∷ y ∷ y ∷ y ∷ n ∷ n ∷ [])
+    ∷ (n ∷ n ∷ y ∷ n ∷ n ∷ n ∷ [])
+    ∷ (n ∷ n ∷ n ∷ y ∷ n ∷ n ∷ [])
+    ∷ (n ∷ n ∷ n ∷ n ∷ y ∷ n ∷ [])
+    ∷ (n ∷ n ∷ n ∷ n ∷ n ∷ y ∷ [])
+    ∷ []
+what-actions-are = refl
+
+-- ---- H4 to H6, H10, H11: two accesses of one tuple
+
+-- H4: of relation 0 the even tuples start visible and the odd ones unborn; of the others, all of an odd relation start visible, of an even one unborn
+abbrev starts : ℕ → ℕ → Bool
+starts r t = cond (eqb r 0) (eqb (t % 2) 0) (eqb (r % 2) 1)
+
+abbrev lawful : List Event → Bool
+lawful events = allObey starts [] events
+
+-- transaction, number, action, relation and tuple: each event is a statement of its own
+abbrev acts : ℕ → ℕ → Action → ℕ → ℕ → Event
+acts i k a r t = event i k k a r t 1
+
+-- a tuple of relation 0 on which the action can be the first: an unborn one for an insert, else a visible one
+abbrev fitting : Action → ℕ
+fitting a = cond (isInsert a) 1 0
+
+-- one row for each first access, one column for each action that follows it
+abbrev table : (Action → Action → Bool) → List (List Bool)
+table test = map (λ a. map (test a) actions) accesses
+
+-- what a transaction may do to a tuple that it has accessed itself
+own-tuple : table (λ a b. lawful (acts 0 0 a 0 (fitting a) ∷ acts 0 1 b 0 (fitting a) ∷ []))
+    ≡ (y ∷ y ∷ n ∷ y ∷ y ∷ y ∷ [])
+    ∷ (y ∷ y ∷ n ∷ y ∷ y ∷ y ∷ [])
+    ∷ (y ∷ y ∷ n ∷ y ∷ y ∷ y ∷ [])
+    ∷ (n ∷ n ∷ n ∷ n ∷ y ∷ y ∷ [])
+    ∷ (y ∷ y ∷ n ∷ y ∷ y ∷ y ∷ [])
+    ∷ []
+unfolding openRules
+own-tuple = refl
+
+-- to one that another has accessed and not committed
+others-tuple : table (λ a b. lawful (acts 0 0 a 0 (fitting a) ∷ acts 1 0 b 0 (fitting a) ∷ []))
+    ≡ (y ∷ y ∷ n ∷ y ∷ y ∷ y ∷ [])
+    ∷ (y ∷ n ∷ n ∷ n ∷ y ∷ y ∷ [])
+    ∷ (n ∷ n ∷ n ∷ n ∷ y ∷ y ∷ [])
+    ∷ (y ∷ n ∷ n ∷ n ∷ y ∷ y ∷ [])
+    ∷ (y ∷ y ∷ n ∷ y ∷ y ∷ y ∷ [])
+    ∷ []
+unfolding openRules
+others-tuple = refl
+
+-- to one that another has accessed and committed
+committed-tuple : table (λ a b. lawful (acts 0 0 a 0 (fitting a) ∷ acts 0 1 commit 0 0 ∷ acts 1 0 b 0 (fitting a) ∷ []))
+    ≡ (y ∷ y ∷ n ∷ y ∷ y ∷ y ∷ [])
+    ∷ (y ∷ y ∷ n ∷ y ∷ y ∷ y ∷ [])
+    ∷ (y ∷ y ∷ n ∷ y ∷ y ∷ y ∷ [])
+    ∷ (n ∷ n ∷ n ∷ n ∷ y ∷ y ∷ [])
+    ∷ (y ∷ y ∷ n ∷ y ∷ y ∷ y ∷ [])
+    ∷ []
+unfolding openRules
+committed-tuple = refl
+
+-- ---- H4 to H6, H10, H11: one tuple as a machine
+
+pub data Life : Type 0 where
+  unborn visible deleted : Life
+
+abbrev isVisible : Life → Bool
+isVisible unborn = false
+isVisible visible = true
+isVisible deleted = false
+
+abbrev isUnborn : Life → Bool
+isUnborn unborn = true
+isUnborn visible = false
+isUnborn deleted = false
+
+-- what is committed, and what the transaction sees that has written the tuple and not committed
+record State : Type 0 where
+  settled : Life
+  pending : Option (ℕ × Life)
+
+abbrev sees : State → ℕ → Life
+sees s i = elim (s .pending) [ none ↦ s .settled | some w ↦ cond (eqb (w .0) i) (w .1) (s .settled) ]
+
+abbrev latest : State → Life
+latest s = elim (s .pending) [ none ↦ s .settled | some w ↦ w .1 ]
+
+abbrev free : State → ℕ → Bool
+free s i = elim (s .pending) [ none ↦ true | some w ↦ eqb (w .0) i ]
+
+abbrev writes : State → ℕ → Bool → Life → Option State
+writes s i fits life = cond (free s i && fits) (some (record { settled = s .settled; pending = some (i, life) })) none
+
+-- the next state, where transaction i may do this
+abbrev goesOn : State → ℕ → Action → Option State
+goesOn s i read = cond (isVisible (sees s i)) (some s) none
+goesOn s i write = writes s i (isVisible (latest s)) visible
+goesOn s i insert = writes s i (isUnborn (latest s)) visible
+goesOn s i delete = writes s i (isVisible (latest s)) deleted
+goesOn s i predicateRead = some s
+goesOn s i commit = some (cond (free s i) (record { settled = latest s; pending = none }) s)
+
+-- each of the next k events, of two transactions that have not committed, is lawful exactly where the machine goes on; `past` is lawful
+agrees : ℕ → ℕ → State → List Event → Bool
+agrees t zero s past = true
+agrees t (suc k) s past =
+    all
+    (λ i. committed past i || all
+    (λ a.
+    let obeyed = obeys starts past (acts i (length past) a 0 t) in
+    elim (goesOn s i a) [ none ↦ not obeyed | some next ↦ obeyed && agrees t k next (acts i (length past) a 0 t ∷ past) ])
+    (read ∷ write ∷ insert ∷ delete ∷ commit ∷ []))
+    (0 ∷ 1 ∷ [])
+
+visible-tuple : agrees 0 4 (record { settled = visible; pending = none }) [] ≡ true
+unfolding openRules agrees
+visible-tuple = refl
+
+unborn-tuple : agrees 1 4 (record { settled = unborn; pending = none }) [] ≡ true
+unfolding openRules agrees
+unborn-tuple = refl
+
+-- a tuple may have a long life: inserted and updated by one transaction, read and updated twice by each of five others in turn, deleted by one more
+long-life :
+    lawful
+    ((acts 0 0 insert 0 1 ∷ acts 0 1 write 0 1 ∷ acts 0 2 write 0 1 ∷ acts 0 3 write 0 1 ∷ acts 0 4 commit 0 0 ∷ [])
+    ++ flatMap
+    (λ i. acts i 0 read 0 1 ∷ acts i 1 write 0 1 ∷ acts i 2 write 0 1 ∷ acts i 3 commit 0 0 ∷ [])
+    (1 ∷ 2 ∷ 3 ∷ 4 ∷ 5 ∷ [])
+    ++ (acts 6 0 read 0 1 ∷ acts 6 1 delete 0 1 ∷ acts 6 2 predicateRead 0 0 ∷ acts 6 3 commit 0 0 ∷ acts 7 0 predicateRead 0 0 ∷ []))
+    ≡ true
+unfolding openRules
+long-life = refl
+
+-- ---- what is done elsewhere hinders nothing
+
+-- each of the next k events, of any transaction that has not committed, is lawful, on the relation and tuple given for its position and action
+unhindered : (ℕ → Action → ℕ) → (ℕ → Action → ℕ) → ℕ → List Event → Bool
+unhindered relation tuple zero past = true
+unhindered relation tuple (suc k) past =
+    let m = length past in
+    all
+    (λ i. committed past i || all
+    (λ a. let e = acts i m a (relation m a) (tuple m a) in obeys starts past e && unhindered relation tuple k (e ∷ past))
+    actions)
+    (numbers (suc m))
+
+-- H3 to H6, H11: each on a tuple of its own, every three actions may follow one another, whosever they are; a transaction may be empty, and commits
+-- may stand in any order
+other-tuples : unhindered (λ m a. 0) (λ m a. 2 * m + fitting a) 3 [] ≡ true
+unfolding openRules unhindered
+other-tuples = refl
+
+-- the same on one tuple of a relation of its own
+other-relations : unhindered (λ m a. suc (2 * m + fitting a)) (λ m a. 0) 3 [] ≡ true
+unfolding openRules unhindered
+other-relations = refl
+
+-- ---- H3: a statement's operations stand together
+
+-- operations of the statements given by transaction and place, each the same action on a tuple of its own
+abbrev stand : Action → List (ℕ × ℕ) → Bool
+stand a l = lawful (map (λ k. let s = getD l k (0, 0) in event (s .0) k (s .1) a 0 (2 * k + fitting a) 1) (numbers (length l)))
+
+together-table :
+    map
+    (λ a. map
+    (stand a)
+    (((0, 0) ∷ (0, 0) ∷ (0, 0) ∷ (0, 0) ∷ (0, 0) ∷ (0, 0) ∷ (0, 0) ∷ (0, 0) ∷ [])
+    ∷ ((0, 0) ∷ (1, 0) ∷ (2, 0) ∷ (0, 1) ∷ (1, 1) ∷ (2, 1) ∷ (2, 1) ∷ [])
+    ∷ ((0, 0) ∷ (1, 0) ∷ (0, 0) ∷ [])
+    ∷ ((0, 0) ∷ (0, 1) ∷ (0, 0) ∷ [])
+    ∷ ((0, 1) ∷ (1, 0) ∷ (0, 1) ∷ [])
+    ∷ ((0, 0) ∷ (0, 1) ∷ (0, 2) ∷ (0, 0) ∷ [])
+    ∷ ((0, 0) ∷ (1, 0) ∷ (1, 1) ∷ (1, 2) ∷ (0, 0) ∷ [])
+    ∷ []))
+    accesses
+    ≡ map (λ a. y ∷ y ∷ n ∷ n ∷ n ∷ n ∷ n ∷ []) accesses
+unfolding openRules
+together-table = refl

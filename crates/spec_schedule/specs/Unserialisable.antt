@@ -1,0 +1,91 @@
+-- A schedule that meets every rule and has no serial order: two runs of one program read a tuple and then overwrite it, and both
+-- read before either writes. So `SerialOrder` is no empty demand, and Read Committed alone does not give it.
+use mathlib.Core.Bool.{true}
+use mathlib.Core.List.{List, [], _∷_, List·Memᴰ}
+use mathlib.Core.List.List·Memᴰ.{List·Memᴰ·head}
+use mathlib.Core.Option.{some, Option·none-ne-some}
+use mathlib.Core.Path.{_≡_, refl, ap}
+use Prim.Native.Nat.{ℕ, zero, suc}
+use lib.ListN.{getElem?}
+use Rattle.spec_base.specs.Basic.{keep}
+use Rattle.law_base.specs.ListLaws.{some-injective}
+use Rattle.spec_text.specs.declared.Line.{Line}
+use Rattle.spec_text.specs.declared.LineKind.the-variants.{Rl, Pr, St}
+use Rattle.spec_text.specs.declared.StatementKind.the-variants.{Ks, Ku}
+use Rattle.spec_graph.specs.Program.{Program, programsOf}
+use Rattle.spec_graph.specs.Unfolding.{pairs, unfoldings, nodesOfProgram, nodesFrom, nodesOf}
+use Rattle.spec_graph.specs.Graph.Flow.{forward, back}
+use Rattle.spec_graph.specs.Edge.{holds, sameRelation, guarded, shielded, placeAt, graphOf}
+use Rattle.spec_graph.specs.Edge
+use Rattle.spec_graph.specs.Walk.{DangerousWalk, isEdge, dangerousPair, isDangerous}
+use Rattle.spec_graph.specs.Program.Item.{statement}
+use Rattle.spec_graph.specs.Program.Run.{done, next}
+use Rattle.spec_graph.specs.Unfolding.Execution.{end, step}
+use Rattle.spec_graph.specs.Unfolding.ItemExecution.{perform}
+use Rattle.spec_schedule.specs.Event.{Event, by}
+use Rattle.spec_schedule.specs.Event.Action.{read, write, commit}
+use Rattle.spec_schedule.specs.Schedule.{Transaction, Schedule, eventsOf}
+use Rattle.spec_schedule.specs.Serial.{Serialisable}
+use Rattle.spec_schedule.specs.SerialTest.{none-of-two, openTest}
+use Rattle.spec_schedule.specs.ScheduleExamples.{line, says, event, openWorkload, openRules, no-program, one-program}
+
+-- rl 0 - - 1 - -
+-- pr 0 - - - - -
+-- ks 0 0 - 1 - -
+-- ku 1 0 - 0 1 -
+abbrev pub lines : List Line
+lines = line Rl 0 0 0 1 0 0 ∷ line Pr 0 0 0 0 0 0 ∷ line (St Ks) 0 0 0 1 0 0 ∷ line (St Ku) 1 0 0 0 1 0 ∷ []
+
+abbrev pub program : Program
+program = record { body = next (statement (says Ks 0 0 1 0 0)) (next (statement (says Ku 1 0 0 1 0)) done); links = [] }
+
+-- the workload is dangerous
+pub dangerous : DangerousWalk (graphOf (nodesOf lines))
+unfolding openWorkload pairs unfoldings nodesOfProgram nodesFrom nodesOf holds sameRelation guarded shielded
+    Edge.forward Edge.back placeAt graphOf isEdge dangerousPair isDangerous
+dangerous =
+    (record { node = 0; leaves = 0; enters = 1; flow = forward } ∷ record { node = 0; leaves = 0; enters = 1; flow = back } ∷ [], refl)
+
+-- a run of the program on tuple 0
+abbrev pub run : Transaction
+run = record { program = program; execution = step perform (step perform end); tuple = λ i. 0; tuples = λ i. [] }
+
+-- both read, then the first writes and commits, then the second
+abbrev pub events : List Event
+events =
+    event 0 0 0 read 0 0 1
+    ∷ event 1 0 0 read 0 0 1
+    ∷ event 0 1 1 read 0 0 0
+    ∷ event 0 2 1 write 0 0 1
+    ∷ event 0 3 2 commit 0 0 0
+    ∷ event 1 1 1 read 0 0 0
+    ∷ event 1 2 1 write 0 0 1
+    ∷ event 1 3 2 commit 0 0 0
+    ∷ []
+
+pub lostUpdate : Schedule lines
+unfolding openWorkload openRules
+lostUpdate =
+    record {
+      transactions = run ∷ run ∷ [];
+      ofPrograms = one-program run member (one-program run member no-program);
+      start = λ r t. true;
+      key = λ f t. t;
+      kept = refl;
+      events = events;
+      known = refl;
+      whole = whole;
+      obeyed = refl;
+    }
+  where
+    member : List·Memᴰ program (programsOf lines)
+    member = List·Memᴰ·head refl
+
+    whole : (i : ℕ) (x : Transaction) → getElem? (run ∷ run ∷ []) i ≡ some x → keep (by i) events ≡ eventsOf i x
+    whole zero x e = ap (eventsOf 0) (some-injective e)
+    whole (suc zero) x e = ap (eventsOf 1) (some-injective e)
+    whole (suc (suc i)) x e = absurd (Option·none-ne-some x e)
+
+pub no-order : Serialisable lostUpdate → ⊥
+unfolding openTest lostUpdate
+no-order = none-of-two events refl refl

@@ -1,6 +1,0 @@
-pub mod Text
-pub mod Reading
-pub mod Value
-pub mod NoWorkload
-pub mod Quoted
-pub mod Examples

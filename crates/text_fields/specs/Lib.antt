@@ -1,0 +1,10 @@
+pub mod Answer
+pub mod AnswerLaws
+pub mod DigitLaws
+pub mod Field
+pub mod FieldLaws
+pub mod KindLaws
+pub mod Progress
+pub mod Step
+pub mod FieldSteps
+pub mod Unique

@@ -1,0 +1,25 @@
+-- The four fields are what the three functions ensure of the line's end, the next place and the next number, and `spanAt` is made of the same
+-- four.
+use Rattle.text_lines.specs.Span.{spanAt}
+use borrow.Author.Needs.{needs}
+use Rattle.text_lines.proofs.line_span.Statement.{statement}
+use Rattle.text_lines.proofs.line_span.Tie as tie
+use Rattle.text_lines.proofs.line_span.Reads as reads
+use Rattle.text_lines.proofs.line_span.Lts as lts
+
+line-end-requires : tie.Need-line-end-requires
+line-end-requires c κs = search needs
+
+place-behind-requires : tie.Need-place-behind-requires
+place-behind-requires c κs = search needs
+
+number-behind-requires : tie.Need-number-behind-requires
+number-behind-requires c κs = search needs
+
+returns : tie.Need-returns
+unfolding spanAt
+returns c = rw (c .number-behind .ensures, c .before .place-behind .ensures, c .before .before .line-end .ensures)
+
+pub line-span-spec : {M : Type 1} → statement M
+line-span-spec =
+    tie.close (tie.spec line-end-requires place-behind-requires number-behind-requires returns)

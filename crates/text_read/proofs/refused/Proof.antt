@@ -1,0 +1,19 @@
+-- The answer is the definition's for a refusal: 1617 over unused cells is the value that no text gives.
+use Rattle.spec_text.specs.Value.{noWorkload}
+use Rattle.text_read.specs.Parse.{parsedAs}
+use borrow.Author.Needs.{needs}
+use Rattle.text_read.proofs.refused.Statement.{statement}
+use Rattle.text_read.proofs.refused.Tie as tie
+use Rattle.text_read.proofs.refused.Reads as reads
+use Rattle.text_read.proofs.refused.Lts as lts
+use Rattle.text_read.proofs.unused_cells.Reads as unused-cells-reads
+
+unused-cells-requires : tie.Need-unused-cells-requires
+unused-cells-requires c κs = search needs
+
+returns : tie.Need-returns
+unfolding parsedAs noWorkload
+returns c = rw (c .unused-cells .ensures)
+
+pub refused-spec : {M : Type 1} → statement M
+refused-spec = tie.close (tie.spec unused-cells-requires returns)

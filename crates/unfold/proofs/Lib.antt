@@ -1,0 +1,5 @@
+pub mod WriteLaws
+pub mod WriteRowLaws
+pub mod WriteLineLaws
+pub mod UnfoldLaws
+pub mod UnfoldSettledLaws

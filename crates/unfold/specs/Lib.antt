@@ -1,0 +1,9 @@
+pub mod Written
+pub mod UnfoldTold
+pub mod PieceTable
+pub mod PieceTableLaws
+pub mod UnfoldSteps
+pub mod OwnLaws
+pub mod Stand
+pub mod UnfoldSettled
+pub mod NotGiven

@@ -1,0 +1,37 @@
+-- The table of what is written: each piece's program, start and length.
+use mathlib.Core.List.{List, [], _∷_, map}
+use Prim.Native.Nat.{ℕ, _+_}
+use lib.ListN.{length, set}
+use Rattle.unfold_laws.specs.declared.UnfoldingTable.{UnfoldingTable}
+use Rattle.unfold_laws.specs.Pieces.{Piece, flat}
+use Rattle.unfold.specs.UnfoldTold.{cells}
+
+-- one row more
+unfoldable pub added : UnfoldingTable → ℕ → ℕ → UnfoldingTable
+added t program n =
+    record {
+      count = t .count + 1;
+      used = t .used + n;
+      program = set (t .program) (t .count) program;
+      start = set (t .start) (t .count) (t .used);
+      length = set (t .length) (t .count) n;
+    }
+
+unfoldable pub addAll : UnfoldingTable → List Piece → UnfoldingTable
+addAll t [] = t
+addAll t (p ∷ ps) = addAll (added t (p .program) (length (p .words))) ps
+
+-- the place where each piece starts
+unfoldable pub starts : ℕ → List Piece → List ℕ
+starts s [] = []
+starts s (p ∷ ps) = s ∷ starts (s + length (p .words)) ps
+
+unfoldable pub table : List Piece → UnfoldingTable
+table ps =
+    record {
+      count = length ps;
+      used = length (flat ps);
+      program = cells (map (λ p. p .program) ps);
+      start = cells (starts 0 ps);
+      length = cells (map (λ p. length (p .words)) ps);
+    }

@@ -1,0 +1,75 @@
+-- Rows that are added one by one make the table of all pieces.
+use mathlib.Core.List.{List, [], _∷_, _++_, map, append-assoc, append-nil, map-append}
+use mathlib.Core.Path.{_≡_, refl, sym, ap, _∙_}
+use Prim.Native.Nat.{ℕ, suc, _+_, _-_, _<_, _≤_}
+use native.Mathlib.Nat.{zero-add, add-zero}
+use native.Mathlib.Omega.{arith}
+use lib.ListN.{length, set, replicate, length-append, length-map}
+use lib.Seq.{set-append-seam}
+use Rattle.unfold_laws.specs.declared.UnfoldingTable.{UnfoldingTable}
+use Rattle.unfold_laws.specs.Pieces.{Piece, flat}
+use Rattle.unfold.specs.UnfoldTold.{cells}
+use Rattle.unfold.specs.PieceTable.{added, addAll, starts, table}
+
+-- rows after rows
+pub addAll-append : (t : UnfoldingTable) (ps qs : List Piece) → addAll t (ps ++ qs) ≡ addAll (addAll t ps) qs
+unfolding addAll
+addAll-append t [] qs = refl
+addAll-append t (p ∷ ps) qs = addAll-append (added t (p .program) (length (p .words))) ps qs
+
+pub flat-append : (ps qs : List Piece) → flat (ps ++ qs) ≡ flat ps ++ flat qs
+unfolding flat
+flat-append [] qs = refl
+flat-append (p ∷ ps) qs = ap (λ (l : List ℕ). p .words ++ l) (flat-append ps qs) ∙ (sym (append-assoc (p .words) (flat ps) (flat qs)))
+
+-- a cell more is taken
+cell-set : (l : List ℕ) (x n : ℕ) → length l ≡ n → n < 64 → set (cells l) n x ≡ cells (l ++ (x ∷ []))
+unfolding cells
+cell-set l x n e h =
+    let one : 64 - length l ≡ suc (63 - n) = omega arith in
+    let two : 64 - length (l ++ (x ∷ [])) ≡ 63 - n = omega (arith, length-append l (x ∷ [])) in
+    rw (one, two, ← e) (set-append-seam l 0 (replicate (63 - length l) 0) x ∙ sym (append-assoc l (x ∷ []) (replicate (63 - length l) 0)))
+
+starts-append : (s : ℕ) (ps : List Piece) (p : Piece) → starts s (ps ++ (p ∷ [])) ≡ starts s ps ++ ((s + length (flat ps)) ∷ [])
+unfolding starts flat
+starts-append s [] p = ap (λ (n : ℕ). n ∷ []) (sym (add-zero s))
+starts-append s (q ∷ ps) p =
+    ap (λ (l : List ℕ). s ∷ l) (starts-append (s + length (q .words)) ps p
+    ∙ ap (λ (n : ℕ). starts (s + length (q .words)) ps ++ (n ∷ [])) (omega (arith, length-append (q .words) (flat ps))))
+
+length-starts : (s : ℕ) (ps : List Piece) → length (starts s ps) ≡ length ps
+unfolding starts
+length-starts s [] = refl
+length-starts s (p ∷ ps) = ap suc (length-starts (s + length (p .words)) ps)
+
+flat-one : (p : Piece) → length (flat (p ∷ [])) ≡ length (p .words)
+unfolding flat
+flat-one p = rw append-nil
+
+row-added : (ps : List Piece) (p : Piece) → length ps < 64 → added (table ps) (p .program) (length (p .words)) ≡ table (ps ++ (p ∷ []))
+unfolding added table
+row-added ps p h =
+    let many : length ps + 1 ≡ length (ps ++ (p ∷ [])) = sym (length-append ps (p ∷ [])) in
+    let places : length (flat ps) + length (p .words) ≡ length (flat (ps ++ (p ∷ []))) =
+    sym (ap length (flat-append ps (p ∷ [])) ∙ length-append (flat ps) (flat (p ∷ [])) ∙ ap (λ (n : ℕ). length (flat ps) + n) (flat-one p)) in
+    let programs : set (cells (map (λ q. q .program) ps)) (length ps) (p .program) ≡ cells (map (λ q. q .program) (ps ++ (p ∷ []))) =
+    cell-set (map (λ q. q .program) ps) (p .program) (length ps) (length-map ps (λ q. q .program)) h
+    ∙ ap cells (sym (map-append (λ q. q .program) ps (p ∷ []))) in
+    let lengths : set (cells (map (λ q. length (q .words)) ps)) (length ps) (length (p .words)) ≡ cells
+    (map (λ q. length (q .words)) (ps ++ (p ∷ []))) =
+    cell-set (map (λ q. length (q .words)) ps) (length (p .words)) (length ps) (length-map ps (λ q. length (q .words))) h
+    ∙ ap cells (sym (map-append (λ q. length (q .words)) ps (p ∷ []))) in
+    let begin : set (cells (starts 0 ps)) (length ps) (length (flat ps)) ≡ cells (starts 0 (ps ++ (p ∷ []))) =
+    cell-set (starts 0 ps) (length (flat ps)) (length ps) (length-starts 0 ps) h
+    ∙ ap cells (ap (λ (n : ℕ). starts 0 ps ++ (n ∷ [])) (sym (zero-add (length (flat ps)))) ∙ sym (starts-append 0 ps p)) in
+    rw (many, places, programs, lengths, begin)
+
+pub rows-added : (ps qs : List Piece) → length ps + length qs ≤ 64 → addAll (table ps) qs ≡ table (ps ++ qs)
+unfolding addAll
+rows-added ps [] h = ap table (sym (append-nil ps))
+rows-added ps (q ∷ qs) h =
+    rw (row-added ps q (omega arith))
+    (rows-added (ps ++ (q ∷ [])) qs (omega (arith, length-append ps (q ∷ []))) ∙ ap table (append-assoc ps (q ∷ []) qs))
+
+pub from-nothing : (ps : List Piece) → length ps ≤ 64 → addAll (table []) ps ≡ table ps
+from-nothing ps h = rows-added [] ps (omega (arith, zero-add (length ps)))

@@ -1,0 +1,62 @@
+-- No turn, one turn and two turns add up to what `loopCounted` has, sums and products stopped at 513 (loop-made).
+use Rattle.unfold_count.proofs.RunLaws.{loop-made}
+use native.Mathlib.Omega.{arith}
+use mathlib.Core.Path.{_≡_, refl, ap, sym, _∙_}
+use Prim.Native.Nat.{ℕ, _+_, _-_, _*_, _≤_, _<_}
+use lib.ListN.{length, set, getD, length-set, take, drop}
+use borrow.Author.Needs.{needs}
+use Rattle.unfold_count.proofs.count_loop.Statement.{statement}
+use Rattle.unfold_count.proofs.count_loop.Tie as tie
+use Rattle.unfold_count.proofs.count_loop.Reads as reads
+use Rattle.unfold_count.proofs.count_loop.Lts as lts
+use Rattle.unfold_count.proofs.behind.Reads as behind-reads
+use Rattle.unfold_count.proofs.product.Reads as product-reads
+use Rattle.unfold_count.proofs.sum.Reads as sum-reads
+
+product-requires : tie.Need-product-requires
+product-requires c κs = search needs
+
+sum-requires : tie.Need-sum-requires
+sum-requires c κs = search needs
+
+sum-requires-2 : tie.Need-sum-requires-2
+sum-requires-2 c κs = search needs
+
+product-requires-2 : tie.Need-product-requires-2
+product-requires-2 c κs = search needs
+
+product-requires-3 : tie.Need-product-requires-3
+product-requires-3 c κs = search needs
+
+sum-requires-3 : tie.Need-sum-requires-3
+sum-requires-3 c κs = search needs
+
+sum-requires-4 : tie.Need-sum-requires-4
+sum-requires-4 c κs = search needs
+
+behind-requires : tie.Need-behind-requires
+behind-requires c κs = search needs
+
+returns : tie.Need-returns
+returns c =
+    let c3 = c .before .before .before in
+    let c4 = c3 .before in
+    let c5 = c4 .before in
+    let c6 = c5 .before in
+    let c7 = c6 .before in
+    loop-made _ _ _ _ _ _ _ _ _ _ (c7 .product .ensures) (c6 .sum .ensures) (c5 .sum2 .ensures) (c4 .product2 .ensures)
+    (c3 .product3 .ensures) (c .before .before .sum3 .ensures) (c .before .sum4 .ensures) (c .behind .ensures)
+
+pub count-loop-spec : {M : Type 1} → statement M
+count-loop-spec =
+    tie.close
+    (tie.spec
+    product-requires
+    sum-requires
+    sum-requires-2
+    product-requires-2
+    product-requires-3
+    sum-requires-3
+    sum-requires-4
+    behind-requires
+    returns)

@@ -1,9 +1,0 @@
-pub mod Facts
-pub mod Result
-pub mod Table
-pub mod TableLaws
-pub mod Steps
-pub mod OwnLaws
-pub mod Stand
-pub mod Settled
-pub mod NotGiven

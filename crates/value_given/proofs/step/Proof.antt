@@ -1,0 +1,62 @@
+-- A line without a size does not fit (step-unfit), a line that fails a test has a fault (step-fault), and any other is taken into the words with
+-- its size (step-taken).
+use Rattle.value_given.specs.DecideLaws.{step-unfit, step-fault, step-taken}
+use Rattle.value_length.specs.Size.{sizeSaid}
+use mathlib.Core.Path.{sym, ap, _∙_}
+use lib.ListN.{take}
+use borrow.Author.Needs.{needs}
+use Rattle.value_given.proofs.step.Statement.{statement}
+use Rattle.value_given.proofs.step.Tie as tie
+
+line-size-requires : tie.Need-line-size-requires
+line-size-requires c κs = search needs
+
+enum-told : tie.Need-enum-told
+enum-told c = search needs
+
+returns : tie.Need-returns
+unfolding sizeSaid
+returns c = step-unfit _ _ (sym (c .before .before .line-size .ensures) ∙ ap sizeSaid (c .enum-told .given .1))
+
+enum-known-found : tie.Need-enum-known-found
+enum-known-found c = search needs
+
+check-requires : tie.Need-check-requires
+check-requires c κs = search needs
+
+same-length : tie.Need-same-length
+same-length c = search needs
+
+returns-2 : tie.Need-returns-2
+returns-2 c = step-fault _ _ _ (c .if1 .taken) (c .before .check .ensures .1)
+
+take-requires : tie.Need-take-requires
+take-requires c κs = search needs
+
+same-length-2 : tie.Need-same-length-2
+same-length-2 c = search needs
+
+returns-3 : tie.Need-returns-3
+unfolding sizeSaid
+returns-3 c =
+    let taken = c .before .before in
+    let checked = taken .before .before .before in
+    let found = checked .before .before .before in
+    let sized = found .before .before in
+    step-taken _ _ _ _ _ (taken .take .kept .0) (sym (sized .line-size .ensures) ∙ ap sizeSaid (found .found .given .1))
+    (taken .before .before .if1 .left) (checked .check .ensures .1) (taken .take .ensures .1)
+
+pub step-spec : {M : Type 1} → statement M
+step-spec =
+    tie.close
+    (tie.spec
+    line-size-requires
+    enum-told
+    returns
+    enum-known-found
+    check-requires
+    same-length
+    returns-2
+    take-requires
+    same-length-2
+    returns-3)

@@ -1,0 +1,4 @@
+pub mod Decided
+pub mod Back
+pub mod Decide
+pub mod DecideLaws

@@ -1,0 +1,301 @@
+-- The tables picked from the rows of nodes stand for all edges of their summary graph.
+use mathlib.Core.Path.{_≡_, refl, sym, ap, ap₂, _∙_}
+use mathlib.Core.Bool.{Bool, true, false, cond, _&&_}
+use mathlib.Core.Logic.{_⊎_, inl, inr}
+use mathlib.Core.List.{List, [], _∷_, List·Memᴰ, Memᴰ·map}
+use mathlib.Core.List.List·Memᴰ.{List·Memᴰ·head, List·Memᴰ·tail}
+use Prim.Native.Nat.{ℕ, _+_, _*_, _/_, _%_, _≤_, _<_, max}
+use native.Mathlib.Omega.{arith}
+use lib.Dec.{eqb, ltb, leb}
+use lib.ListN.{length}
+use borrow.Author.Tests.{eqb-true, eq-eqb, lt-ltb, leb-true, leb-false}
+use Rattle.law_base.specs.BoolLaws.{decide, and-true, and-of}
+use Rattle.law_base.specs.ListLaws.{map-member}
+use Rattle.spec_graph.specs.Graph.{Flow, Graph}
+use Rattle.spec_graph.specs.Unfolding.{Node}
+use Rattle.spec_graph.specs.Edge.{Place, at, loosens, forward, back, stands, bothPass, loosensAt, placesOf, placeAt, graphOf}
+use Rattle.law_walk.specs.Reach.{regular, both-pass}
+use Rattle.spec_report.specs.State.{statementsIn}
+use Rattle.place_row.specs.declared.Row.{Row}
+use Rattle.place_row.specs.RowTable.{rowOf, rowsOf, rowStands}
+use Rattle.place_row.specs.RowTableLaws.{KeysSmall, placesOf-node, forward-rows, back-rows}
+use Rattle.walk_find.specs.EdgeTable.{entry}
+use Rattle.walk_find.specs.Coding.{aheadWord, behindWord, GreatestWords, Small}
+use Rattle.walk_pick.specs.Picks.{forwardWord, backWord, greatest, standsIn, wordFor, between, wordsBetween}
+use Rattle.walk_pick.specs.PickStepLaws.{words-entry}
+use Rattle.verdict_laws.specs.Places.{place-found, found-place, places-few}
+
+-- ---- the greatest
+
+-- the greatest number is 0 or some element's
+greatest-some : {A : Type 0} (f : A → ℕ) (l : List A) → (greatest f l ≡ 0) ⊎ ((x : A) × List·Memᴰ x l × (greatest f l ≡ f x))
+unfolding greatest
+greatest-some f [] = inl refl
+greatest-some {A} f (x ∷ l) = go (greatest-some f l) (decide (leb (greatest f l) (f x)))
+  where
+    go : (greatest f l ≡ 0) ⊎ ((y : A) × List·Memᴰ y l × (greatest f l ≡ f y))
+        → (leb (greatest f l) (f x) ≡ true) ⊎ (leb (greatest f l) (f x) ≡ false)
+        → (max (f x) (greatest f l) ≡ 0) ⊎ ((y : A) × List·Memᴰ y (x ∷ l) × (max (f x) (greatest f l) ≡ f y))
+    go rest (inl e) = let h = leb-true (greatest f l) (f x) e in inr (x, List·Memᴰ·head refl, omega arith)
+    go (inl z) (inr e) = let h = leb-false (greatest f l) (f x) e in absurd (omega arith)
+    go (inr (y, m, q)) (inr e) = let h = leb-false (greatest f l) (f x) e in inr (y, List·Memᴰ·tail m, omega arith)
+
+-- and no element has a greater one
+greatest-most : {A : Type 0} (f : A → ℕ) {l : List A} {x : A} → List·Memᴰ x l → f x ≤ greatest f l
+unfolding greatest
+greatest-most f {x = x} (List·Memᴰ·head {x = y} {xs = xs} e) = let h = ap f e in omega arith
+greatest-most f {x = x} (List·Memᴰ·tail {x = y} {xs = xs} m) = let h = greatest-most f m in omega arith
+
+-- ---- words between rows of places
+
+module _ (test : Row → Row → Bool) (code : Row → Row → ℕ) where
+  abbrev word : Row → Row → ℕ
+  word p q = cond (test p q) (code p q) 0
+
+  -- two rows of the nodes u and v between which the word stands
+  record From (rows : List Row) (u v x : ℕ) : Type 0 where
+    pub p : Row
+    pub q : Row
+    pub left : List·Memᴰ p rows
+    pub right : List·Memᴰ q rows
+    pub leaves : p .node ≡ u
+    pub enters : q .node ≡ v
+    pub passes : test p q ≡ true
+    pub same : x ≡ code p q
+
+  -- a word that is not 0 is the word between two rows
+  word-from : (rows : List Row) (u v x : ℕ) (p q : Row) → List·Memᴰ p rows → List·Memᴰ q rows → x ≡ wordFor word u v p q → (x ≡ 0) ⊎ From rows u v x
+  unfolding wordFor standsIn
+  word-from rows u v x p q m n e = go (decide (standsIn u p && standsIn v q)) (decide (test p q))
+    where
+      go : (standsIn u p && standsIn v q ≡ true) ⊎ (standsIn u p && standsIn v q ≡ false) → (test p q ≡ true) ⊎ (test p q ≡ false)
+          → (x ≡ 0) ⊎ From rows u v x
+      go (inr d) t = inl (e ∙ ap (λ (b : Bool). cond b (word p q) 0) d)
+      go (inl d) (inr t) = inl (e ∙ ap (λ (b : Bool). cond b (word p q) 0) d ∙ ap (λ (b : Bool). cond b (code p q) 0) t)
+      go (inl d) (inl t) =
+          let both = and-true (standsIn u p) (standsIn v q) d in
+          inr (record {
+            p = p;
+            q = q;
+            left = m;
+            right = n;
+            leaves = eqb-true (p .node) u (and-true (eqb (p .node) u) (ltb (p .place) 1024) (both .0) .0);
+            enters = eqb-true (q .node) v (and-true (eqb (q .node) v) (ltb (q .place) 1024) (both .1) .0);
+            passes = t;
+            same = e ∙ ap (λ (b : Bool). cond b (word p q) 0) d ∙ ap (λ (b : Bool). cond b (code p q) 0) t;
+          })
+
+  between-from : (rows : List Row) (u v : ℕ) → (between word rows u v ≡ 0) ⊎ From rows u v (between word rows u v)
+  unfolding between
+  between-from rows u v = outer (greatest-some (λ p. greatest (wordFor word u v p) rows) rows)
+    where
+      x : ℕ
+      x = greatest (λ p. greatest (wordFor word u v p) rows) rows
+
+      inner : (p : Row) → List·Memᴰ p rows → x ≡ greatest (wordFor word u v p) rows
+          → (greatest (wordFor word u v p) rows ≡ 0)
+          ⊎ ((q : Row) × List·Memᴰ q rows × (greatest (wordFor word u v p) rows ≡ wordFor word u v p q))
+          → (x ≡ 0) ⊎ From rows u v x
+      inner p m e (inl z) = inl (e ∙ z)
+      inner p m e (inr (q, n, d)) = word-from rows u v x p q m n (e ∙ d)
+
+      outer : (x ≡ 0) ⊎ ((p : Row) × List·Memᴰ p rows × (x ≡ greatest (wordFor word u v p) rows)) → (x ≡ 0) ⊎ From rows u v x
+      outer (inl z) = inl z
+      outer (inr (p, m, e)) = inner p m e (greatest-some (wordFor word u v p) rows)
+
+  -- no two rows have a greater word
+  between-most : (rows : List Row) (p q : Row) → List·Memᴰ p rows → List·Memᴰ q rows → test p q ≡ true → p .place < 1024 → q .place < 1024
+      → code p q ≤ between word rows (p .node) (q .node)
+  unfolding between wordFor standsIn
+  between-most rows p q m n t i j =
+      let here : wordFor word (p .node) (q .node) p q ≡ code p q
+      = ap (λ (b : Bool). cond b (word p q) 0)
+      (and-of (and-of (eq-eqb (p .node) (p .node) refl) (lt-ltb (p .place) 1024 i))
+      (and-of (eq-eqb (q .node) (q .node) refl) (lt-ltb (q .place) 1024 j)))
+      ∙ ap (λ (b : Bool). cond b (code p q) 0) t in
+      let inner = greatest-most (wordFor word (p .node) (q .node) p) n in
+      let outer = greatest-most (λ r. greatest (wordFor word (p .node) (q .node) r) rows) m in
+      omega arith
+
+-- the entry for two nodes
+pub entry-between : (word : Row → Row → ℕ) (rows : List Row) (u v : ℕ) → u < 64 → v < 64
+    → entry (wordsBetween word rows) u v ≡ between word rows u v
+entry-between word rows u v h k =
+    let left : (u * 64 + v) / 64 ≡ u = omega arith in
+    let right : (u * 64 + v) % 64 ≡ v = omega arith in
+    words-entry word rows (u * 64 + v) (omega arith) ∙ ap₂ (between word rows) left right
+
+-- ---- the summary graph
+
+module _ (nodes : List Node) where
+  -- two places between which an edge stands
+  record Ends (flow : Flow) (u i v j : ℕ) : Type 0 where
+    pub s : Place
+    pub t : Place
+    pub left : List·Memᴰ s (placesOf 0 nodes)
+    pub right : List·Memᴰ t (placesOf 0 nodes)
+    pub leaves : s .number ≡ u
+    pub leavesAt : s .place ≡ i
+    pub enters : t .number ≡ v
+    pub entersAt : t .place ≡ j
+    pub edge : stands flow s t ≡ true
+
+  edge-ends : (flow : Flow) (u i v j : ℕ) → graphOf nodes .edge u i v j flow ≡ true → Ends flow u i v j
+  unfolding graphOf
+  edge-ends flow u i v j h =
+      let b = both-pass (stands flow) (placeAt nodes u i) (placeAt nodes v j) h in
+      let l = found-place nodes u i (b .2) in
+      let r = found-place nodes v j (b .3) in
+      record {
+        s = b .0;
+        t = b .1;
+        left = l .0;
+        right = r .0;
+        leaves = l .1;
+        leavesAt = l .2;
+        enters = r .1;
+        entersAt = r .2;
+        edge = sym (ap₂ (bothPass (stands flow)) (b .2) (b .3)) ∙ h;
+      }
+
+  -- an edge between listed places is an edge of the graph
+  ends-edge : (flow : Flow) (s t : Place) → List·Memᴰ s (placesOf 0 nodes) → List·Memᴰ t (placesOf 0 nodes)
+      → graphOf nodes .edge (s .number) (s .place) (t .number) (t .place) flow ≡ stands flow s t
+  unfolding graphOf
+  ends-edge flow s t l r = ap₂ (bothPass (stands flow)) (place-found nodes s l) (place-found nodes t r)
+
+  place-loose : (s : Place) → List·Memᴰ s (placesOf 0 nodes) → graphOf nodes .loose (s .number) (s .place) ≡ loosens (at s .kind)
+  unfolding graphOf
+  place-loose s l = ap loosensAt (place-found nodes s l)
+
+  module _ (few : length nodes ≤ 64) (statements : statementsIn nodes ≤ 512) where
+    -- at most 64 nodes with 512 statements
+    pub small-graph : Small (graphOf nodes)
+    unfolding graphOf
+    small-graph m i n j flow h =
+        let inside = regular nodes .inNodes m i n j flow h in
+        let p = places-few nodes m in
+        let q = places-few nodes n in
+        (omega (arith, inside .0), omega (arith, inside .1), omega (arith, inside .2), omega (arith, inside .3))
+
+    module _ (keys : (n : Node) → List·Memᴰ n nodes → KeysSmall n) where
+      -- E1, E2: the edges of a flow between rows are those between their places
+      stands-rows : (flow : Flow) (s t : Place) → List·Memᴰ s (placesOf 0 nodes) → stands flow s t ≡ rowStands flow (rowOf s) (rowOf t)
+      stands-rows Flow.forward s t l = forward-rows s t
+      stands-rows Flow.back s t l = back-rows s t (keys (s .node) (placesOf-node 0 nodes l))
+
+      -- the word of an edge, by its places
+      module _ (flow : Flow) (code : Row → Row → ℕ) where
+        abbrev flowWord : Row → Row → ℕ
+        flowWord p q = cond (rowStands flow p q) (code p q) 0
+
+        -- each entry is 0 or the word of an edge
+        entry-from : (u v : ℕ) → u < 64 → v < 64
+            → (entry (wordsBetween flowWord (rowsOf nodes)) u v ≡ 0)
+            ⊎ ((s : Place) × (t : Place) × (s .number ≡ u) × (t .number ≡ v) × List·Memᴰ s (placesOf 0 nodes)
+            × (graphOf nodes .edge (s .number) (s .place) (t .number) (t .place) flow ≡ true)
+            × (entry (wordsBetween flowWord (rowsOf nodes)) u v ≡ code (rowOf s) (rowOf t)))
+        unfolding rowsOf rowOf
+        entry-from u v h k = go (between-from (rowStands flow) code (rowsOf nodes) u v)
+          where
+            here : entry (wordsBetween flowWord (rowsOf nodes)) u v ≡ between flowWord (rowsOf nodes) u v
+            here = entry-between flowWord (rowsOf nodes) u v h k
+
+            go : (between flowWord (rowsOf nodes) u v ≡ 0) ⊎ From (rowStands flow) code (rowsOf nodes) u v (between flowWord (rowsOf nodes) u v)
+                → (entry (wordsBetween flowWord (rowsOf nodes)) u v ≡ 0)
+                ⊎ ((s : Place) × (t : Place) × (s .number ≡ u) × (t .number ≡ v) × List·Memᴰ s (placesOf 0 nodes)
+                × (graphOf nodes .edge (s .number) (s .place) (t .number) (t .place) flow ≡ true)
+                × (entry (wordsBetween flowWord (rowsOf nodes)) u v ≡ code (rowOf s) (rowOf t)))
+            go (inl z) = inl (here ∙ z)
+            go (inr f) =
+                let a = map-member rowOf (placesOf 0 nodes) (f .left) in
+                let b = map-member rowOf (placesOf 0 nodes) (f .right) in
+                inr (
+                  a .0,
+                  b .0,
+                  ap (λ (p : Row). p .node) (a .2) ∙ f .leaves,
+                  ap (λ (p : Row). p .node) (b .2) ∙ f .enters,
+                  a .1,
+                  ends-edge flow (a .0) (b .0) (a .1) (b .1) ∙ stands-rows flow (a .0) (b .0) (a .1) ∙ ap₂ (rowStands flow) (a .2) (b .2) ∙ f .passes,
+                  here ∙ f .same ∙ sym (ap₂ code (a .2) (b .2)),
+                )
+
+        -- no edge has a greater word
+        entry-most : (u i v j : ℕ) → graphOf nodes .edge u i v j flow ≡ true
+            → (s : Place) × (t : Place) × (s .number ≡ u) × (s .place ≡ i) × (t .place ≡ j) × List·Memᴰ s (placesOf 0 nodes)
+            × (code (rowOf s) (rowOf t) ≤ entry (wordsBetween flowWord (rowsOf nodes)) u v)
+        unfolding rowsOf rowOf
+        entry-most u i v j h =
+            let e = edge-ends flow u i v j h in
+            let small = small-graph u i v j flow h in
+            let most = between-most (rowStands flow) code (rowsOf nodes) (rowOf (e .s)) (rowOf (e .t))
+            (Memᴰ·map rowOf (e .left)) (Memᴰ·map rowOf (e .right)) (sym (stands-rows flow (e .s) (e .t) (e .left)) ∙ e .edge)
+            (let q = e .leavesAt in omega (arith, small .2)) (let q = e .entersAt in omega (arith, small .3)) in
+            let there : between flowWord (rowsOf nodes) (e .s .number) (e .t .number) ≡ entry (wordsBetween flowWord (rowsOf nodes)) u v
+            = ap₂ (between flowWord (rowsOf nodes)) (e .leaves) (e .enters) ∙ sym (entry-between flowWord (rowsOf nodes) u v (small .0) (small .1)) in
+            (e .s, e .t, e .leaves, e .leavesAt, e .entersAt, e .left, rw there at most)
+
+      -- the tables picked from the rows of the nodes stand for all edges
+      pub rows-greatest : GreatestWords (graphOf nodes) (wordsBetween forwardWord (rowsOf nodes)) (wordsBetween backWord (rowsOf nodes))
+      unfolding forwardWord backWord rowOf
+      rows-greatest = record { aheadFrom = a-from; aheadMost = a-most; behindFrom = b-from; behindMost = b-most }
+        where
+          ahead : List ℕ
+          ahead = wordsBetween forwardWord (rowsOf nodes)
+
+          behind : List ℕ
+          behind = wordsBetween backWord (rowsOf nodes)
+
+          aheadCode : Row → Row → ℕ
+          aheadCode p q = aheadWord (loosens (p .kind)) (p .place) (q .place)
+
+          behindCode : Row → Row → ℕ
+          behindCode p q = behindWord (p .place) (q .place)
+
+          g : Graph
+          g = graphOf nodes
+
+          a-from : (u v : ℕ) → u < 64 → v < 64 → (entry ahead u v ≡ 0)
+              ⊎ ((i : ℕ) × (j : ℕ) × (g .edge u i v j Flow.forward ≡ true) × (entry ahead u v ≡ aheadWord (g .loose u i) i j))
+          a-from u v h k = go (entry-from Flow.forward aheadCode u v h k)
+            where
+              go : (entry ahead u v ≡ 0)
+                  ⊎ ((s : Place) × (t : Place) × (s .number ≡ u) × (t .number ≡ v) × List·Memᴰ s (placesOf 0 nodes)
+                  × (g .edge (s .number) (s .place) (t .number) (t .place) Flow.forward ≡ true) × (entry ahead u v ≡ aheadCode (rowOf s) (rowOf t)))
+                  → (entry ahead u v ≡ 0)
+                  ⊎ ((i : ℕ) × (j : ℕ) × (g .edge u i v j Flow.forward ≡ true) × (entry ahead u v ≡ aheadWord (g .loose u i) i j))
+              go (inl z) = inl z
+              go (inr (s, t, l, r, m, e, same)) =
+                  inr (
+                    s .place,
+                    t .place,
+                    sym (ap₂ (λ (a b : ℕ). g .edge a (s .place) b (t .place) Flow.forward) l r) ∙ e,
+                    same ∙ ap (λ (b : Bool). aheadWord b (s .place) (t .place)) (sym (place-loose s m) ∙ ap (λ (a : ℕ). g .loose a (s .place)) l),
+                  )
+
+          a-most : (u i v j : ℕ) → g .edge u i v j Flow.forward ≡ true → aheadWord (g .loose u i) i j ≤ entry ahead u v
+          a-most u i v j h =
+              let e = entry-most Flow.forward aheadCode u i v j h in
+              let loose : loosens (at (e .0) .kind) ≡ g .loose u i = sym (place-loose (e .0) (e .5)) ∙ ap₂ (g .loose) (e .2) (e .3) in
+              let same : aheadCode (rowOf (e .0)) (rowOf (e .1)) ≡ aheadWord (g .loose u i) i j
+              = ap (λ (b : Bool). aheadWord b (e .0 .place) (e .1 .place)) loose ∙ ap₂ (aheadWord (g .loose u i)) (e .3) (e .4) in
+              rw same at (e .6)
+
+          b-from : (v w : ℕ) → v < 64 → w < 64 → (entry behind v w ≡ 0)
+              ⊎ ((k : ℕ) × (l : ℕ) × (g .edge v k w l Flow.back ≡ true) × (entry behind v w ≡ behindWord k l))
+          b-from v w h k = go (entry-from Flow.back behindCode v w h k)
+            where
+              go : (entry behind v w ≡ 0)
+                  ⊎ ((s : Place) × (t : Place) × (s .number ≡ v) × (t .number ≡ w) × List·Memᴰ s (placesOf 0 nodes)
+                  × (g .edge (s .number) (s .place) (t .number) (t .place) Flow.back ≡ true) × (entry behind v w ≡ behindCode (rowOf s) (rowOf t)))
+                  → (entry behind v w ≡ 0)
+                  ⊎ ((k : ℕ) × (l : ℕ) × (g .edge v k w l Flow.back ≡ true) × (entry behind v w ≡ behindWord k l))
+              go (inl z) = inl z
+              go (inr (s, t, l, r, m, e, same)) =
+                  inr (s .place, t .place, sym (ap₂ (λ (a b : ℕ). g .edge a (s .place) b (t .place) Flow.back) l r) ∙ e, same)
+
+          b-most : (v k w l : ℕ) → g .edge v k w l Flow.back ≡ true → behindWord k l ≤ entry behind v w
+          b-most v k w l h =
+              let e = entry-most Flow.back behindCode v k w l h in
+              let same : behindCode (rowOf (e .0)) (rowOf (e .1)) ≡ behindWord k l = ap₂ behindWord (e .3) (e .4) in
+              rw same at (e .6)

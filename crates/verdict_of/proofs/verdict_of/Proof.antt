@@ -1,0 +1,79 @@
+-- A refusal of the table is the verdict's (judged-rows); else what is picked from the table and found in it is the word (judged-picked).
+use native.Mathlib.Omega.{arith}
+use mathlib.Core.Path.{sym}
+use lib.Seq.{length-take-le}
+use borrow.Author.Needs.{needs}
+use Rattle.place_table.specs.Whole.{whole-filled}
+use Rattle.verdict_of.specs.VerdictLaws.{judged-rows, judged-picked}
+use Rattle.verdict_of.proofs.verdict_of.Statement.{statement}
+use Rattle.verdict_of.proofs.verdict_of.Tie as tie
+
+fill-rows-requires : tie.Need-fill-rows-requires
+fill-rows-requires c κs = search needs
+
+enum-known-f : tie.Need-enum-known-f
+enum-known-f c = search needs
+
+returns : tie.Need-returns
+returns c = judged-rows _ _ _ _ _ _ (c .before .before .before .fill-rows .ensures) (c .before .f .given .1)
+
+enum-known-f-2 : tie.Need-enum-known-f-2
+enum-known-f-2 c = search needs
+
+mul-n : tie.Need-mul-n
+mul-n c =
+    let whole = whole-filled (c .before .before .before .fill-rows .ensures) (c .before .f2 .given .1) in
+    let few = whole .short in
+    record { fits = omega arith }
+
+array-share-prefix-table : tie.Need-array-share-prefix-table
+array-share-prefix-table c = whole-filled (c .before .before .before .fill-rows .ensures) (c .before .f2 .given .1) .inside
+
+slice-aggregate-pick-edges : tie.Need-slice-aggregate-pick-edges
+slice-aggregate-pick-edges c =
+    let whole = whole-filled (c .before .before .before .before .fill-rows .ensures) (c .before .before .f2 .given .1) in
+    sym (length-take-le _ _ (whole .inside))
+
+pick-edges-requires : tie.Need-pick-edges-requires
+pick-edges-requires c κs = search needs
+
+slice-aggregate-find-walk : tie.Need-slice-aggregate-find-walk
+slice-aggregate-find-walk c = search needs
+
+slice-aggregate-find-walk-2 : tie.Need-slice-aggregate-find-walk-2
+slice-aggregate-find-walk-2 c = search needs
+
+find-walk-requires : tie.Need-find-walk-requires
+find-walk-requires c κs = search needs
+
+judged-requires : tie.Need-judged-requires
+judged-requires c κs = search needs
+
+same-length : tie.Need-same-length
+same-length c = search needs
+
+returns-2 : tie.Need-returns-2
+returns-2 c =
+    let picking = c .before .before .before .before .before .before .before .before .before in
+    let filling = picking .before .before .before .before .before in
+    judged-picked _ _ _ _ _ _ _ _ _ _ (whole-filled (filling .fill-rows .ensures) (picking .before .before .before .f2 .given .1))
+    (picking .pick-edges .ensures) (c .before .before .before .find-walk .ensures) (c .judged .ensures)
+
+pub verdict-of-spec : {M : Type 1} → statement M
+verdict-of-spec =
+    tie.close
+    (tie.spec
+    fill-rows-requires
+    enum-known-f
+    returns
+    enum-known-f-2
+    mul-n
+    array-share-prefix-table
+    slice-aggregate-pick-edges
+    pick-edges-requires
+    slice-aggregate-find-walk
+    slice-aggregate-find-walk-2
+    find-walk-requires
+    judged-requires
+    same-length
+    returns-2)

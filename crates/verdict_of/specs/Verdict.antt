@@ -1,0 +1,47 @@
+-- What the verdict promises for every workload value and every lent area (document 01, "Refused because of the state", "The dangerous walk";
+-- demands 2 and 3). Believed.
+use mathlib.Core.Bool.{true}
+use mathlib.Core.List.{List}
+use mathlib.Core.Option.{none, some}
+use mathlib.Core.Path.{_≡_}
+use Prim.Native.Nat.{ℕ, _/_, _≤_}
+use lib.ListN.{length}
+use Rattle.spec_text.specs.declared.Line.{Line}
+use Rattle.spec_text.specs.declared.Workload.{Workload}
+use Rattle.spec_text.specs.Value.{linesOf}
+use Rattle.spec_graph.specs.Walk.{Step, isDangerous}
+use Rattle.spec_schedule.specs.Schedule.{Schedule}
+use Rattle.spec_schedule.specs.Serial.{Serialisable}
+use Rattle.spec_report.specs.State.{StateRefusal, shortForWalk, Counts, counted, countsOf, summaryGraph, Robust}
+use Rattle.spec_report.specs.Area.{shownIn}
+use Rattle.verdict_of.specs.declared.Totals.{Totals}
+use Rattle.verdict_of.specs.declared.Verdict.{Verdict}
+
+-- document 01's answers: a refusal gives its number alone; a word comes with the counts (P1), and danger with how many steps are shown
+pub data Told : Type 0 where
+  refused : ℕ → Told
+  robust : Counts → Told
+  danger : Counts → ℕ → Told
+
+-- N3: document 01's number and values for every case of the answer
+abbrev pub countsIn : Totals → Counts
+countsIn c = counted (c .programs) (c .nodes) (c .edges) (c .back)
+
+abbrev pub told : Verdict → Told
+told (Verdict.Robust c) = Told.robust (countsIn c)
+told (Verdict.Danger c steps) = Told.danger (countsIn c) steps
+told (Verdict.Refused number) = Told.refused number
+
+-- Demand 2: robust where no dangerous closed walk exists, and the area stays as it was; danger where one exists: one of at most 65 steps
+-- stands at the front of the area, four words to a step, and the rest stays as it was. Which one is shown is free.
+-- Demand 3: where the word is robust, every schedule of the workload has its serial order.
+pub data Word (lines : List Line) (before : List ℕ) : Told → List ℕ → Type 0 where
+  robust : Robust lines → ((s : Schedule lines) → Serialisable s) → Word lines before (Told.robust (countsOf lines)) before
+  danger : (walk : List Step) → isDangerous (summaryGraph lines) walk ≡ true → length walk ≤ 65
+      → Word lines before (Told.danger (countsOf lines) (length walk)) (shownIn walk before)
+
+-- S21, S22, S20 in this order: the answer is that refusal, and the area stays as it was; else it is the word
+pub data Judged (w : Workload) (before : List ℕ) : Told → List ℕ → Type 0 where
+  refused : (number : ℕ) → StateRefusal w (shortForWalk (length before / 4)) (some number) → Judged w before (Told.refused number) before
+  judged : StateRefusal w (shortForWalk (length before / 4)) none → (answer : Told) (after : List ℕ)
+      → Word (linesOf w) before answer after → Judged w before answer after

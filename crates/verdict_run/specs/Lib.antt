@@ -1,0 +1,3 @@
+pub mod ShownReport
+pub mod ShownReportLaws
+pub mod Answered

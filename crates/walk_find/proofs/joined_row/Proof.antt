@@ -1,0 +1,68 @@
+-- After v turns the word has the nodes below v to which an edge goes from u (word-turn); after 64 it has all (row-end).
+use mathlib.Core.Bool.{not}
+use lib.Dec.{eqb}
+use Rattle.walk_find.specs.Turns.{word-turn, row-end}
+use Rattle.walk_find.specs.EdgeTable.{wordBelow, joinedBit}
+use borrow.Author.Needs.{needs}
+use native.Mathlib.Omega.{arith}
+use mathlib.Core.Path.{_≡_, refl, ap, sym, _∙_}
+use Prim.Native.Nat.{ℕ, _+_, _-_, _*_, _≤_, _<_}
+use lib.ListN.{length, set, getD, length-set, take, drop}
+use Rattle.walk_find.proofs.joined_row.Statement.{statement}
+use Rattle.walk_find.proofs.joined_row.Tie as tie
+use Rattle.walk_find.proofs.joined_row.Reads as reads
+use Rattle.walk_find.proofs.joined_row.Lts as lts
+use Rattle.walk_find.proofs.with_bit.Reads as with-bit-reads
+use Rattle.word_list.proofs.word_at.Reads as word-at-reads
+
+abbrev Inv-loop : tie.InvT-loop
+Inv-loop ahead u word₀ v₀ word v = (v ≤ 64) × (word ≡ wordBelow (joinedBit ahead u) v)
+
+abbrev μ-loop : tie.MeasureT-loop
+μ-loop ahead u word₀ v₀ word v = 64 - v
+
+loop-holds : tie.Need-loop-holds Inv-loop μ-loop
+unfolding wordBelow
+loop-holds c = (omega arith, refl)
+
+mul-word-at : tie.Need-mul-word-at Inv-loop μ-loop
+mul-word-at c = search needs
+
+add-word-at : tie.Need-add-word-at Inv-loop μ-loop
+add-word-at c = search needs
+
+word-at-requires : tie.Need-word-at-requires Inv-loop μ-loop
+word-at-requires c κs = search needs
+
+with-bit-requires : tie.Need-with-bit-requires Inv-loop μ-loop
+with-bit-requires c κs = search needs
+
+add-v : tie.Need-add-v Inv-loop μ-loop
+add-v c = search needs
+
+loop-less : tie.Need-loop-less Inv-loop μ-loop
+loop-less c = search needs
+
+loop-again : tie.Need-loop-again Inv-loop μ-loop
+loop-again c =
+    let c3 = c .before .before .before in
+    (omega arith, word-turn _ _ (c3 .loop .inv .1) (ap (λ (x : ℕ). not (eqb x 0)) (c .before .word-at .ensures)) (c .with-bit .ensures))
+
+returns : tie.Need-returns Inv-loop μ-loop
+returns c = row-end _ _ (c .before .loop .inv .1) (c .before .loop .inv .0) (c .loop-test .left)
+
+pub joined-row-spec : {M : Type 1} → statement M
+joined-row-spec =
+    tie.close
+    (tie.spec
+    Inv-loop
+    μ-loop
+    loop-holds
+    mul-word-at
+    add-word-at
+    word-at-requires
+    with-bit-requires
+    add-v
+    loop-less
+    loop-again
+    returns)

@@ -1,0 +1,65 @@
+-- The first node from u on with a pair that closes is the first of all: a node without one keeps this (search-turn), one with a pair ends it
+-- (search-stop), and past 63 there is none (search-end).
+use Rattle.walk_find.specs.EdgeTable.{hasPair, nodeIn, firstFrom}
+use Rattle.walk_find.specs.Paths.{pair-passes, pair-fails}
+use Rattle.walk_find.specs.Turns.{search-stop, search-turn, search-end}
+use borrow.Author.Needs.{needs}
+use native.Mathlib.Omega.{arith}
+use mathlib.Core.Path.{_≡_, refl, ap, sym, _∙_}
+use Prim.Native.Nat.{ℕ, _+_, _-_, _*_, _≤_, _<_}
+use lib.ListN.{length, set, getD, length-set, take, drop}
+use Rattle.walk_find.proofs.node_in.Statement.{statement}
+use Rattle.walk_find.proofs.node_in.Tie as tie
+use Rattle.walk_find.proofs.node_in.Reads as reads
+use Rattle.walk_find.proofs.node_in.Lts as lts
+use Rattle.walk_find.proofs.pair_for.Reads as pair-for-reads
+
+abbrev Inv-loop : tie.InvT-loop
+Inv-loop ahead behind rows u₀ u = (u ≤ 64) × (firstFrom (hasPair ahead behind rows) (64 - u) u ≡ firstFrom (hasPair ahead behind rows) 64 0)
+
+abbrev μ-loop : tie.MeasureT-loop
+μ-loop ahead behind rows u₀ u = 64 - u
+
+loop-holds : tie.Need-loop-holds Inv-loop μ-loop
+loop-holds c = (omega arith, refl)
+
+pair-for-requires : tie.Need-pair-for-requires Inv-loop μ-loop
+pair-for-requires c κs = (c .loop-test .taken, c .before .before .before .before .pre)
+
+returns : tie.Need-returns Inv-loop μ-loop
+unfolding nodeIn
+returns c =
+    let c3 = c .before .before .before in
+    search-stop _ _ _ (c3 .loop .inv .1) (c .before .before .loop-test .taken) (pair-passes _ _ _ _ (c .before .pair-for .ensures) (c .if1 .taken))
+
+add-u : tie.Need-add-u Inv-loop μ-loop
+add-u c = search needs
+
+loop-less : tie.Need-loop-less Inv-loop μ-loop
+loop-less c = search needs
+
+loop-again : tie.Need-loop-again Inv-loop μ-loop
+loop-again c =
+    let c3 = c .before .before .before in (
+      omega arith,
+      search-turn _ _ _ (c3 .loop .inv .1) (c .before .before .loop-test .taken)
+          (pair-fails _ _ _ _ (c .before .pair-for .ensures) (c .if1 .left)),
+    )
+
+returns-2 : tie.Need-returns-2 Inv-loop μ-loop
+unfolding nodeIn
+returns-2 c = search-end _ _ _ (c .before .loop .inv .1) (c .before .loop .inv .0) (c .loop-test .left)
+
+pub node-in-spec : {M : Type 1} → statement M
+node-in-spec =
+    tie.close
+    (tie.spec
+    Inv-loop
+    μ-loop
+    loop-holds
+    pair-for-requires
+    returns
+    add-u
+    loop-less
+    loop-again
+    returns-2)

@@ -1,0 +1,66 @@
+-- The steps written and those of the way still to go are together the whole way, and there is room for them (`WayTurn`, way-turn); where no depth
+-- is left none is to go (way-end).
+use Rattle.walk_find.specs.EdgeTable.{wayOn, WayTurn}
+use Rattle.walk_find.specs.Paths.{way-first, way-turn, way-end}
+use borrow.Author.Needs.{needs}
+use native.Mathlib.Omega.{arith}
+use mathlib.Core.Path.{_≡_, refl, ap, sym, _∙_}
+use Prim.Native.Nat.{ℕ, _+_, _-_, _*_, _≤_, _<_}
+use lib.ListN.{length, set, getD, length-set, take, drop}
+use Rattle.walk_find.proofs.put_way.Statement.{statement}
+use Rattle.walk_find.proofs.put_way.Tie as tie
+use Rattle.walk_find.proofs.put_way.Reads as reads
+use Rattle.walk_find.proofs.put_way.Lts as lts
+use Rattle.walk_find.proofs.go_on.Reads as go-on-reads
+
+abbrev Inv-loop : tie.InvT-loop
+Inv-loop ahead rows layers w out₀ node₀ steps₀ d₀ out node steps d = WayTurn ahead rows layers (wayOn ahead rows layers 63 w) out₀ out node steps d
+
+abbrev μ-loop : tie.MeasureT-loop
+μ-loop ahead rows layers w out₀ node₀ steps₀ d₀ out node steps d = d
+
+loop-holds : tie.Need-loop-holds Inv-loop μ-loop
+loop-holds c = way-first (c .before .before .pre .0)
+
+sub-d : tie.Need-sub-d Inv-loop μ-loop
+sub-d c = search needs
+
+mul-go-on : tie.Need-mul-go-on Inv-loop μ-loop
+mul-go-on c = search needs
+
+element-copy-out-go-on : tie.Need-element-copy-out-go-on Inv-loop μ-loop
+element-copy-out-go-on c = search needs
+
+go-on-requires : tie.Need-go-on-requires Inv-loop μ-loop
+go-on-requires c κs = search needs
+
+loop-less : tie.Need-loop-less Inv-loop μ-loop
+loop-less c = search needs
+
+loop-again : tie.Need-loop-again Inv-loop μ-loop
+loop-again c =
+    let c5 = c .before .before .before .before .before in
+    let c6 = c5 .before in
+    way-turn _ _ _ _ (c5 .loop-test .taken) (c6 .loop .inv) (c .before .before .go-on .ensures)
+
+same-length : tie.Need-same-length Inv-loop μ-loop
+same-length c = c .before .loop .inv .long
+
+returns : tie.Need-returns Inv-loop μ-loop
+returns c = way-end _ _ _ _ (c .loop-test .left) (c .before .loop .inv)
+
+pub put-way-spec : {M : Type 1} → statement M
+put-way-spec =
+    tie.close
+    (tie.spec
+    Inv-loop
+    μ-loop
+    loop-holds
+    sub-d
+    mul-go-on
+    element-copy-out-go-on
+    go-on-requires
+    loop-less
+    loop-again
+    same-length
+    returns)

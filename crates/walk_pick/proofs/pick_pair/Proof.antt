@@ -1,0 +1,125 @@
+-- The edges are counted by whether they stand. Where both rows have entries the words are kept at the pair of their nodes (pair-in); else the
+-- tables stay (left-out, right-out).
+use Rattle.walk_pick.specs.PairLaws.{entries-small, left-out, right-out, pair-in}
+use native.Mathlib.Omega.{arith}
+use mathlib.Core.Path.{sym, _∙_}
+use borrow.Author.Needs.{needs}
+use Rattle.walk_pick.proofs.pick_pair.Statement.{statement}
+use Rattle.walk_pick.proofs.pick_pair.Tie as tie
+
+forward-stands-requires : tie.Need-forward-stands-requires
+forward-stands-requires c κs = search needs
+
+back-stands-requires : tie.Need-back-stands-requires
+back-stands-requires c κs = search needs
+
+tally-of-requires : tie.Need-tally-of-requires
+tally-of-requires c κs = search needs
+
+has-entries-requires : tie.Need-has-entries-requires
+has-entries-requires c κs = search needs
+
+has-entries-requires-2 : tie.Need-has-entries-requires-2
+has-entries-requires-2 c κs = search needs
+
+mul-x : tie.Need-mul-x
+mul-x c =
+    let l = entries-small _ (c .before .before .before .before .has-entries .ensures) (c .before .before .before .if1 .taken) in
+    record { fits = omega (arith, l .0) }
+
+add-x : tie.Need-add-x
+add-x c =
+    let l = entries-small _ (c .before .before .before .before .before .has-entries .ensures)
+    (c .before .before .before .before .if1 .taken) in
+    let r = entries-small _ (c .before .before .before .has-entries2 .ensures) (c .before .before .if2 .taken) in
+    record { fits = omega (arith, l .0, r .0) }
+
+is-loose-requires : tie.Need-is-loose-requires
+is-loose-requires c κs = search needs
+
+ahead-word-requires : tie.Need-ahead-word-requires
+ahead-word-requires c κs =
+    let l = entries-small _ (c .before .before .before .before .before .before .has-entries .ensures)
+    (c .before .before .before .before .before .if1 .taken) in
+    let r = entries-small _ (c .before .before .before .before .has-entries2 .ensures) (c .before .before .before .if2 .taken) in
+    (l .1, r .1)
+
+keep-word-requires : tie.Need-keep-word-requires
+keep-word-requires c κs =
+    let l = entries-small _ (c .before .before .before .before .before .before .before .before .has-entries .ensures)
+    (c .before .before .before .before .before .before .before .if1 .taken) in
+    let r = entries-small _ (c .before .before .before .before .before .before .has-entries2 .ensures)
+    (c .before .before .before .before .before .if2 .taken) in
+    omega (arith, l .0, r .0)
+
+behind-word-requires : tie.Need-behind-word-requires
+behind-word-requires c κs =
+    let l = entries-small _ (c .before .before .before .before .before .before .before .before .before .has-entries .ensures)
+    (c .before .before .before .before .before .before .before .before .if1 .taken) in
+    let r = entries-small _ (c .before .before .before .before .before .before .before .has-entries2 .ensures)
+    (c .before .before .before .before .before .before .if2 .taken) in
+    (l .1, r .1)
+
+keep-word-requires-2 : tie.Need-keep-word-requires-2
+keep-word-requires-2 c κs =
+    let l = entries-small _ (c .before .before .before .before .before .before .before .before .before .before .before .has-entries .ensures)
+    (c .before .before .before .before .before .before .before .before .before .before .if1 .taken) in
+    let r = entries-small _ (c .before .before .before .before .before .before .before .before .before .has-entries2 .ensures)
+    (c .before .before .before .before .before .before .before .before .if2 .taken) in
+    omega (arith, l .0, r .0)
+
+returns : tie.Need-returns
+returns c =
+    let c3 = c .before .before .before in
+    let c5 = c3 .before .before in
+    let c6 = c5 .before in
+    let c9 = c6 .before .before .before in
+    let c10 = c9 .before in
+    let c11 = c10 .before in
+    let c12 = c11 .before in
+    let c13 = c12 .before in
+    let c14 = c13 .before in
+    let c15 = c14 .before in
+    pair-in _ _
+    (c15 .forward-stands .ensures)
+    (c14 .back-stands .ensures)
+    (c13 .tally-of .ensures)
+    (sym (c12 .has-entries .ensures)
+    ∙ c11 .if1 .taken)
+    (sym (c10 .has-entries2 .ensures)
+    ∙ c9 .if2 .taken)
+    (c6 .is-loose .ensures)
+    (c5 .ahead-word .ensures) (c .before .before .behind-word .ensures)
+    (c3 .keep-word .ensures) (c .keep-word2 .ensures)
+
+returns-2 : tie.Need-returns-2
+returns-2 c =
+    right-out _ _ (c .before .before .before .before .before .before .forward-stands .ensures)
+    (c .before .before .before .before .before .back-stands .ensures) (c .before .before .before .before .tally-of .ensures)
+    (sym (c .before .has-entries2 .ensures) ∙ c .if2 .left)
+
+returns-3 : tie.Need-returns-3
+returns-3 c =
+    left-out _ _ (c .before .before .before .before .forward-stands .ensures)
+    (c .before .before .before .back-stands .ensures) (c .before .before .tally-of .ensures)
+    (sym (c .before .has-entries .ensures) ∙ c .if1 .left)
+
+pub pick-pair-spec : {M : Type 1} → statement M
+pick-pair-spec =
+    tie.close
+    (tie.spec
+    forward-stands-requires
+    back-stands-requires
+    tally-of-requires
+    has-entries-requires
+    has-entries-requires-2
+    mul-x
+    add-x
+    is-loose-requires
+    ahead-word-requires
+    keep-word-requires
+    behind-word-requires
+    keep-word-requires-2
+    returns
+    returns-2
+    returns-3)

@@ -1,0 +1,4 @@
+pub mod Picks
+pub mod PickSteps
+pub mod PairLaws
+pub mod PickStepLaws

@@ -1,0 +1,156 @@
+-- What the code does with one pair of rows, and with one row after the other.
+use mathlib.Core.Path.{_≡_, refl, sym, ap, ap₂, subst, _∙_}
+use mathlib.Core.Bool.{Bool, true, false, cond, _&&_}
+use mathlib.Core.List.{List}
+use Prim.Native.Nat.{ℕ, zero, suc, _+_, _*_, _≤_, _<_, zero-le}
+use native.Mathlib.Nat.{suc-mul}
+use native.Mathlib.Numerals.{add-one}
+use native.Mathlib.Omega.{arith}
+use lib.ListN.{replicate}
+use borrow.Author.Tests.{ltb-true}
+use Rattle.law_base.specs.BoolLaws.{and-true, and-of, and-left, and-right}
+use Rattle.spec_graph.specs.Edge.{loosens}
+use Rattle.place_row.specs.declared.Row.{Row}
+use Rattle.place_row.specs.RowTable.{rowAt, rowForward, rowBack}
+use Rattle.walk_find.specs.Coding.{aheadWord, behindWord}
+use Rattle.walk_pick.specs.declared.Tally.{Tally}
+use Rattle.walk_pick.specs.Picks.{forwardWord, backWord}
+use Rattle.walk_pick.specs.PickSteps.{keptAt, hasEntries, keptPair, keptRow, keptRows, sumBelow}
+use Rattle.walk_pick.specs.PickSteps.{tallyOf, edgesAt, backAt, rowSum, rowsSum, PairKept, RowKept, RowsKept}
+
+-- a row with entries has a small node and a small place
+pub entries-small : (p : Row) {b : Bool} → b ≡ hasEntries p → b ≡ true → (p .node < 64) × (p .place < 1024)
+unfolding hasEntries
+entries-small p e t = let h = and-true _ _ (sym e ∙ t) in (ltb-true _ _ (h .0), ltb-true _ _ (h .1))
+
+module _ (p q : Row) {f b : Bool} {r : Tally} (forward : f ≡ rowForward p q) (back : b ≡ rowBack p q) (told : r ≡ tallyOf f b) where
+  counts : r ≡ tallyOf (rowForward p q) (rowBack p q)
+  counts = told ∙ ap₂ tallyOf forward back
+
+  -- two rows of which one has no entries
+  pair-out : {ahead behind : List ℕ} → hasEntries p && hasEntries q ≡ false → PairKept p q ahead behind ahead behind r
+  unfolding keptPair
+  pair-out e = record { aheadKept = rw e refl; behindKept = rw e refl; counted = counts }
+
+  pub left-out : {ahead behind : List ℕ} → hasEntries p ≡ false → PairKept p q ahead behind ahead behind r
+  left-out e = pair-out (and-left (hasEntries q) e)
+
+  pub right-out : {ahead behind : List ℕ} → hasEntries q ≡ false → PairKept p q ahead behind ahead behind r
+  right-out e = pair-out (and-right (hasEntries p) e)
+
+  -- two rows that have entries
+  pub pair-in : {loose : Bool} {w v : ℕ} {ahead₀ behind₀ ahead behind : List ℕ} → hasEntries p ≡ true → hasEntries q ≡ true
+      → loose ≡ loosens (p .kind)
+      → w ≡ cond f (aheadWord loose (p .place) (q .place)) 0
+      → v ≡ cond b (behindWord (p .place) (q .place)) 0
+      → ahead ≡ keptAt ahead₀ (p .node * 64 + q .node) w
+      → behind ≡ keptAt behind₀ (p .node * 64 + q .node) v
+      → PairKept p q ahead₀ behind₀ ahead behind r
+  unfolding keptPair forwardWord backWord
+  pair-in {loose} {w} {v} {ahead₀} {behind₀} left right kind word worb kept kepb = record {
+    aheadKept = rw (and-of {a = hasEntries p} {b = hasEntries q} left right) (kept ∙ ap (keptAt ahead₀ (p .node * 64 + q .node))
+        (word ∙ ap₂ (λ (s l : Bool). cond s (aheadWord l (p .place) (q .place)) 0) forward kind));
+    behindKept = rw (and-of {a = hasEntries p} {b = hasEntries q} left right) (kepb ∙ ap (keptAt behind₀ (p .node * 64 + q .node))
+        (worb ∙ ap (λ (s : Bool). cond s (behindWord (p .place) (q .place)) 0) back));
+    counted = counts;
+  }
+
+-- ---- sums
+
+-- no more than so many from each
+sum-most : (f : ℕ → ℕ) (b : ℕ) → ((j : ℕ) → f j ≤ b) → (n : ℕ) → sumBelow f n ≤ n * b
+unfolding sumBelow
+sum-most f b most zero = zero-le
+sum-most f b most (suc n) =
+    let h = sum-most f b most n in
+    let l = most n in
+    let e = suc-mul n b in
+    omega arith
+
+tally-most : (f b : Bool) → (tallyOf f b .edges ≤ 2) × (tallyOf f b .back ≤ 2)
+unfolding tallyOf
+tally-most true true = (omega arith, omega arith)
+tally-most true false = (omega arith, omega arith)
+tally-most false true = (omega arith, omega arith)
+tally-most false false = (omega arith, omega arith)
+
+-- a pair has at most two edges
+pub pair-most : {p q : Row} {ahead₀ behind₀ ahead behind : List ℕ} {r : Tally} → PairKept p q ahead₀ behind₀ ahead behind r
+    → (r .edges ≤ 2) × (r .back ≤ 2)
+pair-most {p} {q} h =
+    subst (λ (t : Tally). (t .edges ≤ 2) × (t .back ≤ 2)) (sym (h .counted)) (tally-most (rowForward p q) (rowBack p q))
+
+-- so has a row with each of the others
+pub row-most : {table : List ℕ} {p : Row} {j : ℕ} {ahead₀ behind₀ ahead behind : List ℕ} {edges back : ℕ}
+    → RowKept table p j ahead₀ behind₀ ahead behind edges back → (edges ≤ j * 2) × (back ≤ j * 2)
+unfolding rowSum
+row-most {table} {p} {j} h =
+    let e = sum-most (λ k. edgesAt p (rowAt table k)) 2 (λ k. tally-most (rowForward p (rowAt table k)) (rowBack p (rowAt table k)) .0) j in
+    let b = sum-most (λ k. backAt p (rowAt table k)) 2 (λ k. tally-most (rowForward p (rowAt table k)) (rowBack p (rowAt table k)) .1) j in
+    (rw (h .edgesCounted) e, rw (h .backCounted) b)
+
+-- and no more than 1024 from each of the rows
+pub rows-most : {table : List ℕ} {n i : ℕ} {ahead behind : List ℕ} {edges back : ℕ} → n ≤ 512
+    → RowsKept table n i ahead behind edges back → (edges ≤ i * 1024) × (back ≤ i * 1024)
+unfolding rowsSum rowSum
+rows-most {table} {n} {i} few h =
+    let e = sum-most (λ k. rowSum edgesAt table (rowAt table k) n) 1024 (λ k. each k .0) i in
+    let b = sum-most (λ k. rowSum backAt table (rowAt table k) n) 1024 (λ k. each k .1) i in
+    (rw (h .edgesCounted) e, rw (h .backCounted) b)
+  where
+    each : (k : ℕ) → (rowSum edgesAt table (rowAt table k) n ≤ 1024) × (rowSum backAt table (rowAt table k) n ≤ 1024)
+    each k =
+        let p = rowAt table k in
+        let e = sum-most (λ j. edgesAt p (rowAt table j)) 2 (λ j. tally-most (rowForward p (rowAt table j)) (rowBack p (rowAt table j)) .0) n in
+        let b = sum-most (λ j. backAt p (rowAt table j)) 2 (λ j. tally-most (rowForward p (rowAt table j)) (rowBack p (rowAt table j)) .1) n in
+        (omega arith, omega arith)
+
+-- ---- turns
+
+sum-next : (f : ℕ → ℕ) (n : ℕ) {total one : ℕ} → total ≡ sumBelow f n → one ≡ f n → total + one ≡ sumBelow f (n + 1)
+unfolding sumBelow
+sum-next f n e o = ap₂ _+_ e o ∙ ap (sumBelow f) (sym (add-one n))
+
+pub row-first : (table : List ℕ) (p : Row) {ahead behind : List ℕ} → RowKept table p 0 ahead behind ahead behind 0 0
+unfolding keptRow rowSum sumBelow
+row-first table p = record { aheadKept = refl; behindKept = refl; edgesCounted = refl; backCounted = refl }
+
+-- one pair more
+pub row-turn : (table : List ℕ) (p q : Row) (j : ℕ) {ahead₀ behind₀ ahead behind ahead′ behind′ : List ℕ} {edges back : ℕ} {r : Tally}
+    → q ≡ rowAt table j → RowKept table p j ahead₀ behind₀ ahead behind edges back → PairKept p q ahead behind ahead′ behind′ r
+    → RowKept table p (j + 1) ahead₀ behind₀ ahead′ behind′ (edges + r .edges) (back + r .back)
+unfolding keptRow rowSum
+row-turn table p q j {ahead₀ = ahead₀} {behind₀ = behind₀} {r = r} same h pair = record {
+  aheadKept = pair .aheadKept ∙ ap₂ (keptPair forwardWord p) same (h .aheadKept) ∙ ap (keptRow forwardWord table p ahead₀) (sym (add-one j));
+  behindKept = pair .behindKept ∙ ap₂ (keptPair backWord p) same (h .behindKept) ∙ ap (keptRow backWord table p behind₀) (sym (add-one j));
+  edgesCounted = sum-next (λ k. edgesAt p (rowAt table k)) j (h .edgesCounted) (ap (λ (t : Tally). t .edges) told);
+  backCounted = sum-next (λ k. backAt p (rowAt table k)) j (h .backCounted) (ap (λ (t : Tally). t .back) told);
+}
+  where
+    told : r ≡ tallyOf (rowForward p (rowAt table j)) (rowBack p (rowAt table j))
+    told = pair .counted ∙ ap (λ (x : Row). tallyOf (rowForward p x) (rowBack p x)) same
+
+pub rows-first : (table : List ℕ) (n : ℕ) → RowsKept table n 0 (replicate 4096 0) (replicate 4096 0) 0 0
+unfolding keptRows rowsSum sumBelow
+rows-first table n = record { aheadKept = refl; behindKept = refl; edgesCounted = refl; backCounted = refl }
+
+-- one row more
+pub rows-turn : (table : List ℕ) (n i : ℕ) {ahead behind ahead′ behind′ : List ℕ} {edges back more moreBack : ℕ}
+    → RowsKept table n i ahead behind edges back → RowKept table (rowAt table i) n ahead behind ahead′ behind′ more moreBack
+    → RowsKept table n (i + 1) ahead′ behind′ (edges + more) (back + moreBack)
+unfolding keptRows rowsSum
+rows-turn table n i h row = record {
+  aheadKept = row .aheadKept ∙ ap (λ (l : List ℕ). keptRow forwardWord table (rowAt table i) l n) (h .aheadKept)
+      ∙ ap (keptRows forwardWord table n) (sym (add-one i));
+  behindKept = row .behindKept ∙ ap (λ (l : List ℕ). keptRow backWord table (rowAt table i) l n) (h .behindKept)
+      ∙ ap (keptRows backWord table n) (sym (add-one i));
+  edgesCounted = sum-next (λ k. rowSum edgesAt table (rowAt table k) n) i (h .edgesCounted) (row .edgesCounted);
+  backCounted = sum-next (λ k. rowSum backAt table (rowAt table k) n) i (h .backCounted) (row .backCounted);
+}
+
+-- the left row as it was read
+pub row-read : {table : List ℕ} {p q : Row} {n j : ℕ} {ahead₀ behind₀ ahead behind : List ℕ} {edges back : ℕ} → p ≡ q → j ≡ n
+    → RowKept table p j ahead₀ behind₀ ahead behind edges back → RowKept table q n ahead₀ behind₀ ahead behind edges back
+row-read {table} {p} {q} {n} {j} {ahead₀ = a} {behind₀ = b} {ahead} {behind} {edges} {back} same end h =
+    subst (λ (k : ℕ). RowKept table q k a b ahead behind edges back) end
+    (subst (λ (x : Row). RowKept table x j a b ahead behind edges back) same h)

@@ -1,0 +1,50 @@
+-- For each pair of nodes the edge that stands for all: the greatest word of the edges between their rows.
+use mathlib.Core.Bool.{Bool, cond, _&&_}
+use mathlib.Core.List.{List, [], _∷_, map}
+use Prim.Native.Nat.{ℕ, _/_, _%_, max}
+use lib.Dec.{eqb, ltb}
+use Rattle.spec_base.specs.Basic.{numbers}
+use Rattle.spec_graph.specs.Edge.{loosens}
+use Rattle.place_row.specs.declared.Row.{Row}
+use Rattle.place_row.specs.RowTable.{rowForward, rowBack, tableRows}
+use Rattle.edge_count.specs.Slots.{tableCounts}
+use Rattle.walk_find.specs.Coding.{aheadWord, behindWord}
+use Rattle.walk_pick.specs.declared.PickedEdges.{PickedEdges}
+
+-- the word of the forward edge between two rows, 0 where none stands; W4: by its kind the left row may be loose
+unfoldable pub forwardWord : Row → Row → ℕ
+forwardWord p q = cond (rowForward p q) (aheadWord (loosens (p .kind)) (p .place) (q .place)) 0
+
+-- the word of the back edge between two rows, 0 where none stands
+unfoldable pub backWord : Row → Row → ℕ
+backWord p q = cond (rowBack p q) (behindWord (p .place) (q .place)) 0
+
+-- the greatest number that the elements give; 0 where there are none
+unfoldable pub greatest : {A : Type 0} → (A → ℕ) → List A → ℕ
+greatest f [] = 0
+greatest f (x ∷ l) = max (f x) (greatest f l)
+
+-- the row is of node u; a word has room for a place below 1024
+unfoldable pub standsIn : ℕ → Row → Bool
+standsIn u p = eqb (p .node) u && ltb (p .place) 1024
+
+-- the word between two rows, if they are of the nodes u and v
+unfoldable pub wordFor : (Row → Row → ℕ) → ℕ → ℕ → Row → Row → ℕ
+wordFor word u v p q = cond (standsIn u p && standsIn v q) (word p q) 0
+
+-- the greatest word between the rows of u and those of v
+unfoldable pub between : (Row → Row → ℕ) → List Row → ℕ → ℕ → ℕ
+between word rows u v = greatest (λ p. greatest (wordFor word u v p) rows) rows
+
+-- the table for 64 nodes: the word for u and v stands at u * 64 + v
+unfoldable pub wordsBetween : (Row → Row → ℕ) → List Row → List ℕ
+wordsBetween word rows = map (λ x. between word rows (x / 64) (x % 64)) (numbers 4096)
+
+-- what is promised of a table of rows
+unfoldable pub picksOf : List ℕ → PickedEdges
+picksOf table = record {
+  ahead = wordsBetween forwardWord (tableRows table);
+  behind = wordsBetween backWord (tableRows table);
+  edges = tableCounts table .edges;
+  back = tableCounts table .back;
+}
