@@ -1,4 +1,4 @@
--- What the code keeps of the lines taken so far, step by step, and its tests of a line. `HoldsLaws` of readstate ties them to `Reading`.
+-- What the code keeps of the lines taken so far, step by step, and its tests of a line. `HoldsLaws` of line_rules ties them to `Reading`.
 use mathlib.Core.Bool.{Bool, true, false, cond, not, _&&_, _||_}
 use mathlib.Core.List.{List}
 use Prim.Native.Nat.{ℕ, _+_, _-_, _^_}

@@ -38,7 +38,7 @@ unfoldable pub rowsOf : List Node → List Row
 rowsOf nodes = map rowOf (placesOf 0 nodes)
 
 -- EA to EE over rows. A row's sets are taken as they stand. Where the kind has no such set a row of a place holds 0 (`rowOf`), and so do all
--- rows that `rows::fill_rows` makes: there a test of the set is a test of the kind too. Any other table is judged by the sets that it holds.
+-- rows that `place_table::fill_rows` makes: there a test of the set is a test of the kind too. Any other table is judged by the sets that it holds.
 unfoldable pub rowHolds : Letter → Row → Row → Bool
 rowHolds A p q = not (deletes (p .kind)) && not (inserts (q .kind)) && meets (p .writes) (q .writes)
 rowHolds B p q = not (deletes (p .kind)) && meets (p .writes) (q .reads)

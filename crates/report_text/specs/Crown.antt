@@ -1,6 +1,6 @@
 -- What the printed word `robust` is worth. Believed: its first part, up to `Promised`.
 --
--- Take any text, and any bytes that are a report of it; `reporter::report_of` prints nothing else. Look at the second line of the report. If it
+-- Take any text, and any bytes that are a report of it; `report_text::report_of` prints nothing else. Look at the second line of the report. If it
 -- begins with the word `robust`, then the text is a lawful workload, and whatever schedule its programs run through under Read Committed, there is
 -- an order in which the same transactions, run one after the other, read the same and leave the same after. The second line of no other
 -- report begins with that word: that of a refusal begins with a digit, that of a danger with a d.

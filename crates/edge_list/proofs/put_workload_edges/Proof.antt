@@ -1,4 +1,4 @@
--- `listing::put_workload_edges` meets its contract: a walk of its code by hand. `tabled` gives the table by value; it lies in a local array,
+-- `edge_list::put_workload_edges` meets its contract: a walk of its code by hand. `tabled` gives the table by value; it lies in a local array,
 -- which is lent as
 -- a shared slice for a lifetime of its own; its first words and the caller's list go to `put_edges`; then the lifetime ends and the array is
 -- whole again,

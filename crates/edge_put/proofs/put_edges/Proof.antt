@@ -1,4 +1,4 @@
--- `putting::put_edges` meets its contract: a walk of its code by hand. `edge_count` tells how many edges there are and `fitting` how many are
+-- `edge_put::put_edges` meets its contract: a walk of its code by hand. `edge_count` tells how many edges there are and `fitting` how many are
 -- put; each turn of the loop calls `edge_next` and stores the edge that it gives. The borrow is opened once, before the loop, and closed
 -- once, after it; then `answered` gives the answer.
 use mathlib.Core.Bool.{not}

@@ -1,4 +1,4 @@
--- The two cells are what `kept::cell` ensures, and the first is asked to lie within the second.
+-- The two cells are what `line_state::cell` ensures, and the first is asked to lie within the second.
 use native.Mathlib.Omega.{arith}
 use mathlib.Core.Path.{_≡_, refl, ap, sym, _∙_}
 use Prim.Native.Nat.{ℕ, _+_, _-_, _*_, _≤_, _<_}

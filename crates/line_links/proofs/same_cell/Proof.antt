@@ -1,4 +1,4 @@
--- The two cells are what `kept::cell` ensures, and they are compared as they are.
+-- The two cells are what `line_state::cell` ensures, and they are compared as they are.
 use native.Mathlib.Omega.{arith}
 use mathlib.Core.Path.{_≡_, refl, ap, sym, _∙_}
 use Prim.Native.Nat.{ℕ, _+_, _-_, _*_, _≤_, _<_}

@@ -1,4 +1,4 @@
--- `checkline::check` gives the number of the first test that fails over the state kept; where the words hold the lines, that is the fault of the
+-- `line_check::check` gives the number of the first test that fails over the state kept; where the words hold the lines, that is the fault of the
 -- rules (words-check).
 use Rattle.line_rules.specs.WordsHoldLaws.{words-check}
 use borrow.Author.Needs.{needs}

@@ -1,4 +1,4 @@
--- `kept::start` clears the state, and a cleared state holds no line (words-start).
+-- `line_state::start` clears the state, and a cleared state holds no line (words-start).
 use Rattle.line_rules.specs.WordsHoldLaws.{words-start}
 use borrow.Author.Needs.{needs}
 use Rattle.line_rules.proofs.start.Statement.{statement}

@@ -1,4 +1,4 @@
--- `takeline::take` makes the state the next one, which holds one line more where the line has no fault (words-take).
+-- `line_take::take` makes the state the next one, which holds one line more where the line has no fault (words-take).
 use Rattle.line_rules.specs.WordsHoldLaws.{words-take}
 use borrow.Author.Needs.{needs}
 use Rattle.line_rules.proofs.take.Statement.{statement}

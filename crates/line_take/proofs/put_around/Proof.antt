@@ -1,4 +1,4 @@
--- The three cells at the depth are what `kept::cell` ensures, and `put_marks` stores them as `aroundIn` does.
+-- The three cells at the depth are what `line_state::cell` ensures, and `put_marks` stores them as `aroundIn` does.
 use borrow.Author.Needs.{needs}
 use Rattle.line_take.proofs.put_around.Statement.{statement}
 use Rattle.line_take.proofs.put_around.Tie as tie
