@@ -7,7 +7,7 @@ for library in $RATTLE_LIB; do
     rattle="$rattle -C link-arg=$(realpath "$library")"
 done
 [ -z "$rattle" ] || rattle="--cfg rattle$rattle"
-cd "$(dirname "$0")"
+CDPATH= cd -- "$(dirname -- "$0")"
 mkdir -p target
 flags="--edition 2021 -C opt-level=3"
 rustc $flags --crate-type rlib --crate-name outside src/lib.rs -o target/liboutside.rlib

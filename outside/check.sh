@@ -3,8 +3,8 @@
 # programs that print listings, as `outside unfoldings` and `outside edges` do, over the other vectors. All folders are run.
 # The vectors of reader, unfoldings and edges live in crates/inspect, where the gate runs them; here they are spread into folders.
 # The copies that the gate runs of the examples and of the vectors of verdict must agree with them, and so must what is expected of crates/areas.
-here="$(cd "$(dirname "$0")" && pwd)"
-root="$(cd "$here/.." && pwd)"
+here="$(CDPATH= cd -- "$(dirname -- "$0")" && pwd)"
+root="$(CDPATH= cd -- "$here/.." && pwd)"
 check="$here/target/check"
 [ -x "$check" ] || "$here/build.sh" || exit 1
 program="${1:-$here/target/outside report}"

@@ -3,7 +3,7 @@
 # CRATE/stdout from their names and from what the independent program says of them. No output of the proved program goes in here.
 set -e
 crate="${1:?usage: gather-areas.sh CRATE}"
-here="$(cd "$(dirname "$0")" && pwd)"
+here="$(CDPATH= cd -- "$(dirname -- "$0")" && pwd)"
 [ -x "$here/target/outside" ] || "$here/build.sh" outside
 rm -rf "$crate/data"
 mkdir -p "$crate/data"

@@ -5,7 +5,7 @@
 set -e
 vectors="${1:?usage: gather-vectors.sh VECTORS CRATE}"
 crate="${2:?usage: gather-vectors.sh VECTORS CRATE}"
-root="$(cd "$(dirname "$0")/.." && pwd)"
+root="$(CDPATH= cd -- "$(dirname -- "$0")/.." && pwd)"
 rm -rf "$crate/data"
 mkdir -p "$crate/data"
 : > "$crate/args"

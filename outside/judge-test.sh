@@ -11,8 +11,8 @@ failed=0
 tried=0
 mkdir -p "$repo/crates/verdict/src" "$repo/crates/spec_base/src" "$bin" "$room/elsewhere"
 cp "$here/../judge" "$repo/judge"
-printf '# a comment\nbase:\nverdict: base libc\nother: base\n' >"$repo/crates.txt"
-echo "// base" >"$repo/crates/spec_base/src/lib.rt"
+printf '# a comment\nspec_base:\nverdict: spec_base libc\nother: spec_base\n' >"$repo/crates.txt"
+echo "// spec_base" >"$repo/crates/spec_base/src/lib.rt"
 printf 'a text\n' >"$room/text"
 source=$repo/crates/verdict/src/main.rt
 
@@ -29,8 +29,8 @@ esac
 mkdir "\$room/building" 2>/dev/null || echo overlap >>"\$room/faults"
 echo built >>"\$room/calls"
 : >"\$room/began"
-echo "fn base::f: proved"
-echo "rt: base proved (unchanged since it was last proved)"
+echo "fn spec_base::f: proved"
+echo "rt: spec_base proved (unchanged since it was last proved)"
 sleep "\$(cat "\$room/slow")"
 word=\$(cat crates/verdict/src/main.rt)
 rmdir "\$room/building"
@@ -117,11 +117,14 @@ echo "kit 2" >"$room/kit"
 run "$repo/judge" text; want "another toolchain" 0 robust 3
 echo "// base, changed" >"$repo/crates/spec_base/src/lib.rt"
 run "$repo/judge" text; want "another crate changed" 0 robust 4
-rm "$repo/target/bin/verdict"
+rm "$repo/target/judge/target/bin/verdict"
 run "$repo/judge" text; want "the build's own program removed" 0 robust 4
-word other >"$repo/target/bin/verdict"
-word robust
-run "$repo/judge" text; want "the build's own program replaced" 0 robust 4
+# what another rt leaves in the repository's own target/ is never asked
+mkdir -p "$repo/target/bin" "$repo/target/stamp"
+printf '#!/bin/sh\nprintf "verdict programs nodes edges back\\nother 0 0 0 0\\n"\n' >"$repo/target/bin/verdict"
+chmod +x "$repo/target/bin/verdict"
+echo 1 >"$repo/target/stamp/verdict"
+run "$repo/judge" text; want "another program in target/bin" 0 robust 4
 
 # edited while it builds: the answer is that of the sources as they are then
 began() { while [ ! -e "$room/began" ]; do sleep 0.05; done; }
@@ -182,9 +185,18 @@ run "$repo/judge" text; want "a program that prints nothing" 1 '' 13
 printf 'printf "refused line\\n7 9\\n"\n' >"$source"
 run "$repo/judge" text; want "a refusal is a report" 0 7 14
 run sh -c "'$repo/judge' text >&-"; want "closed output" 1 '' 14
+run sh -c "{ '$repo/judge' text; echo \$? >'$room/ended'; } | true; exit \$(cat '$room/ended')"
+case $status in 0 | 1) ;; *) failed=1; echo "a pipe that nobody reads: status $status" ;; esac
+printf 'printf "verdict programs nodes edges back\\nrob"\n' >"$source"
+run "$repo/judge" text; want "a report cut off in its second line" 1 '' 15
+printf 'printf "refused line\\n7 9\\n"\n' >"$source"
+printf 'text\ntext\n' >"$room/list"
+run sh -c "while read f; do '$repo/judge' \$f; done <'$room/list' | grep -c '^7 9'"
+tried=$((tried + 1))
+[ "$(cat "$room/out")" = 2 ] || { failed=1; echo "a list of files on standard input: $(cat "$room/out") reports"; }
 mkdir "$room/few"
 for tool in sh dirname readlink find sort sha256sum cut env flock sed awk cat; do ln -s "$(command -v $tool)" "$room/few/$tool"; done
-run env PATH="$room/few" "$repo/judge" text; want "without rt" 1 '' 14
+run env PATH="$room/few" "$repo/judge" text; want "without rt" 1 '' 15
 says "without rt" "rt is not on the path"
 
 [ ! -e "$room/faults" ] || { failed=1; echo "two builds at once"; }

@@ -1,9 +1,9 @@
 #!/bin/sh
-# run.sh PROGRAM [SEED [INSPECT]]: everything but the timings, some two minutes: builds, checks this implementation against itself, then
+# run.sh PROGRAM [SEED [INSPECT]]: everything but the timings, some two minutes (with RATTLE_LIB also the exports, by `records`): builds, checks this implementation against itself, then
 # the program on all examples and vectors and on 20,000 generated texts, every edge record and every unfolding of 2,000 of them by the
 # program inspect (beside PROGRAM unless named), then brute force against demand 3; texts that arrive in pieces and inputs and outputs that fail;
 # and the script judge, with a stand-in for rt.
-here="$(cd "$(dirname "$0")" && pwd)"
+here="$(CDPATH= cd -- "$(dirname -- "$0")" && pwd)"
 program="${1:?usage: run.sh PROGRAM [SEED [INSPECT]]}"
 seed="${2:-1}"
 inspect="${3:-$(dirname "$program")/inspect}"
@@ -23,5 +23,6 @@ data="$here/../crates/inspect/data"
     "$here/../crates/verdict_danger/stdin" "$here/../crates/verdict_refused/stdin" \
     "$data/read-bytes-32768.txt" "$data/read-bytes-32769.txt" "$data/read-bytes-70000.txt" || failed=1
 "$here/judge-test.sh" || failed=1
+[ -z "${RATTLE_LIB:-}" ] || "$here/target/records" "$seed" 300 || failed=1
 [ $failed = 0 ] && echo "all passed" || echo "SOMETHING FAILED, see above"
 exit $failed

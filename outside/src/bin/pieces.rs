@@ -1,5 +1,5 @@
 //! `pieces PROGRAM TEXT...`: runs a program on each text (a file) as a file, and by a pipe in pieces of 1, 7 and 4096 bytes, and in
-//! two pieces cut at, before and after each line end (at 60 line ends of a long text), the second written when the first has been
+//! two pieces cut at, before and after each line end, the second written when the first has been
 //! read. Each report must be that of the whole text, which must be the one of this implementation. Then inputs and outputs that
 //! fail: no report, and a message on standard error. The last line tells how many runs there were.
 
@@ -49,6 +49,8 @@ fn main() {
     }
     let text = std::fs::read(&words[2]).expect("it was read");
     failing(&mut tally, program, &words[2], &text);
+    // without a cut whose first piece has another verdict line, a program that reads only once would pass
+    tally.faults += (tally.telling == 0) as usize;
     println!("pieces: {} runs, {} cuts that would show, {} faults", tally.runs, tally.telling, tally.faults);
     std::process::exit(if tally.faults == 0 { 0 } else { 1 });
 }
@@ -79,12 +81,10 @@ fn second_line(text: &[u8]) -> String {
     report(text).lines().nth(1).unwrap_or("").to_string()
 }
 
-/// Before, at and after each line end, of at most 60 lines, the last among them; and around the 65,536 bytes that are read.
+/// Before, at and after each line end; and around the 65,536 bytes that are read.
 fn cuts(text: &[u8]) -> Vec<usize> {
     let ends: Vec<usize> = (0..text.len()).filter(|&i| text[i] == b'\n').collect();
-    let step = ends.len().div_ceil(60).max(1);
-    let some = ends.iter().rev().step_by(step);
-    some.flat_map(|&i| [i, i + 1, i + 2]).chain(65_535..65_538).filter(|&i| i <= text.len()).collect()
+    ends.iter().flat_map(|&i| [i, i + 1, i + 2]).chain(65_535..65_538).filter(|&i| i <= text.len()).collect()
 }
 
 fn differs(whole: &Ran, ran: std::io::Result<Ran>) -> Option<String> {
