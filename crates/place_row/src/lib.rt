@@ -14,3 +14,10 @@ pub struct Row {
     pub tests: u64,
     pub keys: u64,
 }
+
+// A table of places: so many words to a row, so many rows at most, and so many words for them all.
+pub const ROW_WORDS: usize = 8;
+
+pub const ROWS: usize = 512;
+
+pub const TABLE_WORDS: usize = 4096;

@@ -35,8 +35,13 @@ pub struct Line {
     pub tests: u64,
 }
 
+// The bounds of document 01: a text has at most so many bytes, and after its names line at most so many lines.
+pub const TEXT_BYTES: usize = 32768;
+
+pub const CELLS: usize = 1616;
+
 // A workload: its lines after the names line. Cells past `count` hold `unusedLine` of specs/Text: kind En and six zeros.
 pub struct Workload {
     pub count: usize,
-    pub lines: [Line; 1616],
+    pub lines: [Line; CELLS],
 }

@@ -1,7 +1,8 @@
-// A word of a list of words, whatever its place, and words set to 0.
+// A word of a list of words, whatever its place; words set to 0; a bit of a word.
 
 ghost use mathlib.Core.Path.{_≡_};
 ghost use lib.ListN.{getD};
+ghost use Rattle.spec_base.specs.Basic.{has};
 ghost use Rattle.word_list.specs.Clear.{Cleared};
 
 // The word at a place, or 0 past the end.
@@ -26,4 +27,14 @@ pub fn clear(words: &mut [u64], from: usize, to: usize)
         words[i] = 0;
         i += 1;
     }
+}
+
+// Whether a word, taken as a set, has bit k. No word has a bit past the 63rd.
+pub fn has_bit(word: u64, k: u64) -> bool
+    ensures { λ r. ⌜ r ≡ has word k ⌝ }
+{
+    if k > 63 {
+        return false;
+    }
+    (word >> k) % 2 == 1
 }
