@@ -1,3 +1,6 @@
 pub mod ClosedWalks
-pub mod WalkExamples
+pub mod NodeParts
+pub mod PartExamples
+pub mod Parts
 pub mod Reach
+pub mod WalkExamples
