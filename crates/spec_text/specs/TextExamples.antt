@@ -695,6 +695,20 @@ parent-of-other-relation : behind ("is 0 1 - - 3 -" ∷ "is 1 1 - - 3 -" ∷ "li
 unfolding behind
 parent-of-other-relation = refl
 
+-- R8, T10: of the links between statements over relations 0, 1 and 2, by a key from relation 1 to relation 1, one fits
+link-relations
+    : map
+    (λ link. isAccepted
+    (given
+    ("rl 0 - - 1 - -" ∷ "rl 1 - - 1 - -" ∷ "rl 2 - - 1 - -" ∷ "fk 0 1 1 - - -" ∷ "pr 0 - - - - -"
+    ∷ "is 0 0 - - 1 -" ∷ "is 1 1 - - 1 -" ∷ "is 2 2 - - 1 -" ∷ link ∷ [])))
+    ("li 0 0 0 - - -" ∷ "li 0 0 1 - - -" ∷ "li 0 0 2 - - -"
+    ∷ "li 0 1 0 - - -" ∷ "li 0 1 1 - - -" ∷ "li 0 1 2 - - -"
+    ∷ "li 0 2 0 - - -" ∷ "li 0 2 1 - - -" ∷ "li 0 2 2 - - -" ∷ [])
+    ≡ false ∷ false ∷ false ∷ false ∷ true ∷ false ∷ false ∷ false ∷ false ∷ []
+unfolding given
+link-relations = refl
+
 -- R8, T10: the parent is of kind is, ks, ku or kd, the child of any
 parents
     : taken (is0 ∷ "ks 1 0 - 1 - -" ∷ "ku 2 0 - 0 1 -" ∷ "kd 3 0 - - 3 -" ∷ "ps 4 0 - 1 - 1" ∷ "pu 5 0 - 1 1 1" ∷ "pd 6 0 - - 3 1"
