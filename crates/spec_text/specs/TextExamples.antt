@@ -28,6 +28,7 @@ use Rattle.spec_text.specs.Text.{
   lineOf,
 }
 use Rattle.spec_text.specs.Reading.{sort, isStatementOf, program, relation, key, statement, Block, blocksAfter, openBlocks, blocksAround}
+use Rattle.spec_text.specs.Reading.{isRelation, isKey, isProgram, isStatementOrFlow, isLink, isStatement}
 use Rattle.spec_text.specs.Reading.{Outcome, isAllowed, otherByte, fault, readLines, read}
 use Rattle.spec_text.specs.Reading.Outcome.{refused, accepted}
 use Rattle.spec_text.specs.Value.{linesOf, valueOf, Given}
@@ -415,6 +416,24 @@ flow-bound
     : faults (relations 0 1 ++ programs 0 1 ++ statements 0 32 ++ loops 15 ++ (flow Br ∷ [])) (flow El ∷ flow En ∷ []) ≡ none ∷ some 9 ∷ []
 unfolding faults relations programs statements loops flow
 flow-bound = refl
+
+-- R9, R7: after 64 of them a relation, a key or a link is none, but out of order or naming nothing
+flow-bound-others
+    : map (λ l. faults (relations 0 1 ++ programs 0 1 ++ statements 0 32 ++ loops 16) (l ∷ []))
+    (lineWith Rl (1 ∷ 0 ∷ 0 ∷ 3 ∷ 0 ∷ 0 ∷ []) ∷ lineWith Fk (0 ∷ 0 ∷ 0 ∷ 0 ∷ 0 ∷ 0 ∷ []) ∷ lineWith Li (0 ∷ 0 ∷ 0 ∷ 0 ∷ 0 ∷ 0 ∷ []) ∷ [])
+    ≡ (some 7 ∷ []) ∷ (some 7 ∷ []) ∷ (some 6 ∷ []) ∷ []
+unfolding faults relations programs statements loops lineWith
+flow-bound-others = refl
+
+-- T6: the kinds of each sort
+sort-kinds
+    : map (λ test. keep (λ k. test (lineWith k [])) kinds) (isRelation ∷ isKey ∷ isProgram ∷ isStatementOrFlow ∷ isLink ∷ isStatement ∷ [])
+    ≡ (Rl ∷ []) ∷ (Fk ∷ []) ∷ (Pr ∷ [])
+    ∷ (St Is ∷ St Ks ∷ St Ps ∷ St Ku ∷ St Pu ∷ St Kd ∷ St Pd ∷ Lo ∷ Br ∷ El ∷ En ∷ [])
+    ∷ (Li ∷ [])
+    ∷ (St Is ∷ St Ks ∷ St Ps ∷ St Ku ∷ St Pu ∷ St Kd ∷ St Pd ∷ []) ∷ []
+unfolding lineWith kinds sort isRelation isKey isProgram isStatementOrFlow isLink isStatementOf isStatement
+sort-kinds = refl
 
 -- R9: a new program counts anew
 counts-anew
