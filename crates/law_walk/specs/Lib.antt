@@ -1,4 +1,5 @@
 pub mod ClosedWalks
+pub mod EveryKind
 pub mod NodeParts
 pub mod PartExamples
 pub mod Parts

@@ -15,10 +15,10 @@ use Rattle.spec_graph.specs.Graph.{Flow}
 use Rattle.spec_graph.specs.Program.{statementOf, behind, runOf, programsOf, linksOf}
 use Rattle.spec_graph.specs.Unfolding.{Node, inside, occurrences, pairs, unfoldings, nodesOfProgram, nodesFrom, nodesOf}
 use Rattle.spec_graph.specs.Edge.{W, R, T, holds, sameRelation, leads, binds, guarded, shielded, forward, back, placeAt, graphOf}
-use Rattle.spec_graph.specs.Walk.{Step, isEdge, dangerousPair, isDangerous}
+use Rattle.spec_graph.specs.Walk.{Step, isEdge, dangerousPair, isDangerous, DangerousWalk}
 use Rattle.law_walk.specs.Reach.{leavesFor, joins, joinedTo, grow, reachedFrom, opens, closesAt, dangerTest, regular, danger-none}
-use Rattle.law_walk.specs.Parts.{renumber, renumbered, only, only-walks, Stays, embedding-keeps, walk-carried, none-in-part}
-use Rattle.law_walk.specs.NodeParts.{nodesAt, chosenNumber, chosen-embedded}
+use Rattle.law_walk.specs.Parts.{renumber, renumbered, only, only-regular, only-walks, embedding-keeps, walk-carried, none-in-part}
+use Rattle.law_walk.specs.NodeParts.{nodesAt, chosenNumber, chosen-embedded, stays-chosen}
 
 abbrev line : LineKind → ℕ → ℕ → ℕ → ℕ → Line
 line k a b r w = record { kind = k; id = a; rel = b; to = 0; reads = r; writes = w; tests = 0 }
@@ -94,12 +94,13 @@ unfolding nodes nodesAt W R T holds sameRelation leads binds guarded shielded fo
     leavesFor joins joinedTo grow reachedFrom opens closesAt dangerTest
 updating-robust = refl
 
-none-updating : (walk : List Step) → Stays (length (nodesAt nodes updating)) (chosenNumber updating) walk
+none-updating : (walk : List Step) → ((s : Step) → List·Memᴰ s walk → List·Memᴰ (s .node) updating)
     → isDangerous (graphOf nodes) walk ≡ true → ⊥
-unfolding graphOf
-none-updating =
+unfolding nodes nodesAt graphOf
+none-updating walk inside =
     none-in-part (chosen-embedded nodes updating (below 1 2 2 (omega arith) (omega arith) (omega arith))) .0
     (danger-none (graphOf (nodesAt nodes updating)) (regular (nodesAt nodes updating)) updating-robust)
+    walk (stays-chosen updating walk inside)
 
 -- the same in the numbers of the whole: with node 0 the walk stands, without it none of its edges does
 only-zero-two : isDangerous (only (λ m. not (eqb m 1)) (graphOf nodes)) (renumbered (chosenNumber chosen) inPart) ≡ true
@@ -109,3 +110,8 @@ only-zero-two = only-walks (λ m. not (eqb m 1)) (graphOf nodes) (renumbered (ch
 only-updating : isDangerous (only (λ m. not (eqb m 0)) (graphOf nodes)) (renumbered (chosenNumber chosen) inPart) ≡ false
 unfolding renumber
 only-updating = only-walks (λ m. not (eqb m 0)) (graphOf nodes) (renumbered (chosenNumber chosen) inPart)
+
+only-updating-robust : DangerousWalk (only (λ m. not (eqb m 0)) (graphOf nodes)) → ⊥
+unfolding nodes W R T holds sameRelation leads binds guarded shielded forward back placeAt graphOf only
+    leavesFor joins joinedTo grow reachedFrom opens closesAt dangerTest
+only-updating-robust = danger-none (only (λ m. not (eqb m 0)) (graphOf nodes)) (only-regular (λ m. not (eqb m 0)) (regular nodes)) refl

@@ -114,7 +114,7 @@ module _ {g h : Graph} {f : ℕ → ℕ} (keeps : Homomorphism g h f) where
 
 -- ---- an induced part: its walks are the whole's that stay in it
 
--- g is the part of h on the nodes that f gives: with all their edges, places and loose places, and no others
+-- g is the part of h on the nodes that f gives: with all edges between them and their loose places, and no others
 pub record Embedding (g h : Graph) (f : ℕ → ℕ) : Type 0 where
   pub inNodes : (m i n j : ℕ) (flow : Flow) → g .edge m i n j flow ≡ true → (m < g .size) × (n < g .size)
   pub sameEdges : (m i n j : ℕ) (flow : Flow) → m < g .size → n < g .size → h .edge (f m) i (f n) j flow ≡ g .edge m i n j flow
@@ -227,7 +227,7 @@ renumbered-apart f size apart (x ∷ v) (y ∷ w) bv bw e =
 
 -- ---- the part in the whole's numbering
 
--- the graph with the edges between chosen nodes alone
+-- the graph with the edges between chosen nodes alone; of the nodes in a word, `has word` chooses
 unfoldable pub only : (ℕ → Bool) → Graph → Graph
 only chosen g =
     record {

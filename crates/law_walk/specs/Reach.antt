@@ -18,12 +18,12 @@ use Rattle.law_base.specs.ListLaws.{any-true, any-of, all-true, any-numbers, an
 use Rattle.law_base.specs.ListLaws.{length-numbers, keep-no, member-keep, length-keep, first-some, first-none, getElem?-lt}
 use Rattle.law_base.specs.ListLaws.{around-member, around-next}
 use Rattle.spec_text.specs.declared.StatementKind.{StatementKind}
-use Rattle.spec_text.specs.declared.StatementKind.the-variants.{Is, Ks, Ps, Ku, Pu, Kd, Pd}
 use Rattle.spec_graph.specs.Graph.{Flow, Graph, isBack}
 use Rattle.spec_graph.specs.Unfolding.{Node, Occurrence}
 use Rattle.spec_graph.specs.Edge.{Place, Letter, at, holds, hasTests, selects, loosens, sameRelation, forward, back, shielded, stands, bothPass}
 use Rattle.spec_graph.specs.Edge.{loosensAt, placeAt, graphOf}
 use Rattle.spec_graph.specs.Walk.{Step, isEdge, dangerousPair, isDangerous, DangerousWalk}
+use Rattle.law_walk.specs.EveryKind.{kind-implies}
 
 -- what every summary graph has
 pub record Regular (g : Graph) : Type 0 where
@@ -37,25 +37,12 @@ pub record Regular (g : Graph) : Type 0 where
 
 -- ---- the summary graph is regular
 
--- a kind with tests is loose
+-- a kind with tests is loose, and so is a select
 tests-loose : (k : StatementKind) → hasTests k ≡ true → loosens k ≡ true
-tests-loose Is h = h
-tests-loose Ks h = refl
-tests-loose Ps h = refl
-tests-loose Ku h = h
-tests-loose Pu h = refl
-tests-loose Kd h = h
-tests-loose Pd h = refl
+tests-loose = kind-implies hasTests loosens refl
 
--- a select is loose
 selects-loose : (k : StatementKind) → selects k ≡ true → loosens k ≡ true
-selects-loose Is h = h
-selects-loose Ks h = refl
-selects-loose Ps h = refl
-selects-loose Ku h = h
-selects-loose Pu h = refl
-selects-loose Kd h = h
-selects-loose Pd h = refl
+selects-loose = kind-implies selects loosens refl
 
 -- a back edge is of letter E, or of letter D from a select
 back-letter : (s t : Place) → back s t ≡ true

@@ -1,47 +1,19 @@
 -- From a dependency of events to a letter of their statements.
-use mathlib.Core.Bool.{Bool, true, false, not, _||_}
-use mathlib.Core.List.{List, [], _∷_, List·Memᴰ, List·Memᴰ·head, List·Memᴰ·tail}
+use mathlib.Core.Bool.{Bool, true, false, _||_}
 use mathlib.Core.Logic.{_≢_}
 use mathlib.Core.Path.{_≡_, refl, sym, ap, subst, _∙_}
 use Prim.Native.Nat.{ℕ}
-use Rattle.spec_base.specs.Basic.{all, has, meets, within}
-use Rattle.law_base.specs.BoolLaws.{true-false, and-of, or-left, or-right, not-of-false, not-true}
-use Rattle.law_base.specs.ListLaws.{all-true}
+use Rattle.spec_base.specs.Basic.{has, meets, within}
+use Rattle.law_base.specs.BoolLaws.{true-false, and-of, or-left, or-right, not-of-false}
 use Rattle.law_base.specs.SetLaws.{meets-has, has-meets, within-has, meets-self}
 use Rattle.spec_text.specs.declared.StatementKind.{StatementKind}
-use Rattle.spec_text.specs.declared.StatementKind.the-variants.{Is, Ks, Ps, Ku, Pu, Kd, Pd}
 use Rattle.spec_graph.specs.Program.{Statement}
 use Rattle.spec_graph.specs.Edge.{W, R, T, holds, hasReads, hasWrites, hasTests, inserts, deletes}
 use Rattle.spec_graph.specs.Edge.Letter.{A, B, C, D, E}
 use Rattle.spec_schedule.specs.Event.{Action, isRead, isWrite, isPredicateRead, isInsert, isDelete}
 use Rattle.spec_schedule.specs.Schedule.{Performed, Operation}
+use Rattle.law_walk.specs.EveryKind.{kind-implies, kinds-apart}
 use Rattle.soundness.specs.transactions.Operations.{Does, does-test, does-read, does-write, does-insert, does-delete, updates, statementOf}
-
--- ---- a rule over all kinds is one computed test
-
-abbrev kinds : List StatementKind
-kinds = Is ∷ Ks ∷ Ps ∷ Ku ∷ Pu ∷ Kd ∷ Pd ∷ []
-
-kind-listed : (k : StatementKind) → List·Memᴰ k kinds
-kind-listed Is = List·Memᴰ·head refl
-kind-listed Ks = List·Memᴰ·tail (List·Memᴰ·head refl)
-kind-listed Ps = List·Memᴰ·tail (List·Memᴰ·tail (List·Memᴰ·head refl))
-kind-listed Ku = List·Memᴰ·tail (List·Memᴰ·tail (List·Memᴰ·tail (List·Memᴰ·head refl)))
-kind-listed Pu = List·Memᴰ·tail (List·Memᴰ·tail (List·Memᴰ·tail (List·Memᴰ·tail (List·Memᴰ·head refl))))
-kind-listed Kd = List·Memᴰ·tail (List·Memᴰ·tail (List·Memᴰ·tail (List·Memᴰ·tail (List·Memᴰ·tail (List·Memᴰ·head refl)))))
-kind-listed Pd = List·Memᴰ·tail (List·Memᴰ·tail (List·Memᴰ·tail (List·Memᴰ·tail (List·Memᴰ·tail (List·Memᴰ·tail (List·Memᴰ·head refl))))))
-
--- a kind that passes the first test passes the second
-pub kind-implies : (f g : StatementKind → Bool) → all (λ k. not (f k) || g k) kinds ≡ true → (k : StatementKind) → f k ≡ true → g k ≡ true
-kind-implies f g h k e = go (f k) e (all-true (λ k. not (f k) || g k) h (kind-listed k))
-  where
-    go : (b : Bool) → b ≡ true → not b || g k ≡ true → g k ≡ true
-    go true b r = r
-    go false b r = absurd (true-false b refl)
-
--- a kind that passes the first test fails the second
-pub kinds-apart : (f g : StatementKind → Bool) → all (λ k. not (f k) || not (g k)) kinds ≡ true → (k : StatementKind) → f k ≡ true → g k ≡ false
-kinds-apart f g h k e = not-true (g k) (kind-implies f (λ k. not (g k)) h k e)
 
 -- ---- T9: what is known of a statement's sets, given the set of each relation
 pub record Sets (set : ℕ → ℕ) (s : Statement) : Type 0 where

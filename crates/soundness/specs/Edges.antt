@@ -28,7 +28,8 @@ use Rattle.soundness.specs.committing.WriteKinds.{write-write-kinds, wri
 use Rattle.soundness.specs.transactions.Operations.{Does, updates, statementOf}
 use Rattle.soundness.specs.transactions.Events.{schedule-lawful}
 use Rattle.soundness.specs.transactions.Statements.{Stated, operationOf, update-next, place-order}
-use Rattle.soundness.specs.EdgeLetters.{Sets, kind-implies, letter-A, letter-B, letter-C, letter-D, letter-E, does-read-what, does-test-what}
+use Rattle.law_walk.specs.EveryKind.{kind-implies}
+use Rattle.soundness.specs.EdgeLetters.{Sets, letter-A, letter-B, letter-C, letter-D, letter-E, does-read-what, does-test-what}
 use Rattle.soundness.specs.Visits.{Visit, At, Spot, Guard, guard-of, performed-occurrence}
 
 -- ---- what a test of an action says of it

@@ -21,7 +21,8 @@ use Rattle.spec_graph.specs.Unfolding.{Occurrence, occurrences}
 use Rattle.spec_graph.specs.Edge.{R, W, hasReads, hasWrites, inserts, deletes}
 use Rattle.spec_schedule.specs.Schedule.{Transaction, Schedule}
 use Rattle.soundness.specs.FromLines.{OnLines, execution-holds, program-holds}
-use Rattle.soundness.specs.EdgeLetters.{Sets, kind-implies}
+use Rattle.law_walk.specs.EveryKind.{kind-implies}
+use Rattle.soundness.specs.EdgeLetters.{Sets}
 
 -- the empty set lies within every set
 within-empty : (x : ℕ) → within 0 x ≡ true

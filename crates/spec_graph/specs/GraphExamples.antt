@@ -1,5 +1,5 @@
 -- Small workloads that pin each rule of unfoldings (U) and walks (W).
-use mathlib.Core.Bool.{Bool, true, false, not}
+use mathlib.Core.Bool.{Bool, true, false, not, false≢true}
 use mathlib.Core.List.{List, [], _∷_, _++_, map, flatMap}
 use mathlib.Core.Option.{none, some}
 use mathlib.Core.Path.{_≡_, refl}
@@ -19,7 +19,7 @@ use Rattle.spec_graph.specs.Unfolding.Execution.{end, step as then}
 use Rattle.spec_graph.specs.Unfolding.ItemExecution.{perform, turns, arm-one, arm-two}
 use Rattle.spec_graph.specs.Unfolding.Turns.{stop, turn}
 use Rattle.spec_graph.specs.Edge.{leads, placeAt}
-use Rattle.spec_graph.specs.Walk.{Step, isDangerous}
+use Rattle.spec_graph.specs.Walk.{Step, isEdge, isDangerous, DangerousWalk}
 use Rattle.spec_graph.specs.ExampleText.{line, rl, fk, pr, is, ks, ps, ku, pu, kd, pd, lo, br, el, en, li, step}
 use Rattle.spec_graph.specs.ExampleText.{nodes, ids, graph, dangerous, sizes, base, twice, select-first}
 
@@ -275,6 +275,17 @@ W1-no-edge = (refl, refl, refl, refl)
 W1-empty : dangerous twice [] ≡ false
 unfolding dangerous
 W1-empty = refl
+
+-- there is a dangerous walk in the graph of `twice`, and none where there is no edge
+walk-exists : DangerousWalk (graph twice)
+unfolding dangerous
+walk-exists = (step 0 1 1 Flow.forward ∷ step 1 0 1 Flow.back ∷ [], W4-earlier)
+
+walk-needs-edges : DangerousWalk (record { size = 2; places = λ m. 9; edge = λ m i n j flow. false; loose = λ m i. true }) → ⊥
+unfolding isDangerous isEdge
+walk-needs-edges ([], h) = false≢true h
+walk-needs-edges (x ∷ [], h) = false≢true h
+walk-needs-edges (x ∷ y ∷ l, h) = false≢true h
 
 -- W4 over a graph with every edge between two nodes, where no kind makes a pair dangerous: e is back, or c leaves earlier than e enters
 every-edge : List Step → Bool

@@ -579,6 +579,24 @@ link-elsewhere : keysKept (λ f t. record { relation = 2; number = t .number % 1
 unfolding openWorkload
 link-elsewhere = refl
 
+-- a statement performed on these tuples
+abbrev doing : Statement → List ℕ → Performed
+doing s tuples = record { place = 0; occurrence = record { statement = s; path = [] }; tuples = tuples }
+
+-- a link by key 0 of an update of tuple 9 of relation 3 to an update of relation 1 on these tuples, where the key gives this tuple
+abbrev linkedTo : ℕ → ℕ → List ℕ → Bool
+linkedTo r n tuples =
+    linkKept (λ f t. record { relation = r; number = n }) (record { key = 0; child = 0; parent = 1 })
+    (doing (says Ku 0 3 0 1 0) (9 ∷ [])) (doing (says Ku 1 1 0 1 0) tuples)
+
+-- of the images 4, 5 and 6 in relations 0, 1 and 2, the parent's tuple 5 of relation 1 is one; each tuple of a parent is asked
+link-image
+    : (map (λ r. map (λ n. linkedTo r n (5 ∷ [])) (4 ∷ 5 ∷ 6 ∷ [])) (0 ∷ 1 ∷ 2 ∷ [])
+    ≡ (false ∷ false ∷ false ∷ []) ∷ (false ∷ true ∷ false ∷ []) ∷ (false ∷ false ∷ false ∷ []) ∷ [])
+    × (map (linkedTo 1 5) ([] ∷ (5 ∷ 5 ∷ []) ∷ (5 ∷ 6 ∷ []) ∷ (6 ∷ 5 ∷ []) ∷ []) ≡ true ∷ true ∷ false ∷ false ∷ [])
+unfolding openWorkload
+link-image = (refl, refl)
+
 -- a parent outside the loop binds every turn
 link-each-turn : keysKept byTen (childInside (λ i. getD (10 ∷ 20 ∷ 0 ∷ []) i 0)) ≡ true
 unfolding openWorkload

@@ -28,6 +28,7 @@ use Rattle.spec_text.specs.Text.{
   lineOf,
 }
 use Rattle.spec_text.specs.Reading.{sort, isStatementOf, program, relation, key, statement, Block, blocksAfter, openBlocks, blocksAround}
+use Rattle.spec_text.specs.Reading.{isRelation, isKey, isProgram, isStatementOrFlow, isLink, isStatement}
 use Rattle.spec_text.specs.Reading.{Outcome, isAllowed, otherByte, fault, readLines, read}
 use Rattle.spec_text.specs.Reading.Outcome.{refused, accepted}
 use Rattle.spec_text.specs.Value.{linesOf, valueOf, Given}
@@ -416,6 +417,24 @@ flow-bound
 unfolding faults relations programs statements loops flow
 flow-bound = refl
 
+-- R9, R7: after 64 of them a relation, a key or a link is none, but out of order or naming nothing
+flow-bound-others
+    : map (λ l. faults (relations 0 1 ++ programs 0 1 ++ statements 0 32 ++ loops 16) (l ∷ []))
+    (lineWith Rl (1 ∷ 0 ∷ 0 ∷ 3 ∷ 0 ∷ 0 ∷ []) ∷ lineWith Fk (0 ∷ 0 ∷ 0 ∷ 0 ∷ 0 ∷ 0 ∷ []) ∷ lineWith Li (0 ∷ 0 ∷ 0 ∷ 0 ∷ 0 ∷ 0 ∷ []) ∷ [])
+    ≡ (some 7 ∷ []) ∷ (some 7 ∷ []) ∷ (some 6 ∷ []) ∷ []
+unfolding faults relations programs statements loops lineWith
+flow-bound-others = refl
+
+-- T6: the kinds of each sort
+sort-kinds
+    : map (λ test. keep (λ k. test (lineWith k [])) kinds) (isRelation ∷ isKey ∷ isProgram ∷ isStatementOrFlow ∷ isLink ∷ isStatement ∷ [])
+    ≡ (Rl ∷ []) ∷ (Fk ∷ []) ∷ (Pr ∷ [])
+    ∷ (St Is ∷ St Ks ∷ St Ps ∷ St Ku ∷ St Pu ∷ St Kd ∷ St Pd ∷ Lo ∷ Br ∷ El ∷ En ∷ [])
+    ∷ (Li ∷ [])
+    ∷ (St Is ∷ St Ks ∷ St Ps ∷ St Ku ∷ St Pu ∷ St Kd ∷ St Pd ∷ []) ∷ []
+unfolding lineWith kinds sort isRelation isKey isProgram isStatementOrFlow isLink isStatementOf isStatement
+sort-kinds = refl
+
 -- R9: a new program counts anew
 counts-anew
     : faults (relations 0 1 ++ programs 0 1 ++ statements 0 32 ++ loops 16) (programs 1 1 ++ statements 0 1 ++ loops 1)
@@ -694,6 +713,20 @@ child-of-other-relation = refl
 parent-of-other-relation : behind ("is 0 1 - - 3 -" ∷ "is 1 1 - - 3 -" ∷ "li 0 0 1 - - -" ∷ []) ≡ refused 8 9
 unfolding behind
 parent-of-other-relation = refl
+
+-- R8, T10: of the links between statements over relations 0, 1 and 2, by a key from relation 1 to relation 1, one fits
+link-relations
+    : map
+    (λ link. isAccepted
+    (given
+    ("rl 0 - - 1 - -" ∷ "rl 1 - - 1 - -" ∷ "rl 2 - - 1 - -" ∷ "fk 0 1 1 - - -" ∷ "pr 0 - - - - -"
+    ∷ "is 0 0 - - 1 -" ∷ "is 1 1 - - 1 -" ∷ "is 2 2 - - 1 -" ∷ link ∷ [])))
+    ("li 0 0 0 - - -" ∷ "li 0 0 1 - - -" ∷ "li 0 0 2 - - -"
+    ∷ "li 0 1 0 - - -" ∷ "li 0 1 1 - - -" ∷ "li 0 1 2 - - -"
+    ∷ "li 0 2 0 - - -" ∷ "li 0 2 1 - - -" ∷ "li 0 2 2 - - -" ∷ [])
+    ≡ false ∷ false ∷ false ∷ false ∷ true ∷ false ∷ false ∷ false ∷ false ∷ []
+unfolding given
+link-relations = refl
 
 -- R8, T10: the parent is of kind is, ks, ku or kd, the child of any
 parents

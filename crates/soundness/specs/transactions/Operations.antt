@@ -1,6 +1,6 @@
 -- The operations of one transaction: which statement each belongs to and what it does, in which order they stand.
-use mathlib.Core.Bool.{Bool, true, false, cond}
-use mathlib.Core.List.{List, [], _∷_, _++_, flatMap, append-nil, List·Memᴰ, List·Memᴰ·head, List·Memᴰ·tail}
+use mathlib.Core.Bool.{Bool, true, false, cond, _&&_}
+use mathlib.Core.List.{List, [], _∷_, _++_, map, flatMap, append-nil, List·Memᴰ, List·Memᴰ·head, List·Memᴰ·tail}
 use mathlib.Core.Logic.{_⊎_, inl, inr}
 use mathlib.Core.Option.{Option, some}
 use mathlib.Core.Path.{_≡_, refl, sym, ap, subst, _∙_}
@@ -9,12 +9,16 @@ use native.Mathlib.Nat.{zero-add}
 use native.Mathlib.Omega.{arith}
 use lib.ListN.{length, getElem?, length-append}
 use Rattle.law_base.specs.PositionLaws.{Chunk, position-cases, chunk-at, chunk-order, chunk-position}
-use Rattle.law_base.specs.ListLaws.{getElem?-lt, getElem?-append-left, some-injective, getElem?-middle}
+use Rattle.spec_base.specs.Basic.{any, all}
+use Rattle.law_base.specs.BoolLaws.{true-false}
+use Rattle.law_base.specs.ListLaws.{any-true, all-true, getElem?-lt, getElem?-append-left, some-injective, getElem?-middle}
+use Rattle.law_base.specs.ListLaws.{getElem?-member, member-getElem?, getElem?-of-map, getElem?-map-some}
 use Rattle.spec_text.specs.declared.StatementKind.{StatementKind}
 use Rattle.spec_text.specs.declared.StatementKind.the-variants.{Is, Ks, Ps, Ku, Pu, Kd, Pd}
 use Rattle.spec_graph.specs.Program.{Statement}
 use Rattle.spec_graph.specs.Unfolding.{Occurrence, occurrences}
-use Rattle.spec_graph.specs.Edge.{W, R, T, hasTests, hasReads, inserts, deletes, shields}
+use Rattle.spec_graph.specs.Edge.{W, R, T, hasTests, hasReads, hasWrites, inserts, deletes, shields}
+use Rattle.law_walk.specs.EveryKind.{every-kind, kind-implies, kinds-apart}
 use Rattle.spec_schedule.specs.Event.{Action, isWrite}
 use Rattle.spec_schedule.specs.Event.Action.{read, write, insert, delete, predicateRead, commit}
 use Rattle.spec_schedule.specs.Schedule.{Transaction, Performed, Operation, chosen, performedFrom, performed}
@@ -22,13 +26,7 @@ use Rattle.spec_schedule.specs.Schedule.{everyAttribute, onTuple, operationsOf,
 
 -- the statements that read and write each of their tuples
 abbrev pub updates : StatementKind → Bool
-updates Is = false
-updates Ks = false
-updates Ps = false
-updates Ku = true
-updates Pu = true
-updates Kd = false
-updates Pd = false
+updates k = hasReads k && hasWrites k
 
 abbrev pub statementOf : Performed → Statement
 statementOf p = p .occurrence .statement
@@ -51,48 +49,88 @@ pub record Belongs (p : Performed) (o : Operation) : Type 0 where
   pub relation : o .relation ≡ statementOf p .relation
   pub does : Does p o
 
--- an operation that a statement does to a tuple
-abbrev act : Performed → ℕ → Action → ℕ → Operation
-act p t a x = record { place = p .place; action = a; relation = statementOf p .relation; tuple = t; attributes = x }
+-- what a statement of each kind does to a tuple, in this order
+actionsOf : StatementKind → List Action
+actionsOf k =
+    cond (hasReads k) (read ∷ []) []
+    ++ cond (updates k) (write ∷ []) []
+    ++ cond (inserts k) (insert ∷ []) []
+    ++ cond (deletes k) (delete ∷ []) []
 
--- what a statement of each kind does to a tuple
-acts : Performed → ℕ → StatementKind → List Operation
-acts p t c =
-    elim c [
-      | Is ↦ act p t insert everyAttribute ∷ []
-      | Ks ↦ act p t read (R (statementOf p)) ∷ []
-      | Ps ↦ act p t read (R (statementOf p)) ∷ []
-      | Ku ↦ act p t read (R (statementOf p)) ∷ act p t write (W (statementOf p)) ∷ []
-      | Pu ↦ act p t read (R (statementOf p)) ∷ act p t write (W (statementOf p)) ∷ []
-      | Kd ↦ act p t delete everyAttribute ∷ []
-      | Pd ↦ act p t delete everyAttribute ∷ []
-    ]
+-- the attributes that an action of a statement is of
+attributesOf : Statement → Action → ℕ
+attributesOf s read = R s
+attributesOf s write = W s
+attributesOf s insert = everyAttribute
+attributesOf s delete = everyAttribute
+attributesOf s predicateRead = T s
+attributesOf s commit = 0
 
-onTuple-acts : (p : Performed) (t : ℕ) (c : StatementKind) → statementOf p .kind ≡ c → onTuple p t ≡ acts p t c
-unfolding onTuple acts
-onTuple-acts p t c e = ap (acts p t) e
+-- the operation of this action of a statement on a tuple
+operationOf : Performed → ℕ → Action → Operation
+unfolding attributesOf
+operationOf p t a =
+    record { place = p .place; action = a; relation = statementOf p .relation; tuple = t; attributes = attributesOf (statementOf p) a }
+
+-- what a statement does to a tuple are the operations of its kind's actions
+onTuple-actions : (p : Performed) (t : ℕ) → onTuple p t ≡ map (operationOf p t) (actionsOf (statementOf p .kind))
+unfolding onTuple actionsOf attributesOf operationOf
+onTuple-actions p t = go (statementOf p .kind)
+  where
+    ofKind : StatementKind → Performed
+    ofKind c =
+        let s = statementOf p in
+        record {
+          place = p .place;
+          occurrence =
+              record {
+                statement = record { id = s .id; kind = c; relation = s .relation; reads = s .reads; writes = s .writes; tests = s .tests };
+                path = p .occurrence .path;
+              };
+          tuples = p .tuples;
+        }
+
+    go : (c : StatementKind) → onTuple (ofKind c) t ≡ map (operationOf (ofKind c) t) (actionsOf c)
+    go Is = refl
+    go Ks = refl
+    go Ps = refl
+    go Ku = refl
+    go Pu = refl
+    go Kd = refl
+    go Pd = refl
+
+-- the kinds that have an action
+doneBy : Action → StatementKind → Bool
+doneBy read k = hasReads k
+doneBy write k = updates k
+doneBy insert k = inserts k
+doneBy delete k = deletes k
+doneBy predicateRead k = false
+doneBy commit k = false
+
+-- each action of a kind is one that the kind has
+action-done : (k : StatementKind) {a : Action} → List·Memᴰ a (actionsOf k) → doneBy a k ≡ true
+unfolding actionsOf doneBy
+action-done k m = all-true (λ a. doneBy a k) (every-kind (λ k. all (λ a. doneBy a k) (actionsOf k)) refl k) m
 
 module _ (p : Performed) (t : ℕ) (mem : List·Memᴰ t (p .tuples)) where
-  one : (a : Action) (x : ℕ) (k : ℕ) {o : Operation} → getElem? (act p t a x ∷ []) k ≡ some o → Does p (act p t a x) → Belongs p o
-  one a x zero e d = subst (Belongs p) (some-injective e) (record { place = refl; relation = refl; does = d })
-  one a x (suc k) e d = let z : _≡_ {A = ℕ} 0 1 = cc in absurd (omega arith)
+  operation-does : (a : Action) → doneBy a (statementOf p .kind) ≡ true → Does p (operationOf p t a)
+  unfolding doneBy attributesOf operationOf
+  operation-does read h = does-read refl h refl mem
+  operation-does write h = does-write refl h refl mem
+  operation-does insert h = does-insert refl h refl mem
+  operation-does delete h = does-delete refl h refl mem
+  operation-does predicateRead h = absurd (true-false h refl)
+  operation-does commit h = absurd (true-false h refl)
 
   -- each operation on a tuple belongs to its statement
-  acts-belong : (c : StatementKind) → statementOf p .kind ≡ c → (k : ℕ) {o : Operation} → getElem? (acts p t c) k ≡ some o → Belongs p o
-  unfolding acts
-  acts-belong Is c k h = one insert everyAttribute k h (does-insert refl (rw c) refl mem)
-  acts-belong Ks c k h = one read (R (statementOf p)) k h (does-read refl (rw c) refl mem)
-  acts-belong Ps c k h = one read (R (statementOf p)) k h (does-read refl (rw c) refl mem)
-  acts-belong Ku c zero h = one read (R (statementOf p)) 0 h (does-read refl (rw c) refl mem)
-  acts-belong Ku c (suc k) h = one write (W (statementOf p)) k h (does-write refl (rw c) refl mem)
-  acts-belong Pu c zero h = one read (R (statementOf p)) 0 h (does-read refl (rw c) refl mem)
-  acts-belong Pu c (suc k) h = one write (W (statementOf p)) k h (does-write refl (rw c) refl mem)
-  acts-belong Kd c k h = one delete everyAttribute k h (does-delete refl (rw c) refl mem)
-  acts-belong Pd c k h = one delete everyAttribute k h (does-delete refl (rw c) refl mem)
-
   onTuple-belongs : (k : ℕ) {o : Operation} → getElem? (onTuple p t) k ≡ some o → Belongs p o
+  unfolding operationOf
   onTuple-belongs k {o} h =
-      acts-belong (statementOf p .kind) refl k (subst (λ (l : List Operation). getElem? l k ≡ some o) (onTuple-acts p t (statementOf p .kind) refl) h)
+      let actions = actionsOf (statementOf p .kind) in
+      let m = getElem?-of-map (operationOf p t) actions k (ap (λ (l : List Operation). getElem? l k) (sym (onTuple-actions p t)) ∙ h) in
+      let does = operation-does (m .0) (action-done (statementOf p .kind) (getElem?-member actions k (m .1))) in
+      subst (Belongs p) (m .2) (record { place = refl; relation = refl; does = does })
 
 -- each operation of a statement on its tuples belongs to it
 tuples-belong : (p : Performed) (ts : List ℕ) → ((t : ℕ) → List·Memᴰ t ts → List·Memᴰ t (p .tuples)) → (k : ℕ) {o : Operation}
@@ -156,17 +194,26 @@ pub record Followed (o following : Operation) : Type 0 where
   pub relation : following .relation ≡ o .relation
   pub tuple : following .tuple ≡ o .tuple
 
+-- an update reads and writes
+update-actions : (k : StatementKind) → updates k ≡ true → actionsOf k ≡ read ∷ write ∷ []
+unfolding actionsOf
+update-actions k u =
+    rw (u, kind-implies updates hasReads refl k u, kinds-apart updates inserts refl k u, kinds-apart updates deletes refl k u) refl
+
 -- in what an update does to a tuple the write stands after the read
-acts-follow : (p : Performed) (t : ℕ) (c : StatementKind) → updates c ≡ true → (k : ℕ) {o : Operation} → getElem? (acts p t c) k ≡ some o
-    → o .action ≡ read → (o′ : Operation) × (getElem? (acts p t c) (suc k) ≡ some o′) × Followed o o′
-unfolding acts
-acts-follow p t c u = go c u
+update-on-tuple : (p : Performed) (t : ℕ) (k : ℕ) {o : Operation} → updates (statementOf p .kind) ≡ true → getElem? (onTuple p t) k ≡ some o
+    → o .action ≡ read → (o′ : Operation) × (getElem? (onTuple p t) (suc k) ≡ some o′) × Followed o o′
+unfolding operationOf
+update-on-tuple p t k {o} u =
+    subst
+    (λ (l : List Operation). getElem? l k ≡ some o → o .action ≡ read → (o′ : Operation) × (getElem? l (suc k) ≡ some o′) × Followed o o′)
+    (sym (onTuple-actions p t ∙ ap (map (operationOf p t)) (update-actions (statementOf p .kind) u))) (pair k)
   where
-    pair : (k : ℕ) {o : Operation} → getElem? (acts p t Ku) k ≡ some o → o .action ≡ read
-        → (o′ : Operation) × (getElem? (acts p t Ku) (suc k) ≡ some o′) × Followed o o′
+    pair : (k : ℕ) → getElem? (map (operationOf p t) (read ∷ write ∷ [])) k ≡ some o → o .action ≡ read
+        → (o′ : Operation) × (getElem? (map (operationOf p t) (read ∷ write ∷ [])) (suc k) ≡ some o′) × Followed o o′
     pair zero e r =
         let q = some-injective e in (
-          act p t write (W (statementOf p)),
+          operationOf p t write,
           refl,
           record {
             writes = refl;
@@ -178,23 +225,6 @@ acts-follow p t c u = go c u
     pair (suc zero) e r =
         let q : write ≡ read = ap (λ (o : Operation). o .action) (some-injective e) ∙ r in let z : _≡_ {A = ℕ} 0 1 = cc in absurd (omega arith)
     pair (suc (suc k)) e r = let z : _≡_ {A = ℕ} 0 1 = cc in absurd (omega arith)
-
-    go : (c : StatementKind) → updates c ≡ true → (k : ℕ) {o : Operation} → getElem? (acts p t c) k ≡ some o
-        → o .action ≡ read → (o′ : Operation) × (getElem? (acts p t c) (suc k) ≡ some o′) × Followed o o′
-    go Ku u k e r = pair k e r
-    go Pu u k e r = pair k e r
-    go Is u k e r = let z : _≡_ {A = ℕ} 0 1 = cc in absurd (omega arith)
-    go Ks u k e r = let z : _≡_ {A = ℕ} 0 1 = cc in absurd (omega arith)
-    go Ps u k e r = let z : _≡_ {A = ℕ} 0 1 = cc in absurd (omega arith)
-    go Kd u k e r = let z : _≡_ {A = ℕ} 0 1 = cc in absurd (omega arith)
-    go Pd u k e r = let z : _≡_ {A = ℕ} 0 1 = cc in absurd (omega arith)
-
-update-on-tuple : (p : Performed) (t : ℕ) (k : ℕ) {o : Operation} → updates (statementOf p .kind) ≡ true → getElem? (onTuple p t) k ≡ some o
-    → o .action ≡ read → (o′ : Operation) × (getElem? (onTuple p t) (suc k) ≡ some o′) × Followed o o′
-update-on-tuple p t k {o} u =
-    subst
-    (λ (l : List Operation). getElem? l k ≡ some o → o .action ≡ read → (o′ : Operation) × (getElem? l (suc k) ≡ some o′) × Followed o o′)
-    (sym (onTuple-acts p t (statementOf p .kind) refl)) (acts-follow p t (statementOf p .kind) u k)
 
 -- the same among all operations of a statement
 update-follows : (p : Performed) (k : ℕ) {o : Operation} → updates (statementOf p .kind) ≡ true → getElem? (operationsOf p) k ≡ some o
@@ -363,24 +393,25 @@ module _ (p : Performed) (t : ℕ) (tuples : p .tuples ≡ t ∷ []) where
     subst (λ (l : List ℕ). List·Memᴰ (o .tuple) l) (sym tuples) (List·Memᴰ·head q),
   )
 
-  shielding : (c : StatementKind) → statementOf p .kind ≡ c → shields c ≡ true → Writes
-  unfolding acts
-  shielding Is c h = writing 0 _ (rw c) (ap (λ (l : List Operation). getElem? l 0) (onTuple-acts p t Is c)) refl refl
-  shielding Ku c h = writing 1 _ (rw c) (ap (λ (l : List Operation). getElem? l 1) (onTuple-acts p t Ku c)) refl refl
-  shielding Kd c h = writing 0 _ (rw c) (ap (λ (l : List Operation). getElem? l 0) (onTuple-acts p t Kd c)) refl refl
-  shielding Ks c h = let z : _≡_ {A = ℕ} 0 1 = cc in absurd (omega arith)
-  shielding Ps c h = let z : _≡_ {A = ℕ} 0 1 = cc in absurd (omega arith)
-  shielding Pu c h = let z : _≡_ {A = ℕ} 0 1 = cc in absurd (omega arith)
-  shielding Pd c h = let z : _≡_ {A = ℕ} 0 1 = cc in absurd (omega arith)
+  shielding : shields (statementOf p .kind) ≡ true → Writes
+  unfolding actionsOf operationOf
+  shielding h =
+      let k = statementOf p .kind in
+      let a = any-true isWrite (actionsOf k) (kind-implies shields (λ k. any isWrite (actionsOf k)) refl k h) in
+      let i = member-getElem? (a .1) in
+      writing (i .0) (operationOf p t (a .0)) (kinds-apart shields hasTests refl k h)
+      (ap (λ (l : List Operation). getElem? l (i .0)) (onTuple-actions p t) ∙ getElem?-map-some (operationOf p t) (actionsOf k) (i .0) (i .1))
+      (a .2) refl
 
-one-tuple : (c : StatementKind) (a : ℕ) (l : List ℕ) → shields c ≡ true → chosen c a l ≡ a ∷ []
-one-tuple Is a l h = refl
-one-tuple Ku a l h = refl
-one-tuple Kd a l h = refl
-one-tuple Ks a l h = refl
-one-tuple Ps a l h = let z : _≡_ {A = ℕ} 0 1 = cc in absurd (omega arith)
-one-tuple Pu a l h = let z : _≡_ {A = ℕ} 0 1 = cc in absurd (omega arith)
-one-tuple Pd a l h = let z : _≡_ {A = ℕ} 0 1 = cc in absurd (omega arith)
+-- a statement without a predicate has one tuple
+one-tuple : (c : StatementKind) (a : ℕ) (l : List ℕ) → chosen c a l ≡ cond (hasTests c) l (a ∷ [])
+one-tuple Is a l = refl
+one-tuple Ks a l = refl
+one-tuple Ps a l = refl
+one-tuple Ku a l = refl
+one-tuple Pu a l = refl
+one-tuple Kd a l = refl
+one-tuple Pd a l = refl
 
 pub shield-writes : (x : Transaction) (j : ℕ) {p : Performed} → getElem? (performed x) j ≡ some p → shields (statementOf p .kind) ≡ true
     → (k : ℕ) × (o : Operation) × (getElem? (operations x) k ≡ some o) × (o .place ≡ j) × (isWrite (o .action) ≡ true)
@@ -388,8 +419,10 @@ pub shield-writes : (x : Transaction) (j : ℕ) {p : Performed} → getElem? (pe
 unfolding operations Writes
 shield-writes x j {p} e sh =
     let t = x .tuple (p .place) in
-    let tuples : p .tuples ≡ t ∷ [] = performed-tuples x j e ∙ one-tuple (statementOf p .kind) t (x .tuples (p .place)) sh in
-    let w = shielding p t tuples (statementOf p .kind) refl sh in
+    let tuples : p .tuples ≡ t ∷ [] =
+    performed-tuples x j e ∙ one-tuple (statementOf p .kind) t (x .tuples (p .place))
+    ∙ ap (λ (b : Bool). cond b (x .tuples (p .place)) (t ∷ [])) (kinds-apart shields hasTests refl (statementOf p .kind) sh) in
+    let w = shielding p t tuples sh in
     let c = chunk-position operationsOf (performed x) j (w .0) e (w .2) in
     let b = operation-belongs p (w .0) (w .2) in (
       c .0,
