@@ -58,9 +58,9 @@ pub fn verdict_of(w: Workload, area: &mut [u64]) -> Verdict
         } => {
             let n = (places * 8) as usize;
             let p = walk_pick::pick_edges(&table[..n]);
-            let ahead = p.ahead;
-            let behind = p.behind;
-            let found = walk_find::find_walk(&ahead, &behind, area);
+            let forwards = p.forwards;
+            let backs = p.backs;
+            let found = walk_find::find_walk(&forwards, &backs, area);
             return judged(programs, nodes, p.edges, p.back, found);
         }
     }

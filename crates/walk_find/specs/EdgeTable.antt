@@ -21,31 +21,31 @@ use Rattle.walk_find.specs.declared.WalkFound.{WalkFound}
 -- ---- what the words of the two tables stand for; the word for the edge from u to v stands at u * 64 + v
 
 -- a forward edge: 0 for none, else place left, place entered (ten bits each) and from 2 ^ 21 on a loose place left
-unfoldable pub aheadPick : ℕ → Option Pick
-aheadPick x = cond (eqb x 0) none (some (record { leaves = x % 1024; enters = x / 1024 % 1024; loose = leb 2097152 x }))
+unfoldable pub forwardPick : ℕ → Option Pick
+forwardPick x = cond (eqb x 0) none (some (record { leaves = x % 1024; enters = x / 1024 % 1024; loose = leb 2097152 x }))
 
 -- a back edge: 0 for none, else place entered and 1023 less the place left (ten bits each)
-unfoldable pub behindPick : ℕ → Option Pick
-behindPick y = cond (eqb y 0) none (some (record { leaves = 1023 - y / 1024 % 1024; enters = y % 1024; loose = true }))
+unfoldable pub backPick : ℕ → Option Pick
+backPick y = cond (eqb y 0) none (some (record { leaves = 1023 - y / 1024 % 1024; enters = y % 1024; loose = true }))
 
 abbrev pub entry : List ℕ → ℕ → ℕ → ℕ
 entry table u v = getD table (u * 64 + v) 0
 
-abbrev pub aheadIn : List ℕ → Picks
-aheadIn ahead u v = aheadPick (entry ahead u v)
+abbrev pub forwardsIn : List ℕ → Picks
+forwardsIn forwards u v = forwardPick (entry forwards u v)
 
-abbrev pub behindIn : List ℕ → Picks
-behindIn behind v w = behindPick (entry behind v w)
+abbrev pub backsIn : List ℕ → Picks
+backsIn backs v w = backPick (entry backs v w)
 
 -- ---- words and lists filled one by one
 
-unfoldable pub withBit : ℕ → Bool → ℕ → ℕ
-withBit word test k = cond test (bitOr word (2 ^ k)) word
+unfoldable pub withNode : ℕ → Bool → ℕ → ℕ
+withNode word test k = cond test (bitOr word (2 ^ k)) word
 
 -- the word that has the numbers below n that pass the test
 unfoldable pub wordBelow : (ℕ → Bool) → ℕ → ℕ
 wordBelow test zero = 0
-wordBelow test (suc k) = withBit (wordBelow test k) (test k) k
+wordBelow test (suc k) = withNode (wordBelow test k) (test k) k
 
 -- 64 words, the first of them as given
 unfoldable pub listBelow : (ℕ → ℕ) → ℕ → List ℕ
@@ -60,14 +60,14 @@ firstFrom test (suc left) x = cond (test x) x (firstFrom test left (suc x))
 -- ---- which nodes reach which
 
 abbrev pub joinedBit : List ℕ → ℕ → ℕ → Bool
-joinedBit ahead u v = not (eqb (entry ahead u v) 0)
+joinedBit forwards u v = not (eqb (entry forwards u v) 0)
 
 -- the nodes to which a forward edge goes from u
 unfoldable pub joinedRow : List ℕ → ℕ → ℕ
-joinedRow ahead u = wordBelow (joinedBit ahead u) 64
+joinedRow forwards u = wordBelow (joinedBit forwards u) 64
 
 unfoldable pub joinedRows : List ℕ → List ℕ
-joinedRows ahead = listBelow (joinedRow ahead) 64
+joinedRows forwards = listBelow (joinedRow forwards) 64
 
 unfoldable pub growsTo : List ℕ → ℕ → ℕ → Bool
 growsTo rows nodes k = has nodes k || meets (getD rows k 0) nodes
@@ -88,31 +88,31 @@ layersTo rows u = listBelow (layer rows u) 64
 
 -- pair x of nodes v, w: the forward edge from u to v and the back edge from v to w are dangerous, and u is reached from w
 unfoldable pub closesAt : List ℕ → List ℕ → ℕ → ℕ → ℕ → Bool
-closesAt ahead behind u reach x =
-    dangerousPicks (aheadIn ahead u (x / 64)) (behindIn behind (x / 64) (x % 64)) && has reach (x % 64)
+closesAt forwards backs u reach x =
+    dangerousPicks (forwardsIn forwards u (x / 64)) (backsIn backs (x / 64) (x % 64)) && has reach (x % 64)
 
 -- node w closes a walk along the forward edge of word e to v
 unfoldable pub closesAlong : List ℕ → ℕ → ℕ → ℕ → ℕ → Bool
-closesAlong behind e v reach w = dangerousPicks (aheadPick e) (behindIn behind v w) && has reach w
+closesAlong backs e v reach w = dangerousPicks (forwardPick e) (backsIn backs v w) && has reach w
 
 -- the first such node, or 64
 unfoldable pub closingNode : List ℕ → ℕ → ℕ → ℕ → ℕ
-closingNode behind e v reach = firstFrom (closesAlong behind e v reach) 64 0
+closingNode backs e v reach = firstFrom (closesAlong backs e v reach) 64 0
 
 -- the first pair that closes, or 4096
 unfoldable pub pairIn : List ℕ → List ℕ → ℕ → ℕ → ℕ
-pairIn ahead behind u reach = firstFrom (closesAt ahead behind u reach) 4096 0
+pairIn forwards backs u reach = firstFrom (closesAt forwards backs u reach) 4096 0
 
 -- the first such pair for u, or 4096
 unfoldable pub pairFor : List ℕ → List ℕ → List ℕ → ℕ → ℕ
-pairFor ahead behind rows u = pairIn ahead behind u (getD (layersTo rows u) 63 0)
+pairFor forwards backs rows u = pairIn forwards backs u (getD (layersTo rows u) 63 0)
 
 abbrev pub hasPair : List ℕ → List ℕ → List ℕ → ℕ → Bool
-hasPair ahead behind rows u = ltb (pairFor ahead behind rows u) 4096
+hasPair forwards backs rows u = ltb (pairFor forwards backs rows u) 4096
 
 -- the first node with such a pair, or 64
 unfoldable pub nodeIn : List ℕ → List ℕ → List ℕ → ℕ
-nodeIn ahead behind rows = firstFrom (hasPair ahead behind rows) 64 0
+nodeIn forwards backs rows = firstFrom (hasPair forwards backs rows) 64 0
 
 -- ---- the walk
 
@@ -120,33 +120,33 @@ nodeIn ahead behind rows = firstFrom (hasPair ahead behind rows) 64 0
 unfoldable pub lowest : ℕ → ℕ
 lowest word = trailingZeros 64 word % 64
 
-abbrev pub aheadStep : ℕ → ℕ → Step
-aheadStep m x = record { node = m; leaves = x % 1024; enters = x / 1024 % 1024; flow = Flow.forward }
+abbrev pub forwardStep : ℕ → ℕ → Step
+forwardStep m x = record { node = m; leaves = x % 1024; enters = x / 1024 % 1024; flow = Flow.forward }
 
-abbrev pub behindStep : ℕ → ℕ → Step
-behindStep m y = record { node = m; leaves = 1023 - y / 1024 % 1024; enters = y % 1024; flow = Flow.back }
+abbrev pub backStep : ℕ → ℕ → Step
+backStep m y = record { node = m; leaves = 1023 - y / 1024 % 1024; enters = y % 1024; flow = Flow.back }
 
 -- a way of at most d steps from w to the node that the layers belong to
 unfoldable pub wayOn : List ℕ → List ℕ → List ℕ → ℕ → ℕ → List Step
-wayOn ahead rows layers zero w = []
-wayOn ahead rows layers (suc d) w =
+wayOn forwards rows layers zero w = []
+wayOn forwards rows layers (suc d) w =
     cond (has (getD layers d 0) w)
-    (wayOn ahead rows layers d w)
-    (let x = lowest (bitAnd (getD rows w 0) (getD layers d 0)) in aheadStep w (entry ahead w x) ∷ wayOn ahead rows layers d x)
+    (wayOn forwards rows layers d w)
+    (let x = lowest (bitAnd (getD rows w 0) (getD layers d 0)) in forwardStep w (entry forwards w x) ∷ wayOn forwards rows layers d x)
 
 unfoldable pub walkOn : List ℕ → List ℕ → List ℕ → ℕ → ℕ → List Step
-walkOn ahead behind rows u x =
-    aheadStep u (entry ahead u (x / 64)) ∷ behindStep (x / 64) (entry behind (x / 64) (x % 64))
-    ∷ wayOn ahead rows (layersTo rows u) 63 (x % 64)
+walkOn forwards backs rows u x =
+    forwardStep u (entry forwards u (x / 64)) ∷ backStep (x / 64) (entry backs (x / 64) (x % 64))
+    ∷ wayOn forwards rows (layersTo rows u) 63 (x % 64)
 
 -- ---- what is promised
 
 -- the walk of the tables: none where no dangerous pair can be closed
 unfoldable pub tableWalk : List ℕ → List ℕ → List Step
-tableWalk ahead behind =
-    let u = nodeIn ahead behind (joinedRows ahead) in
-    let x = pairFor ahead behind (joinedRows ahead) u in
-    cond (ltb u 64) (walkAt (aheadIn ahead) (behindIn behind) 64 u (x / 64) (x % 64)) []
+tableWalk forwards backs =
+    let u = nodeIn forwards backs (joinedRows forwards) in
+    let x = pairFor forwards backs (joinedRows forwards) u in
+    cond (ltb u 64) (walkAt (forwardsIn forwards) (backsIn backs) 64 u (x / 64) (x % 64)) []
 
 -- ---- the area as it is written, step by step
 
@@ -172,10 +172,10 @@ writing area node steps = record { area = area; node = node; steps = steps }
 
 -- a step towards the nodes, unless the node is one of them
 unfoldable pub goOn : List ℕ → List ℕ → ℕ → List ℕ → ℕ → ℕ → Writing
-goOn ahead rows nodes area m k =
+goOn forwards rows nodes area m k =
     cond (has nodes m)
     (writing area m k)
-    (let x = lowest (bitAnd (getD rows m 0) nodes) in writing (putStep area k (aheadStep m (entry ahead m x))) x (k + 1))
+    (let x = lowest (bitAnd (getD rows m 0) nodes) in writing (putStep area k (forwardStep m (entry forwards m x))) x (k + 1))
 
 -- the steps are written from place k on, and are counted
 pub record Written (steps : List Step) (k : ℕ) (before after : List ℕ) (r : ℕ) : Type 0 where
@@ -183,10 +183,10 @@ pub record Written (steps : List Step) (k : ℕ) (before after : List ℕ) (r : 
   pub count : r ≡ k + length steps
 
 -- a graph with at most 64 nodes, whose edges the tables hold
-pub record Held (ahead behind : List ℕ) (g : Graph) : Type 0 where
+pub record Held (forwards backs : List ℕ) (g : Graph) : Type 0 where
   pub isRegular : Regular g
   pub small : g .size ≤ 64
-  pub picks : Picked g 64 (aheadIn ahead) (behindIn behind)
+  pub picks : Picked g 64 (forwardsIn forwards) (backsIn backs)
 
 -- N3: the refusal's number, where the answer is one
 abbrev pub refusalIn : WalkFound → Option ℕ
@@ -203,20 +203,20 @@ stepsIn (WalkFound.Shown steps) = some steps
 -- what is answered, the refusal and the steps, and what the area holds afterwards. S20: under 65 steps it is too short, and stays as it was.
 -- Else it stays as it was where no graph whose edges the tables hold has a dangerous closed walk; or the walk of the tables stands in it, which is
 -- dangerous in each such graph and has at most 65 steps.
-pub data Answered (ahead behind before : List ℕ) : Option ℕ → Option ℕ → List ℕ → Type 0 where
-  no-room : shortForWalk (length before / 4) ≡ true → Answered ahead behind before (some 20) none before
-  no-walk : shortForWalk (length before / 4) ≡ false → tableWalk ahead behind ≡ []
-      → ((g : Graph) → Held ahead behind g → DangerousWalk g → ⊥) → Answered ahead behind before none none before
+pub data WalkAnswered (forwards backs before : List ℕ) : Option ℕ → Option ℕ → List ℕ → Type 0 where
+  no-room : shortForWalk (length before / 4) ≡ true → WalkAnswered forwards backs before (some 20) none before
+  no-walk : shortForWalk (length before / 4) ≡ false → tableWalk forwards backs ≡ []
+      → ((g : Graph) → Held forwards backs g → DangerousWalk g → ⊥) → WalkAnswered forwards backs before none none before
   shown : shortForWalk (length before / 4) ≡ false
-      → ((g : Graph) → Held ahead behind g → isDangerous g (tableWalk ahead behind) ≡ true)
-      → 0 < length (tableWalk ahead behind) → length (tableWalk ahead behind) ≤ 65
-      → Answered ahead behind before none (some (length (tableWalk ahead behind))) (shownIn (tableWalk ahead behind) before)
+      → ((g : Graph) → Held forwards backs g → isDangerous g (tableWalk forwards backs) ≡ true)
+      → 0 < length (tableWalk forwards backs) → length (tableWalk forwards backs) ≤ 65
+      → WalkAnswered forwards backs before none (some (length (tableWalk forwards backs))) (shownIn (tableWalk forwards backs) before)
 
 -- what holds in each turn of the writing of a way, after two steps
-pub record WayTurn (ahead rows layers : List ℕ) (way : List Step) (before area : List ℕ) (node steps d : ℕ) : Type 0 where
+pub record WayTurn (forwards rows layers : List ℕ) (way : List Step) (before area : List ℕ) (node steps d : ℕ) : Type 0 where
   pub few : d ≤ 63
   pub inside : node < 64
   pub room : steps + d ≤ 65
   pub long : length area ≡ length before
-  pub written : putSteps area steps (wayOn ahead rows layers d node) ≡ putSteps before 2 way
-  pub counted : steps + length (wayOn ahead rows layers d node) ≡ 2 + length way
+  pub written : putSteps area steps (wayOn forwards rows layers d node) ≡ putSteps before 2 way
+  pub counted : steps + length (wayOn forwards rows layers d node) ≡ 2 + length way

@@ -14,19 +14,19 @@ use borrow.Author.Tests.{eqb-true, eqb-false, eq-eqb, ne-eqb}
 use Rattle.spec_base.specs.Basic.{first, numbers, numbersFrom, has}
 use Rattle.law_base.specs.BoolLaws.{decide, true-false}
 use Rattle.law_base.specs.SetLaws.{has-first, has-later, has-empty, has-bitOr, has-bit}
-use Rattle.walk_find.specs.EdgeTable.{withBit, wordBelow, listBelow}
+use Rattle.walk_find.specs.EdgeTable.{withNode, wordBelow, listBelow}
 
 or-none : (b : Bool) → b || false ≡ b
 or-none true = refl
 or-none false = refl
 
-with-same : (word : ℕ) (b : Bool) (j : ℕ) → has (withBit word b j) j ≡ has word j || b
-unfolding withBit
+with-same : (word : ℕ) (b : Bool) (j : ℕ) → has (withNode word b j) j ≡ has word j || b
+unfolding withNode
 with-same word true j = has-bitOr word (2 ^ j) j ∙ ap (λ (c : Bool). has word j || c) (has-bit j j ∙ eq-eqb j j refl)
 with-same word false j = sym (or-none (has word j))
 
-with-other : (word : ℕ) (b : Bool) (j k : ℕ) → (k ≡ j → ⊥) → has (withBit word b j) k ≡ has word k
-unfolding withBit
+with-other : (word : ℕ) (b : Bool) (j k : ℕ) → (k ≡ j → ⊥) → has (withNode word b j) k ≡ has word k
+unfolding withNode
 with-other word true j k h =
     has-bitOr word (2 ^ j) k ∙ ap (λ (c : Bool). has word k || c) (has-bit j k ∙ ne-eqb k j h) ∙ or-none (has word k)
 with-other word false j k h = refl
@@ -44,10 +44,10 @@ module _ (test : ℕ → Bool) where
   word-in zero k h = absurd (not-suc-le-zero h)
   word-in (suc n) k h = go (word-in n k) (decide (eqb k n))
     where
-      go : (k < n → has (wordBelow test n) k ≡ test k) → (eqb k n ≡ true) ⊎ (eqb k n ≡ false) → has (withBit (wordBelow test n) (test n) n) k ≡ test k
+      go : (k < n → has (wordBelow test n) k ≡ test k) → (eqb k n ≡ true) ⊎ (eqb k n ≡ false) → has (withNode (wordBelow test n) (test n) n) k ≡ test k
       go rest (inl e) =
           let same : n ≡ k = sym (eqb-true k n e) in
-          ap (λ (i : ℕ). has (withBit (wordBelow test n) (test n) n) i) (sym same) ∙ with-same (wordBelow test n) (test n) n
+          ap (λ (i : ℕ). has (withNode (wordBelow test n) (test n) n) i) (sym same) ∙ with-same (wordBelow test n) (test n) n
           ∙ ap (λ (c : Bool). c || test n) (word-out n n (omega arith)) ∙ ap test same
       go rest (inr e) =
           let apart = eqb-false k n e in with-other (wordBelow test n) (test n) n k apart ∙ rest (omega arith)

@@ -15,40 +15,40 @@ use Rattle.law_base.specs.BoolLaws.{and-left}
 use Rattle.spec_graph.specs.Walk.{Step}
 use Rattle.walk_laws.specs.Pick.{dangerousPicks}
 use Rattle.walk_find.specs.Turns.{first-none, first-end, first-block}
-use Rattle.walk_find.specs.EdgeTable.{aheadPick, behindPick, entry, behindIn, firstFrom, closesAt, closesAlong, closingNode, pairIn}
-use Rattle.walk_find.specs.EdgeTable.{pairFor, hasPair, layersTo, lowest, aheadStep}
+use Rattle.walk_find.specs.EdgeTable.{forwardPick, backPick, entry, backsIn, firstFrom, closesAt, closesAlong, closingNode, pairIn}
+use Rattle.walk_find.specs.EdgeTable.{pairFor, hasPair, layersTo, lowest, forwardStep}
 use Rattle.walk_find.specs.EdgeTable.{wayOn, putWords, putStep, putSteps, Writing, writing, goOn, Written, WayTurn}
 
 -- one bit, shifted
 pub bit-shifted : (k : ℕ) → k < 64 → 1 * 2 ^ k % 18446744073709551616 ≡ 2 ^ k
 bit-shifted k h = rw one-mul (mod-eq-of-lt (pow-lt h))
 
-module _ (behind : List ℕ) (e v reach w : ℕ) where
+module _ (backs : List ℕ) (e v reach w : ℕ) where
   -- what is dangerous closes where it is reached
-  pub closes-reached : {c : ℕ} {t r : Bool} → c ≡ getD behind (v * 64 + w) 0 → t ≡ dangerousPicks (aheadPick e) (behindPick c) → t ≡ true
-      → r ≡ has reach w → r ≡ closesAlong behind e v reach w
+  pub closes-reached : {c : ℕ} {t r : Bool} → c ≡ getD backs (v * 64 + w) 0 → t ≡ dangerousPicks (forwardPick e) (backPick c) → t ≡ true
+      → r ≡ has reach w → r ≡ closesAlong backs e v reach w
   unfolding closesAlong
   closes-reached q d h l =
-      let same : dangerousPicks (aheadPick e) (behindIn behind v w) ≡ true = rw (← q) (sym d ∙ h) in
+      let same : dangerousPicks (forwardPick e) (backsIn backs v w) ≡ true = rw (← q) (sym d ∙ h) in
       l ∙ sym (ap (λ (b : Bool). b && has reach w) same)
 
   -- what is not dangerous does not
-  pub closes-not : {c : ℕ} {t : Bool} → c ≡ getD behind (v * 64 + w) 0 → t ≡ dangerousPicks (aheadPick e) (behindPick c) → t ≡ false
-      → false ≡ closesAlong behind e v reach w
+  pub closes-not : {c : ℕ} {t : Bool} → c ≡ getD backs (v * 64 + w) 0 → t ≡ dangerousPicks (forwardPick e) (backPick c) → t ≡ false
+      → false ≡ closesAlong backs e v reach w
   unfolding closesAlong
   closes-not q d h =
-      let same : dangerousPicks (aheadPick e) (behindIn behind v w) ≡ false = rw (← q) (sym d ∙ h) in
+      let same : dangerousPicks (forwardPick e) (backsIn backs v w) ≡ false = rw (← q) (sym d ∙ h) in
       sym (and-left (has reach w) same)
 
 -- no node closes a walk along an edge that is not there
-pub closing-none : (behind : List ℕ) (e v reach : ℕ) → e ≡ 0 → 64 ≡ closingNode behind e v reach
-unfolding closingNode closesAlong aheadPick
-closing-none behind e v reach z = sym (first-none (closesAlong behind e v reach) 64 0 (λ w. rw (eq-eqb e 0 z) refl))
+pub closing-none : (backs : List ℕ) (e v reach : ℕ) → e ≡ 0 → 64 ≡ closingNode backs e v reach
+unfolding closingNode closesAlong forwardPick
+closing-none backs e v reach z = sym (first-none (closesAlong backs e v reach) 64 0 (λ w. rw (eq-eqb e 0 z) refl))
 
-module _ (ahead behind : List ℕ) (u reach v : ℕ) where
+module _ (forwards backs : List ℕ) (u reach v : ℕ) where
   -- the pairs of v, one after the other
-  block : {e : ℕ} → e ≡ getD ahead (u * 64 + v) 0 → (w : ℕ) → w < 64
-      → closesAt ahead behind u reach (v * 64 + w) ≡ closesAlong behind e v reach (0 + w)
+  block : {e : ℕ} → e ≡ getD forwards (u * 64 + v) 0 → (w : ℕ) → w < 64
+      → closesAt forwards backs u reach (v * 64 + w) ≡ closesAlong backs e v reach (0 + w)
   unfolding closesAt closesAlong
   block p w h =
       let left : (v * 64 + w) / 64 ≡ v = omega arith in
@@ -56,31 +56,31 @@ module _ (ahead behind : List ℕ) (u reach v : ℕ) where
       let all : 0 + w ≡ w = omega arith in rw (left, right, all, p) refl
 
   abbrev Going : Type 0
-  Going = firstFrom (closesAt ahead behind u reach) (4096 - v * 64) (v * 64) ≡ firstFrom (closesAt ahead behind u reach) 4096 0
+  Going = firstFrom (closesAt forwards backs u reach) (4096 - v * 64) (v * 64) ≡ firstFrom (closesAt forwards backs u reach) 4096 0
 
   -- the search for a pair stops at the first node that closes a walk along the edge to v
-  pub pair-stop : {e w : ℕ} → Going → v < 64 → e ≡ getD ahead (u * 64 + v) 0 → w ≡ closingNode behind e v reach → w < 64
-      → v * 64 + w ≡ pairIn ahead behind u reach
+  pub pair-stop : {e w : ℕ} → Going → v < 64 → e ≡ getD forwards (u * 64 + v) 0 → w ≡ closingNode backs e v reach → w < 64
+      → v * 64 + w ≡ pairIn forwards backs u reach
   unfolding pairIn closingNode
   pair-stop {e} {w} going h p q l =
-      let both = first-block (closesAt ahead behind u reach) (closesAlong behind e v reach) 64 (4096 - v * 64) (v * 64) 0 (omega arith) (block p) in
+      let both = first-block (closesAt forwards backs u reach) (closesAlong backs e v reach) 64 (4096 - v * 64) (v * 64) 0 (omega arith) (block p) in
       let found = both .0 (omega arith) in
-      let same : v * 64 + w ≡ firstFrom (closesAt ahead behind u reach) (4096 - v * 64) (v * 64) = omega arith in same ∙ going
+      let same : v * 64 + w ≡ firstFrom (closesAt forwards backs u reach) (4096 - v * 64) (v * 64) = omega arith in same ∙ going
 
   -- and goes on to the next node where none does
-  pub pair-turn : {e w : ℕ} → Going → v < 64 → e ≡ getD ahead (u * 64 + v) 0 → w ≡ closingNode behind e v reach → 64 ≤ w
-      → firstFrom (closesAt ahead behind u reach) (4096 - (v + 1) * 64) ((v + 1) * 64) ≡ firstFrom (closesAt ahead behind u reach) 4096 0
+  pub pair-turn : {e w : ℕ} → Going → v < 64 → e ≡ getD forwards (u * 64 + v) 0 → w ≡ closingNode backs e v reach → 64 ≤ w
+      → firstFrom (closesAt forwards backs u reach) (4096 - (v + 1) * 64) ((v + 1) * 64) ≡ firstFrom (closesAt forwards backs u reach) 4096 0
   unfolding closingNode
   pair-turn {e} {w} going h p q l =
-      let both = first-block (closesAt ahead behind u reach) (closesAlong behind e v reach) 64 (4096 - v * 64) (v * 64) 0 (omega arith) (block p) in
+      let both = first-block (closesAt forwards backs u reach) (closesAlong backs e v reach) 64 (4096 - v * 64) (v * 64) 0 (omega arith) (block p) in
       let fewer : 4096 - (v + 1) * 64 ≡ 4096 - v * 64 - 64 = omega arith in
       let there : (v + 1) * 64 ≡ v * 64 + 64 = omega arith in
-      ap₂ (firstFrom (closesAt ahead behind u reach)) fewer there ∙ sym (both .1 (omega arith)) ∙ going
+      ap₂ (firstFrom (closesAt forwards backs u reach)) fewer there ∙ sym (both .1 (omega arith)) ∙ going
 
   -- and ends after the last node
-  pub pair-end : Going → v ≤ 64 → 64 ≤ v → 4096 ≡ pairIn ahead behind u reach
+  pub pair-end : Going → v ≤ 64 → 64 ≤ v → 4096 ≡ pairIn forwards backs u reach
   unfolding pairIn
-  pair-end going h l = sym (first-end (closesAt ahead behind u reach) 4096 (v * 64) (omega arith) (omega arith)) ∙ going
+  pair-end going h l = sym (first-end (closesAt forwards backs u reach) 4096 (v * 64) (omega arith) (omega arith)) ∙ going
 
 -- the first node of a word is a node
 pub lowest-small : (word : ℕ) → lowest word < 64
@@ -90,29 +90,29 @@ lowest-small word = omega arith
 pub lowest-below : (x word : ℕ) → x ≡ lowest word → x < 64
 lowest-below x word e = let h = lowest-small word in omega arith
 
-module _ (ahead rows : List ℕ) (nodes : ℕ) (area : List ℕ) (m k : ℕ) where
+module _ (forwards rows : List ℕ) (nodes : ℕ) (area : List ℕ) (m k : ℕ) where
   -- a node that is one of the nodes is not left
-  pub go-stays : {t : Bool} → t ≡ has nodes m → t ≡ true → writing area m k ≡ goOn ahead rows nodes area m k
+  pub go-stays : {t : Bool} → t ≡ has nodes m → t ≡ true → writing area m k ≡ goOn forwards rows nodes area m k
   unfolding goOn
   go-stays p h = let there : has nodes m ≡ true = sym p ∙ h in rw there refl
 
   -- another is left along an edge to the first that is
   pub go-along : {t : Bool} {x e : ℕ} {after : List ℕ} → t ≡ has nodes m → t ≡ false → x ≡ lowest (bitAnd (getD rows m 0) nodes)
-      → e ≡ getD ahead (m * 64 + x) 0 → after ≡ putStep area k (aheadStep m e) → writing after x (k + 1) ≡ goOn ahead rows nodes area m k
+      → e ≡ getD forwards (m * 64 + x) 0 → after ≡ putStep area k (forwardStep m e) → writing after x (k + 1) ≡ goOn forwards rows nodes area m k
   unfolding goOn
   go-along p h q e w = let apart : has nodes m ≡ false = sym p ∙ h in rw (apart, w, e, q) refl
 
 -- a pair found is below 4096
-pub pair-passes : (ahead behind rows : List ℕ) (u : ℕ) {p : ℕ} → p ≡ pairFor ahead behind rows u → p < 4096 → hasPair ahead behind rows u ≡ true
-pair-passes ahead behind rows u e h = lt-ltb (pairFor ahead behind rows u) 4096 (rw e at h)
+pub pair-passes : (forwards backs rows : List ℕ) (u : ℕ) {p : ℕ} → p ≡ pairFor forwards backs rows u → p < 4096 → hasPair forwards backs rows u ≡ true
+pair-passes forwards backs rows u e h = lt-ltb (pairFor forwards backs rows u) 4096 (rw e at h)
 
-pub pair-fails : (ahead behind rows : List ℕ) (u : ℕ) {p : ℕ} → p ≡ pairFor ahead behind rows u → 4096 ≤ p → hasPair ahead behind rows u ≡ false
-pair-fails ahead behind rows u e h = le-ltb (pairFor ahead behind rows u) 4096 (rw e at h)
+pub pair-fails : (forwards backs rows : List ℕ) (u : ℕ) {p : ℕ} → p ≡ pairFor forwards backs rows u → 4096 ≤ p → hasPair forwards backs rows u ≡ false
+pair-fails forwards backs rows u e h = le-ltb (pairFor forwards backs rows u) 4096 (rw e at h)
 
-pub pair-layers : (ahead behind rows : List ℕ) (u : ℕ) {r : ℕ} {layers : List ℕ} → layers ≡ layersTo rows u
-    → r ≡ pairIn ahead behind u (getD layers 63 0) → r ≡ pairFor ahead behind rows u
+pub pair-layers : (forwards backs rows : List ℕ) (u : ℕ) {r : ℕ} {layers : List ℕ} → layers ≡ layersTo rows u
+    → r ≡ pairIn forwards backs u (getD layers 63 0) → r ≡ pairFor forwards backs rows u
 unfolding pairFor
-pair-layers ahead behind rows u e h = rw e at h
+pair-layers forwards backs rows u e h = rw e at h
 
 -- a step written leaves the area as long as it was
 pub length-putStep : (area : List ℕ) (k : ℕ) (s : Step) → length (putStep area k s) ≡ length area
@@ -120,21 +120,21 @@ unfolding putStep putWords
 length-putStep area k s = simp length-set
 
 -- a node that is one of the nodes of the layer stays
-pub way-stays : (ahead rows layers : List ℕ) (d m : ℕ) → has (getD layers d 0) m ≡ true → wayOn ahead rows layers (suc d) m ≡ wayOn ahead
+pub way-stays : (forwards rows layers : List ℕ) (d m : ℕ) → has (getD layers d 0) m ≡ true → wayOn forwards rows layers (suc d) m ≡ wayOn forwards
     rows layers d m
 unfolding wayOn
-way-stays ahead rows layers d m e = rw e refl
+way-stays forwards rows layers d m e = rw e refl
 
 -- another is left
-pub way-along : (ahead rows layers : List ℕ) (d m : ℕ) → has (getD layers d 0) m ≡ false
+pub way-along : (forwards rows layers : List ℕ) (d m : ℕ) → has (getD layers d 0) m ≡ false
     → let x = lowest (bitAnd (getD rows m 0) (getD layers d 0)) in
-    wayOn ahead rows layers (suc d) m ≡ aheadStep m (entry ahead m x) ∷ wayOn ahead rows layers d x
+    wayOn forwards rows layers (suc d) m ≡ forwardStep m (entry forwards m x) ∷ wayOn forwards rows layers d x
 unfolding wayOn
-way-along ahead rows layers d m e = rw e refl
+way-along forwards rows layers d m e = rw e refl
 
-pub way-none : (ahead rows layers : List ℕ) (m : ℕ) → wayOn ahead rows layers 0 m ≡ []
+pub way-none : (forwards rows layers : List ℕ) (m : ℕ) → wayOn forwards rows layers 0 m ≡ []
 unfolding wayOn
-way-none ahead rows layers m = refl
+way-none forwards rows layers m = refl
 
 put-none : (area : List ℕ) (k : ℕ) → putSteps area k [] ≡ area
 unfolding putSteps
@@ -144,9 +144,9 @@ pub put-cons : (area : List ℕ) (k : ℕ) (s : Step) (steps : List Step) → pu
 unfolding putSteps
 put-cons area k s steps = rw add-one refl
 
-module _ {ahead rows layers : List ℕ} {way : List Step} {before : List ℕ} where
-  turn-from : (area : List ℕ) (node steps d : ℕ) → WayTurn ahead rows layers way before area node steps (suc d)
-      → let g = goOn ahead rows (getD layers d 0) area node steps in WayTurn ahead rows layers way before (g .area) (g .node) (g .steps) d
+module _ {forwards rows layers : List ℕ} {way : List Step} {before : List ℕ} where
+  turn-from : (area : List ℕ) (node steps d : ℕ) → WayTurn forwards rows layers way before area node steps (suc d)
+      → let g = goOn forwards rows (getD layers d 0) area node steps in WayTurn forwards rows layers way before (g .area) (g .node) (g .steps) d
   unfolding goOn
   turn-from area node steps d t = go (has (getD layers d 0) node) refl
     where
@@ -154,13 +154,13 @@ module _ {ahead rows layers : List ℕ} {way : List Step} {before : List ℕ} wh
       x = lowest (bitAnd (getD rows node 0) (getD layers d 0))
 
       s : Step
-      s = aheadStep node (entry ahead node x)
+      s = forwardStep node (entry forwards node x)
 
       go : (b : Bool) → has (getD layers d 0) node ≡ b
           → let g = cond b (writing area node steps) (writing (putStep area steps s) x (steps + 1)) in
-          WayTurn ahead rows layers way before (g .area) (g .node) (g .steps) d
+          WayTurn forwards rows layers way before (g .area) (g .node) (g .steps) d
       go true e =
-          let same = way-stays ahead rows layers d node e in
+          let same = way-stays forwards rows layers d node e in
           record {
             few = omega (arith, t .few);
             inside = t .inside;
@@ -170,42 +170,42 @@ module _ {ahead rows layers : List ℕ} {way : List Step} {before : List ℕ} wh
             counted = ap (λ (l : List Step). steps + length l) (sym same) ∙ t .counted;
           }
       go false e =
-          let same = way-along ahead rows layers d node e in
-          let counted : steps + length (s ∷ wayOn ahead rows layers d x) ≡ 2 + length way
+          let same = way-along forwards rows layers d node e in
+          let counted : steps + length (s ∷ wayOn forwards rows layers d x) ≡ 2 + length way
           = ap (λ (l : List Step). steps + length l) (sym same) ∙ t .counted in
           record {
             few = omega (arith, t .few);
             inside = lowest-small (bitAnd (getD rows node 0) (getD layers d 0));
             room = omega (arith, t .room);
             long = length-putStep area steps s ∙ t .long;
-            written = sym (put-cons area steps s (wayOn ahead rows layers d x)) ∙ ap (putSteps area steps) (sym same) ∙ t .written;
+            written = sym (put-cons area steps s (wayOn forwards rows layers d x)) ∙ ap (putSteps area steps) (sym same) ∙ t .written;
             counted = omega (arith, counted);
           }
 
   -- a turn
-  pub way-turn : (area : List ℕ) (node steps d : ℕ) → 0 < d → WayTurn ahead rows layers way before area node steps d
-      → {after : List ℕ} {next more : ℕ} → writing after next more ≡ goOn ahead rows (getD layers (d - 1) 0) area node steps
-      → WayTurn ahead rows layers way before after next more (d - 1)
+  pub way-turn : (area : List ℕ) (node steps d : ℕ) → 0 < d → WayTurn forwards rows layers way before area node steps d
+      → {after : List ℕ} {next more : ℕ} → writing after next more ≡ goOn forwards rows (getD layers (d - 1) 0) area node steps
+      → WayTurn forwards rows layers way before after next more (d - 1)
   way-turn area node steps d h t e =
       let same : d ≡ suc (d - 1) = omega arith in
-      subst (λ (g : Writing). WayTurn ahead rows layers way before (g .area) (g .node) (g .steps) (d - 1)) (sym e)
-      (turn-from area node steps (d - 1) (subst (λ (k : ℕ). WayTurn ahead rows layers way before area node steps k) same t))
+      subst (λ (g : Writing). WayTurn forwards rows layers way before (g .area) (g .node) (g .steps) (d - 1)) (sym e)
+      (turn-from area node steps (d - 1) (subst (λ (k : ℕ). WayTurn forwards rows layers way before area node steps k) same t))
 
   -- at the end all of it is written
-  pub way-end : (area : List ℕ) (node steps d : ℕ) → d ≤ 0 → WayTurn ahead rows layers way before area node steps d
+  pub way-end : (area : List ℕ) (node steps d : ℕ) → d ≤ 0 → WayTurn forwards rows layers way before area node steps d
       → Written way 2 before area steps
   way-end area node steps d h t =
       let none : d ≡ 0 = omega arith in
-      let last : WayTurn ahead rows layers way before area node steps 0
-      = subst (λ (k : ℕ). WayTurn ahead rows layers way before area node steps k) none t in
+      let last : WayTurn forwards rows layers way before area node steps 0
+      = subst (λ (k : ℕ). WayTurn forwards rows layers way before area node steps k) none t in
       let counted : steps + length {A = Step} [] ≡ 2 + length way
-      = ap (λ (l : List Step). steps + length l) (sym (way-none ahead rows layers node)) ∙ last .counted in
+      = ap (λ (l : List Step). steps + length l) (sym (way-none forwards rows layers node)) ∙ last .counted in
       record {
-        area = sym (put-none area steps) ∙ ap (putSteps area steps) (sym (way-none ahead rows layers node)) ∙ last .written;
+        area = sym (put-none area steps) ∙ ap (putSteps area steps) (sym (way-none forwards rows layers node)) ∙ last .written;
         count = omega (arith, counted);
       }
 
 -- at the start nothing of the way is written
-pub way-first : {ahead rows layers : List ℕ} {w : ℕ} {before : List ℕ} → w < 64
-    → WayTurn ahead rows layers (wayOn ahead rows layers 63 w) before before w 2 63
+pub way-first : {forwards rows layers : List ℕ} {w : ℕ} {before : List ℕ} → w < 64
+    → WayTurn forwards rows layers (wayOn forwards rows layers 63 w) before before w 2 63
 way-first h = record { few = omega arith; inside = h; room = omega arith; long = refl; written = refl; counted = refl }

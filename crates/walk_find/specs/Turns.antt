@@ -11,13 +11,13 @@ use lib.ListN.{set}
 use lib.Pow.{pow-pos}
 use borrow.Author.Tests.{eqb-true, eqb-false}
 use Rattle.law_base.specs.BoolLaws.{true-false}
-use Rattle.walk_find.specs.EdgeTable.{firstFrom, withBit, wordBelow, listBelow, joinedBit, joinedRow, grown, layer}
+use Rattle.walk_find.specs.EdgeTable.{firstFrom, withNode, wordBelow, listBelow, joinedBit, joinedRow, grown, layer}
 
 -- a turn of a loop that fills a word
-pub word-turn : (test : ℕ → Bool) (k : ℕ) {word more : ℕ} {b : Bool} → word ≡ wordBelow test k → b ≡ test k → more ≡ withBit word b k
+pub word-turn : (test : ℕ → Bool) (k : ℕ) {word more : ℕ} {b : Bool} → word ≡ wordBelow test k → b ≡ test k → more ≡ withNode word b k
     → more ≡ wordBelow test (k + 1)
 unfolding wordBelow
-word-turn test k p q r = rw add-one (r ∙ ap₂ (λ (w : ℕ) (b : Bool). withBit w b k) p q)
+word-turn test k p q r = rw add-one (r ∙ ap₂ (λ (w : ℕ) (b : Bool). withNode w b k) p q)
 
 -- a turn of a loop that fills a list
 pub list-turn : (f : ℕ → ℕ) (k : ℕ) {list more : List ℕ} {x : ℕ} → list ≡ listBelow f k → x ≡ f k → more ≡ set list k x
@@ -30,9 +30,9 @@ pub last-turn : {A : Type 0} (f : ℕ → A) (n k : ℕ) {x : A} → x ≡ f k �
 last-turn f n k e h l = let same : k ≡ n = omega arith in e ∙ ap f same
 
 -- the end of the loop that fills a row
-pub row-end : (ahead : List ℕ) (u : ℕ) {word k : ℕ} → word ≡ wordBelow (joinedBit ahead u) k → k ≤ 64 → 64 ≤ k → word ≡ joinedRow ahead u
+pub row-end : (forwards : List ℕ) (u : ℕ) {word k : ℕ} → word ≡ wordBelow (joinedBit forwards u) k → k ≤ 64 → 64 ≤ k → word ≡ joinedRow forwards u
 unfolding joinedRow
-row-end ahead u {word} {k} e h l = last-turn (wordBelow (joinedBit ahead u)) 64 k e h l
+row-end forwards u {word} {k} e h l = last-turn (wordBelow (joinedBit forwards u)) 64 k e h l
 
 -- the layer after another
 pub layer-turn : (rows : List ℕ) (u d : ℕ) {nodes more : ℕ} → nodes ≡ layer rows u d → more ≡ grown rows nodes → more ≡ layer rows u (d + 1)

@@ -4,7 +4,7 @@ ghost use mathlib.Core.Path.{_≡_};
 ghost use mathlib.Core.Bool.{cond};
 ghost use Prim.Native.Nat.{_≤_, _<_};
 ghost use Rattle.spec_graph.specs.Edge.{loosens};
-ghost use Rattle.walk_find.specs.Coding.{aheadWord, behindWord};
+ghost use Rattle.walk_find.specs.Coding.{forwardWord, backWord};
 ghost use Rattle.walk_pick.specs.Picks.{picksOf};
 ghost use Rattle.walk_pick.specs.PickSteps.{keptAt, hasEntries, tallyOf, PairKept, RowAdded};
 use edge_test::back_stands;
@@ -16,8 +16,8 @@ use spec_text::StatementKind;
 
 // The tables for the detector, the word for nodes u and v at u * 64 + v, and how many edges and back edges there are.
 pub struct PickedEdges {
-    pub ahead: [u64; 4096],
-    pub behind: [u64; 4096],
+    pub forwards: [u64; 4096],
+    pub backs: [u64; 4096],
     pub edges: u64,
     pub back: u64,
 }
@@ -54,9 +54,9 @@ fn has_entries(p: Row) -> bool
 }
 
 // The word of a forward edge from place i to place j, 0 where none stands. The greater the word, the more back edges make a dangerous pair with it.
-fn ahead_word(stands: bool, loose: bool, i: u64, j: u64) -> u64
+fn forward_word(stands: bool, loose: bool, i: u64, j: u64) -> u64
     requires { ⌜ (i < 1024) × (j < 1024) ⌝ }
-    ensures { λ r. ⌜ r ≡ cond stands (aheadWord loose i j) 0 ⌝ }
+    ensures { λ r. ⌜ r ≡ cond stands (forwardWord loose i j) 0 ⌝ }
 {
     if stands {
         if loose {
@@ -68,9 +68,9 @@ fn ahead_word(stands: bool, loose: bool, i: u64, j: u64) -> u64
 }
 
 // The word of a back edge from place k to place l, 0 where none stands. The greater the word, the earlier the place that it leaves.
-fn behind_word(stands: bool, k: u64, l: u64) -> u64
+fn back_word(stands: bool, k: u64, l: u64) -> u64
     requires { ⌜ (k < 1024) × (l < 1024) ⌝ }
-    ensures { λ r. ⌜ r ≡ cond stands (behindWord k l) 0 ⌝ }
+    ensures { λ r. ⌜ r ≡ cond stands (backWord k l) 0 ⌝ }
 {
     if stands {
         return 1048576 + (1023 - k) * 1024 + l;
@@ -105,8 +105,8 @@ fn tally_of(forward: bool, back: bool) -> Tally
 }
 
 // Counts the edges from row p to row q, and keeps their words for the nodes of the two where the tables have room.
-fn pick_pair(p: Row, q: Row, ahead: &mut [u64; 4096], behind: &mut [u64; 4096]) -> Tally
-    ensures { λ r. ⌜ PairKept p q (now (ahead .entry)) (now (behind .entry)) (now (ahead .exit)) (now (behind .exit)) r ⌝ }
+fn pick_pair(p: Row, q: Row, forwards: &mut [u64; 4096], backs: &mut [u64; 4096]) -> Tally
+    ensures { λ r. ⌜ PairKept p q (now (forwards .entry)) (now (backs .entry)) (now (forwards .exit)) (now (backs .exit)) r ⌝ }
 {
     let f = forward_stands(p, q);
     let b = back_stands(p, q);
@@ -116,10 +116,10 @@ fn pick_pair(p: Row, q: Row, ahead: &mut [u64; 4096], behind: &mut [u64; 4096]) 
             let x = (p.node * 64 + q.node) as usize;
             let k = p.kind;
             let loose = is_loose(k);
-            let w = ahead_word(f, loose, p.place, q.place);
-            keep_word(ahead, x, w);
-            let v = behind_word(b, p.place, q.place);
-            keep_word(behind, x, v);
+            let w = forward_word(f, loose, p.place, q.place);
+            keep_word(forwards, x, w);
+            let v = back_word(b, p.place, q.place);
+            keep_word(backs, x, v);
             return t;
         }
     }
@@ -131,11 +131,11 @@ fn pick_row(
     table: &[u64],
     n: usize,
     i: usize,
-    ahead: &mut [u64; 4096],
-    behind: &mut [u64; 4096],
+    forwards: &mut [u64; 4096],
+    backs: &mut [u64; 4096],
 ) -> Tally
     requires { ⌜ n ≤ 512 ⌝ }
-    ensures { λ r. ⌜ RowAdded (now (table .entry)) n i (now (ahead .entry)) (now (behind .entry)) (now (ahead .exit)) (now (behind .exit)) r ⌝ }
+    ensures { λ r. ⌜ RowAdded (now (table .entry)) n i (now (forwards .entry)) (now (backs .entry)) (now (forwards .exit)) (now (backs .exit)) r ⌝ }
 {
     let p = row_at(table, i);
     let mut edges: u64 = 0;
@@ -143,7 +143,7 @@ fn pick_row(
     let mut j: usize = 0;
     while j < n {
         let q = row_at(table, j);
-        let t = pick_pair(p, q, ahead, behind);
+        let t = pick_pair(p, q, forwards, backs);
         edges += t.edges;
         back += t.back;
         j += 1;
@@ -156,20 +156,20 @@ pub fn pick_edges(table: &[u64]) -> PickedEdges
     ensures { λ r. ⌜ r ≡ picksOf (now (table .entry)) ⌝ }
 {
     let n = row_count(table);
-    let mut ahead = [0u64; 4096];
-    let mut behind = [0u64; 4096];
+    let mut forwards = [0u64; 4096];
+    let mut backs = [0u64; 4096];
     let mut edges: u64 = 0;
     let mut back: u64 = 0;
     let mut i: usize = 0;
     while i < n {
-        let t = pick_row(table, n, i, &mut ahead, &mut behind);
+        let t = pick_row(table, n, i, &mut forwards, &mut backs);
         edges += t.edges;
         back += t.back;
         i += 1;
     }
     PickedEdges {
-        ahead,
-        behind,
+        forwards,
+        backs,
         edges,
         back,
     }

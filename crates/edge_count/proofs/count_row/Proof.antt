@@ -1,17 +1,13 @@
 -- A row has two slots for each row that it may enter, and after j of these the counts are those of the slots up to there (pair-edges, pair-back);
 -- the slots past the last row are empty (row-counted).
-use mathlib.Core.Path.{_≡_, refl, ap, ap₂, sym, _∙_}
-use Prim.Native.Nat.{ℕ, _+_, _-_, _*_, _≤_, _<_}
+use mathlib.Core.Path.{_≡_, ap, ap₂, _∙_}
+use Prim.Native.Nat.{_+_, _-_, _*_, _≤_}
 use native.Mathlib.Omega.{arith}
 use native.Mathlib.Nat.{le-antisymm}
 use Rattle.place_row.specs.RowTable.{rowForward, rowBack}
 use Rattle.edge_count.specs.Slots.{one, edgesBelow, backBelow}
 use Rattle.edge_count.specs.SlotLaws.{rows-few, one-le, edges-few, back-few, edges-start, back-start, pair-edges, pair-back, row-counted}
 use borrow.Author.Needs.{needs}
-use native.Mathlib.Omega.{arith}
-use mathlib.Core.Path.{_≡_, refl, ap, sym, _∙_}
-use Prim.Native.Nat.{ℕ, _+_, _-_, _*_, _≤_, _<_}
-use lib.ListN.{length, set, getD, length-set, take, drop}
 use Rattle.edge_count.proofs.count_row.Statement.{statement}
 use Rattle.edge_count.proofs.count_row.Tie as tie
 

@@ -1,18 +1,8 @@
 -- Where the pair is dangerous, whether w is in reach decides (closes-reached); where it is not, w does not close (closes-not).
 use Rattle.walk_find.specs.Paths.{closes-reached, closes-not}
-use Rattle.walk_find.specs.EdgeTable.{behindIn}
-use native.Mathlib.Omega.{arith}
-use mathlib.Core.Path.{_≡_, refl, ap, sym, _∙_}
-use Prim.Native.Nat.{ℕ, _+_, _-_, _*_, _≤_, _<_}
-use lib.ListN.{length, set, getD, length-set, take, drop}
 use borrow.Author.Needs.{needs}
 use Rattle.walk_find.proofs.closes_at.Statement.{statement}
 use Rattle.walk_find.proofs.closes_at.Tie as tie
-use Rattle.walk_find.proofs.closes_at.Reads as reads
-use Rattle.walk_find.proofs.closes_at.Lts as lts
-use Rattle.walk_find.proofs.dangerous.Reads as dangerous-reads
-use Rattle.walk_find.proofs.has_bit.Reads as has-bit-reads
-use Rattle.word_list.proofs.word_at.Reads as word-at-reads
 
 mul-word-at : tie.Need-mul-word-at
 mul-word-at c = search needs

@@ -5,21 +5,17 @@ use Rattle.walk_find.specs.Turns.{search-stop, search-turn, search-end}
 use Rattle.walk_find.specs.EdgeTable.{closesAlong, closingNode, firstFrom}
 use borrow.Author.Needs.{needs}
 use native.Mathlib.Omega.{arith}
-use mathlib.Core.Path.{_≡_, refl, ap, sym, _∙_}
-use Prim.Native.Nat.{ℕ, _+_, _-_, _*_, _≤_, _<_}
-use lib.ListN.{length, set, getD, length-set, take, drop}
+use mathlib.Core.Path.{_≡_, refl, sym, _∙_}
+use Prim.Native.Nat.{_-_, _≤_}
 use Rattle.walk_find.proofs.closing_node.Statement.{statement}
 use Rattle.walk_find.proofs.closing_node.Tie as tie
-use Rattle.walk_find.proofs.closing_node.Reads as reads
-use Rattle.walk_find.proofs.closing_node.Lts as lts
-use Rattle.walk_find.proofs.closes_at.Reads as closes-at-reads
 
 abbrev Inv-loop : tie.InvT-loop
-Inv-loop behind e v reach w₀ w =
-    (w ≤ 64) × (firstFrom (closesAlong behind e v reach) (64 - w) w ≡ firstFrom (closesAlong behind e v reach) 64 0)
+Inv-loop backs e v reach w₀ w =
+    (w ≤ 64) × (firstFrom (closesAlong backs e v reach) (64 - w) w ≡ firstFrom (closesAlong backs e v reach) 64 0)
 
 abbrev μ-loop : tie.MeasureT-loop
-μ-loop behind e v reach w₀ w = 64 - w
+μ-loop backs e v reach w₀ w = 64 - w
 
 -- there is no edge to v
 returns : tie.Need-returns Inv-loop μ-loop

@@ -1,19 +1,9 @@
 -- An area under 65 steps shows no walk (answer-short). Where no node has a pair that closes, no graph that the tables hold has a dangerous walk
 -- (answer-none); else the walk written is that of the tables (answer-found).
 use Rattle.walk_find.specs.ShowLaws.{answer-short, answer-none, answer-found, found-pair}
-use native.Mathlib.Omega.{arith}
-use mathlib.Core.Path.{_≡_, refl, ap, sym, _∙_}
-use Prim.Native.Nat.{ℕ, _+_, _-_, _*_, _≤_, _<_}
-use lib.ListN.{length, set, getD, length-set, take, drop}
 use borrow.Author.Needs.{needs}
 use Rattle.walk_find.proofs.find_walk.Statement.{statement}
 use Rattle.walk_find.proofs.find_walk.Tie as tie
-use Rattle.walk_find.proofs.find_walk.Reads as reads
-use Rattle.walk_find.proofs.find_walk.Lts as lts
-use Rattle.walk_find.proofs.joined_rows.Reads as joined-rows-reads
-use Rattle.walk_find.proofs.node_in.Reads as node-in-reads
-use Rattle.walk_find.proofs.pair_for.Reads as pair-for-reads
-use Rattle.walk_find.proofs.put_walk.Reads as put-walk-reads
 
 returns : tie.Need-returns
 returns c = answer-short _ _ _ (c .if1 .taken)

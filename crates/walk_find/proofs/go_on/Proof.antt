@@ -1,21 +1,10 @@
 -- A node of the layer stays (go-stays); another goes along its edge to the lowest node of the layer that it is joined to (go-along).
 use Rattle.walk_find.specs.Paths.{lowest-below}
-use lib.Bits.{bitAnd}
-use Rattle.walk_find.specs.Paths.{lowest-small, go-stays, go-along}
-use Rattle.walk_find.specs.EdgeTable.{goOn, writing, putStep, aheadStep, lowest}
+use Rattle.walk_find.specs.Paths.{go-stays, go-along}
 use native.Mathlib.Omega.{arith}
-use mathlib.Core.Path.{_≡_, refl, ap, sym, _∙_}
-use Prim.Native.Nat.{ℕ, _+_, _-_, _*_, _≤_, _<_}
-use lib.ListN.{length, set, getD, length-set, take, drop}
 use borrow.Author.Needs.{needs}
 use Rattle.walk_find.proofs.go_on.Statement.{statement}
 use Rattle.walk_find.proofs.go_on.Tie as tie
-use Rattle.walk_find.proofs.go_on.Reads as reads
-use Rattle.walk_find.proofs.go_on.Lts as lts
-use Rattle.walk_find.proofs.has_bit.Reads as has-bit-reads
-use Rattle.walk_find.proofs.lowest_in.Reads as lowest-in-reads
-use Rattle.walk_find.proofs.put_ahead.Reads as put-ahead-reads
-use Rattle.word_list.proofs.word_at.Reads as word-at-reads
 
 has-bit-requires : tie.Need-has-bit-requires
 has-bit-requires c κs = search needs
@@ -41,11 +30,11 @@ add-word-at c = let h = lowest-below _ _ (c .lowest-in .ensures) in record { fit
 word-at-requires : tie.Need-word-at-requires
 word-at-requires c κs = search needs
 
-put-ahead-requires : tie.Need-put-ahead-requires
-put-ahead-requires c κs = search needs
+put-forward-requires : tie.Need-put-forward-requires
+put-forward-requires c κs = search needs
 
-add-t10 : tie.Need-add-t10
-add-t10 c = search needs
+add-steps : tie.Need-add-steps
+add-steps c = search needs
 
 same-length : tie.Need-same-length
 same-length c = search needs
@@ -57,7 +46,7 @@ returns-2 c =
     let c7 = c5 .before .before in
     let c8 = c7 .before in
     go-along _ _ _ _ _ _ (c8 .has-bit .ensures) (c7 .if1 .left) (c5 .lowest-in .ensures) (c4 .word-at .ensures)
-    (c .before .before .put-ahead .ensures)
+    (c .before .before .put-forward .ensures)
 
 pub go-on-spec : {M : Type 1} → statement M
 go-on-spec =
@@ -71,7 +60,7 @@ go-on-spec =
     mul-word-at
     add-word-at
     word-at-requires
-    put-ahead-requires
-    add-t10
+    put-forward-requires
+    add-steps
     same-length
     returns-2)

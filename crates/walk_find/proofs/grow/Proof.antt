@@ -1,17 +1,12 @@
 -- After k turns the word has the nodes below k that grow to the given ones (word-turn); after 64 it has all.
 use Rattle.walk_find.specs.Turns.{word-turn, last-turn}
-use Rattle.walk_find.specs.EdgeTable.{withBit, wordBelow, growsTo, grown}
+use Rattle.walk_find.specs.EdgeTable.{wordBelow, growsTo, grown}
 use borrow.Author.Needs.{needs}
 use native.Mathlib.Omega.{arith}
-use mathlib.Core.Path.{_≡_, refl, ap, sym, _∙_}
-use Prim.Native.Nat.{ℕ, _+_, _-_, _*_, _≤_, _<_}
-use lib.ListN.{length, set, getD, length-set, take, drop}
+use mathlib.Core.Path.{_≡_, refl}
+use Prim.Native.Nat.{_-_, _≤_}
 use Rattle.walk_find.proofs.grow.Statement.{statement}
 use Rattle.walk_find.proofs.grow.Tie as tie
-use Rattle.walk_find.proofs.grow.Reads as reads
-use Rattle.walk_find.proofs.grow.Lts as lts
-use Rattle.walk_find.proofs.grows_to.Reads as grows-to-reads
-use Rattle.walk_find.proofs.with_bit.Reads as with-bit-reads
 
 abbrev Inv-loop : tie.InvT-loop
 Inv-loop rows nodes word₀ k₀ word k = (k ≤ 64) × (word ≡ wordBelow (growsTo rows nodes) k)
@@ -26,8 +21,8 @@ loop-holds c = (omega arith, refl)
 grows-to-requires : tie.Need-grows-to-requires Inv-loop μ-loop
 grows-to-requires c κs = search needs
 
-with-bit-requires : tie.Need-with-bit-requires Inv-loop μ-loop
-with-bit-requires c κs = search needs
+with-node-requires : tie.Need-with-node-requires Inv-loop μ-loop
+with-node-requires c κs = search needs
 
 add-k : tie.Need-add-k Inv-loop μ-loop
 add-k c = search needs
@@ -36,7 +31,7 @@ loop-less : tie.Need-loop-less Inv-loop μ-loop
 loop-less c = search needs
 
 loop-again : tie.Need-loop-again Inv-loop μ-loop
-loop-again c = (omega arith, word-turn _ _ (c .before .before .before .loop .inv .1) (c .before .grows-to .ensures) (c .with-bit .ensures))
+loop-again c = (omega arith, word-turn _ _ (c .before .before .before .loop .inv .1) (c .before .grows-to .ensures) (c .with-node .ensures))
 
 returns : tie.Need-returns Inv-loop μ-loop
 unfolding grown
@@ -50,7 +45,7 @@ grow-spec =
     μ-loop
     loop-holds
     grows-to-requires
-    with-bit-requires
+    with-node-requires
     add-k
     loop-less
     loop-again

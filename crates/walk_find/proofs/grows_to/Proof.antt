@@ -1,15 +1,8 @@
 -- A node that is one of them stays; of another its row must meet them: the two tests of `growsTo`.
 use Rattle.walk_find.specs.EdgeTable.{growsTo}
-use native.Mathlib.Omega.{arith}
-use mathlib.Core.Path.{_≡_, refl, ap, sym, _∙_}
-use Prim.Native.Nat.{ℕ, _+_, _-_, _*_, _≤_, _<_}
-use lib.ListN.{length, set, getD, length-set, take, drop}
 use borrow.Author.Needs.{needs}
 use Rattle.walk_find.proofs.grows_to.Statement.{statement}
 use Rattle.walk_find.proofs.grows_to.Tie as tie
-use Rattle.walk_find.proofs.grows_to.Reads as reads
-use Rattle.walk_find.proofs.grows_to.Lts as lts
-use Rattle.walk_find.proofs.has_bit.Reads as has-bit-reads
 
 has-bit-requires : tie.Need-has-bit-requires
 has-bit-requires c κs = search needs

@@ -5,21 +5,16 @@ use Rattle.walk_find.specs.Turns.{word-turn, row-end}
 use Rattle.walk_find.specs.EdgeTable.{wordBelow, joinedBit}
 use borrow.Author.Needs.{needs}
 use native.Mathlib.Omega.{arith}
-use mathlib.Core.Path.{_≡_, refl, ap, sym, _∙_}
-use Prim.Native.Nat.{ℕ, _+_, _-_, _*_, _≤_, _<_}
-use lib.ListN.{length, set, getD, length-set, take, drop}
+use mathlib.Core.Path.{_≡_, refl, ap}
+use Prim.Native.Nat.{ℕ, _-_, _≤_}
 use Rattle.walk_find.proofs.joined_row.Statement.{statement}
 use Rattle.walk_find.proofs.joined_row.Tie as tie
-use Rattle.walk_find.proofs.joined_row.Reads as reads
-use Rattle.walk_find.proofs.joined_row.Lts as lts
-use Rattle.walk_find.proofs.with_bit.Reads as with-bit-reads
-use Rattle.word_list.proofs.word_at.Reads as word-at-reads
 
 abbrev Inv-loop : tie.InvT-loop
-Inv-loop ahead u word₀ v₀ word v = (v ≤ 64) × (word ≡ wordBelow (joinedBit ahead u) v)
+Inv-loop forwards u word₀ v₀ word v = (v ≤ 64) × (word ≡ wordBelow (joinedBit forwards u) v)
 
 abbrev μ-loop : tie.MeasureT-loop
-μ-loop ahead u word₀ v₀ word v = 64 - v
+μ-loop forwards u word₀ v₀ word v = 64 - v
 
 loop-holds : tie.Need-loop-holds Inv-loop μ-loop
 unfolding wordBelow
@@ -34,8 +29,8 @@ add-word-at c = search needs
 word-at-requires : tie.Need-word-at-requires Inv-loop μ-loop
 word-at-requires c κs = search needs
 
-with-bit-requires : tie.Need-with-bit-requires Inv-loop μ-loop
-with-bit-requires c κs = search needs
+with-node-requires : tie.Need-with-node-requires Inv-loop μ-loop
+with-node-requires c κs = search needs
 
 add-v : tie.Need-add-v Inv-loop μ-loop
 add-v c = search needs
@@ -46,7 +41,7 @@ loop-less c = search needs
 loop-again : tie.Need-loop-again Inv-loop μ-loop
 loop-again c =
     let c3 = c .before .before .before in
-    (omega arith, word-turn _ _ (c3 .loop .inv .1) (ap (λ (x : ℕ). not (eqb x 0)) (c .before .word-at .ensures)) (c .with-bit .ensures))
+    (omega arith, word-turn _ _ (c3 .loop .inv .1) (ap (λ (x : ℕ). not (eqb x 0)) (c .before .word-at .ensures)) (c .with-node .ensures))
 
 returns : tie.Need-returns Inv-loop μ-loop
 returns c = row-end _ _ (c .before .loop .inv .1) (c .before .loop .inv .0) (c .loop-test .left)
@@ -61,7 +56,7 @@ joined-row-spec =
     mul-word-at
     add-word-at
     word-at-requires
-    with-bit-requires
+    with-node-requires
     add-v
     loop-less
     loop-again

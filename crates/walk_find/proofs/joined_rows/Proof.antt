@@ -3,20 +3,16 @@ use Rattle.walk_find.specs.Turns.{list-turn, last-turn}
 use Rattle.walk_find.specs.EdgeTable.{joinedRow, listBelow, joinedRows}
 use borrow.Author.Needs.{needs}
 use native.Mathlib.Omega.{arith}
-use mathlib.Core.Path.{_≡_, refl, ap, sym, _∙_}
-use Prim.Native.Nat.{ℕ, _+_, _-_, _*_, _≤_, _<_}
-use lib.ListN.{length, set, getD, length-set, take, drop}
+use mathlib.Core.Path.{_≡_, refl}
+use Prim.Native.Nat.{_-_, _≤_}
 use Rattle.walk_find.proofs.joined_rows.Statement.{statement}
 use Rattle.walk_find.proofs.joined_rows.Tie as tie
-use Rattle.walk_find.proofs.joined_rows.Reads as reads
-use Rattle.walk_find.proofs.joined_rows.Lts as lts
-use Rattle.walk_find.proofs.joined_row.Reads as joined-row-reads
 
 abbrev Inv-loop : tie.InvT-loop
-Inv-loop ahead rows₀ u₀ rows u = (u ≤ 64) × (rows ≡ listBelow (joinedRow ahead) u)
+Inv-loop forwards rows₀ u₀ rows u = (u ≤ 64) × (rows ≡ listBelow (joinedRow forwards) u)
 
 abbrev μ-loop : tie.MeasureT-loop
-μ-loop ahead rows₀ u₀ rows u = 64 - u
+μ-loop forwards rows₀ u₀ rows u = 64 - u
 
 loop-holds : tie.Need-loop-holds Inv-loop μ-loop
 unfolding listBelow

@@ -5,14 +5,10 @@ use Rattle.walk_find.specs.Paths.{bit-shifted}
 use Rattle.walk_find.specs.EdgeTable.{grown, layer, listBelow, layersTo}
 use borrow.Author.Needs.{needs}
 use native.Mathlib.Omega.{arith}
-use mathlib.Core.Path.{_≡_, refl, ap, sym, _∙_}
-use Prim.Native.Nat.{ℕ, _+_, _-_, _*_, _≤_, _<_}
-use lib.ListN.{length, set, getD, length-set, take, drop}
+use mathlib.Core.Path.{_≡_, refl}
+use Prim.Native.Nat.{_-_, _≤_}
 use Rattle.walk_find.proofs.layers_to.Statement.{statement}
 use Rattle.walk_find.proofs.layers_to.Tie as tie
-use Rattle.walk_find.proofs.layers_to.Reads as reads
-use Rattle.walk_find.proofs.layers_to.Lts as lts
-use Rattle.walk_find.proofs.next_layer.Reads as next-layer-reads
 
 abbrev Inv-loop : tie.InvT-loop
 Inv-loop rows u layers₀ before₀ nodes₀ d₀ layers before nodes d =

@@ -3,9 +3,6 @@ use mathlib.Core.Path.{sym}
 use borrow.Author.Needs.{needs}
 use Rattle.walk_find.proofs.next_layer.Statement.{statement}
 use Rattle.walk_find.proofs.next_layer.Tie as tie
-use Rattle.walk_find.proofs.next_layer.Reads as reads
-use Rattle.walk_find.proofs.next_layer.Lts as lts
-use Rattle.walk_find.proofs.grow.Reads as grow-reads
 
 -- the layer before was the same
 returns : tie.Need-returns

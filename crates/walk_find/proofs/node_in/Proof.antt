@@ -5,20 +5,16 @@ use Rattle.walk_find.specs.Paths.{pair-passes, pair-fails}
 use Rattle.walk_find.specs.Turns.{search-stop, search-turn, search-end}
 use borrow.Author.Needs.{needs}
 use native.Mathlib.Omega.{arith}
-use mathlib.Core.Path.{_≡_, refl, ap, sym, _∙_}
-use Prim.Native.Nat.{ℕ, _+_, _-_, _*_, _≤_, _<_}
-use lib.ListN.{length, set, getD, length-set, take, drop}
+use mathlib.Core.Path.{_≡_, refl}
+use Prim.Native.Nat.{_-_, _≤_}
 use Rattle.walk_find.proofs.node_in.Statement.{statement}
 use Rattle.walk_find.proofs.node_in.Tie as tie
-use Rattle.walk_find.proofs.node_in.Reads as reads
-use Rattle.walk_find.proofs.node_in.Lts as lts
-use Rattle.walk_find.proofs.pair_for.Reads as pair-for-reads
 
 abbrev Inv-loop : tie.InvT-loop
-Inv-loop ahead behind rows u₀ u = (u ≤ 64) × (firstFrom (hasPair ahead behind rows) (64 - u) u ≡ firstFrom (hasPair ahead behind rows) 64 0)
+Inv-loop forwards backs rows u₀ u = (u ≤ 64) × (firstFrom (hasPair forwards backs rows) (64 - u) u ≡ firstFrom (hasPair forwards backs rows) 64 0)
 
 abbrev μ-loop : tie.MeasureT-loop
-μ-loop ahead behind rows u₀ u = 64 - u
+μ-loop forwards backs rows u₀ u = 64 - u
 
 loop-holds : tie.Need-loop-holds Inv-loop μ-loop
 loop-holds c = (omega arith, refl)

@@ -2,17 +2,9 @@
 -- (pair-layers).
 use Rattle.walk_find.specs.Paths.{pair-layers}
 use Rattle.walk_find.specs.WalkLaws.{pair-none}
-use native.Mathlib.Omega.{arith}
-use mathlib.Core.Path.{_≡_, refl, ap, sym, _∙_}
-use Prim.Native.Nat.{ℕ, _+_, _-_, _*_, _≤_, _<_}
-use lib.ListN.{length, set, getD, length-set, take, drop}
 use borrow.Author.Needs.{needs}
 use Rattle.walk_find.proofs.pair_for.Statement.{statement}
 use Rattle.walk_find.proofs.pair_for.Tie as tie
-use Rattle.walk_find.proofs.pair_for.Reads as reads
-use Rattle.walk_find.proofs.pair_for.Lts as lts
-use Rattle.walk_find.proofs.layers_to.Reads as layers-to-reads
-use Rattle.walk_find.proofs.pair_in.Reads as pair-in-reads
 
 mul-if1 : tie.Need-mul-if1
 mul-if1 c = search needs

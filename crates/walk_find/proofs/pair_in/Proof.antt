@@ -4,22 +4,17 @@ use Rattle.walk_find.specs.Paths.{pair-stop, pair-turn, pair-end}
 use Rattle.walk_find.specs.EdgeTable.{closesAt, firstFrom}
 use borrow.Author.Needs.{needs}
 use native.Mathlib.Omega.{arith}
-use mathlib.Core.Path.{_≡_, refl, ap, sym, _∙_}
-use Prim.Native.Nat.{ℕ, _+_, _-_, _*_, _≤_, _<_}
-use lib.ListN.{length, set, getD, length-set, take, drop}
+use mathlib.Core.Path.{_≡_, refl}
+use Prim.Native.Nat.{_-_, _*_, _≤_}
 use Rattle.walk_find.proofs.pair_in.Statement.{statement}
 use Rattle.walk_find.proofs.pair_in.Tie as tie
-use Rattle.walk_find.proofs.pair_in.Reads as reads
-use Rattle.walk_find.proofs.pair_in.Lts as lts
-use Rattle.walk_find.proofs.closing_node.Reads as closing-node-reads
-use Rattle.word_list.proofs.word_at.Reads as word-at-reads
 
 abbrev Inv-loop : tie.InvT-loop
-Inv-loop ahead behind u reach v₀ v =
-    (v ≤ 64) × (firstFrom (closesAt ahead behind u reach) (4096 - v * 64) (v * 64) ≡ firstFrom (closesAt ahead behind u reach) 4096 0)
+Inv-loop forwards backs u reach v₀ v =
+    (v ≤ 64) × (firstFrom (closesAt forwards backs u reach) (4096 - v * 64) (v * 64) ≡ firstFrom (closesAt forwards backs u reach) 4096 0)
 
 abbrev μ-loop : tie.MeasureT-loop
-μ-loop ahead behind u reach v₀ v = 64 - v
+μ-loop forwards backs u reach v₀ v = 64 - v
 
 loop-holds : tie.Need-loop-holds Inv-loop μ-loop
 loop-holds c = (omega arith, refl)

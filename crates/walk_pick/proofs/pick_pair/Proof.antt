@@ -37,8 +37,8 @@ add-x c =
 is-loose-requires : tie.Need-is-loose-requires
 is-loose-requires c κs = search needs
 
-ahead-word-requires : tie.Need-ahead-word-requires
-ahead-word-requires c κs =
+forward-word-requires : tie.Need-forward-word-requires
+forward-word-requires c κs =
     let l = entries-small _ (c .before .before .before .before .before .before .has-entries .ensures)
     (c .before .before .before .before .before .if1 .taken) in
     let r = entries-small _ (c .before .before .before .before .has-entries2 .ensures) (c .before .before .before .if2 .taken) in
@@ -52,8 +52,8 @@ keep-word-requires c κs =
     (c .before .before .before .before .before .if2 .taken) in
     omega (arith, l .0, r .0)
 
-behind-word-requires : tie.Need-behind-word-requires
-behind-word-requires c κs =
+back-word-requires : tie.Need-back-word-requires
+back-word-requires c κs =
     let l = entries-small _ (c .before .before .before .before .before .before .before .before .before .has-entries .ensures)
     (c .before .before .before .before .before .before .before .before .if1 .taken) in
     let r = entries-small _ (c .before .before .before .before .before .before .before .has-entries2 .ensures)
@@ -89,7 +89,7 @@ returns c =
     (sym (c10 .has-entries2 .ensures)
     ∙ c9 .if2 .taken)
     (c6 .is-loose .ensures)
-    (c5 .ahead-word .ensures) (c .before .before .behind-word .ensures)
+    (c5 .forward-word .ensures) (c .before .before .back-word .ensures)
     (c3 .keep-word .ensures) (c .keep-word2 .ensures)
 
 returns-2 : tie.Need-returns-2
@@ -116,9 +116,9 @@ pick-pair-spec =
     mul-x
     add-x
     is-loose-requires
-    ahead-word-requires
+    forward-word-requires
     keep-word-requires
-    behind-word-requires
+    back-word-requires
     keep-word-requires-2
     returns
     returns-2

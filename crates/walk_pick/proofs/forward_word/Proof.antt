@@ -1,8 +1,8 @@
 -- Each return is what the contract picks by whether the edge stands and its place is loose; places below 1024 keep the sum within a word.
-use Rattle.walk_find.specs.Coding.{aheadWord}
+use Rattle.walk_find.specs.Coding.{forwardWord}
 use borrow.Author.Needs.{needs}
-use Rattle.walk_pick.proofs.ahead_word.Statement.{statement}
-use Rattle.walk_pick.proofs.ahead_word.Tie as tie
+use Rattle.walk_pick.proofs.forward_word.Statement.{statement}
+use Rattle.walk_pick.proofs.forward_word.Tie as tie
 
 mul-result : tie.Need-mul-result
 mul-result c = search needs
@@ -14,7 +14,7 @@ add-result-2 : tie.Need-add-result-2
 add-result-2 c = search needs
 
 returns : tie.Need-returns
-unfolding aheadWord
+unfolding forwardWord
 returns c = simp (c .before .if1 .taken, c .if2 .taken)
 
 mul-result-2 : tie.Need-mul-result-2
@@ -27,14 +27,14 @@ add-result-4 : tie.Need-add-result-4
 add-result-4 c = search needs
 
 returns-2 : tie.Need-returns-2
-unfolding aheadWord
+unfolding forwardWord
 returns-2 c = simp (c .before .if1 .taken, c .if2 .left)
 
 returns-3 : tie.Need-returns-3
 returns-3 c = search needs
 
-pub ahead-word-spec : {M : Type 1} → statement M
-ahead-word-spec =
+pub forward-word-spec : {M : Type 1} → statement M
+forward-word-spec =
     tie.close
     (tie.spec
     mul-result

@@ -1,8 +1,8 @@
 -- Each return is what the contract picks by whether the edge stands; places below 1024 keep the difference exact and the sum within a word.
-use Rattle.walk_find.specs.Coding.{behindWord}
+use Rattle.walk_find.specs.Coding.{backWord}
 use borrow.Author.Needs.{needs}
-use Rattle.walk_pick.proofs.behind_word.Statement.{statement}
-use Rattle.walk_pick.proofs.behind_word.Tie as tie
+use Rattle.walk_pick.proofs.back_word.Statement.{statement}
+use Rattle.walk_pick.proofs.back_word.Tie as tie
 
 sub-result : tie.Need-sub-result
 sub-result c = search needs
@@ -17,12 +17,12 @@ add-result-2 : tie.Need-add-result-2
 add-result-2 c = search needs
 
 returns : tie.Need-returns
-unfolding behindWord
+unfolding backWord
 returns c = simp (c .if1 .taken)
 
 returns-2 : tie.Need-returns-2
 returns-2 c = search needs
 
-pub behind-word-spec : {M : Type 1} → statement M
-behind-word-spec =
+pub back-word-spec : {M : Type 1} → statement M
+back-word-spec =
     tie.close (tie.spec sub-result mul-result add-result add-result-2 returns returns-2)

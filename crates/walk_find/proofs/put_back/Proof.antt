@@ -1,0 +1,21 @@
+-- The four words are those of the step along the back edge that the word stands for, as `putStep` has them.
+use Rattle.walk_find.specs.EdgeTable.{putStep}
+use borrow.Author.Needs.{needs}
+use Rattle.walk_find.proofs.put_back.Statement.{statement}
+use Rattle.walk_find.proofs.put_back.Tie as tie
+
+sub-put-words : tie.Need-sub-put-words
+sub-put-words c = search needs
+
+put-words-requires : tie.Need-put-words-requires
+put-words-requires c κs = search needs
+
+same-length : tie.Need-same-length
+same-length c = search needs
+
+returns : tie.Need-returns
+unfolding putStep
+returns c = c .before .before .put-words .ensures
+
+pub put-back-spec : {M : Type 1} → statement M
+put-back-spec = tie.close (tie.spec sub-put-words put-words-requires same-length returns)
