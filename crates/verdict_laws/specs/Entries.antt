@@ -19,8 +19,8 @@ use Rattle.spec_report.specs.State.{statementsIn}
 use Rattle.place_row.specs.declared.Row.{Row}
 use Rattle.place_row.specs.RowTable.{rowOf, rowsOf, rowStands}
 use Rattle.place_row.specs.RowTableLaws.{KeysSmall, placesOf-node, forward-rows, back-rows}
-use Rattle.walk_find.specs.EdgeTable.{entry}
-use Rattle.walk_find.specs.Coding.{forwardWord, backWord, GreatestWords, Small}
+use Rattle.edge_word.specs.Coding.{forwardWord, backWord, entry}
+use Rattle.edge_word.specs.Greatest.{GreatestWords, Small}
 use Rattle.walk_pick.specs.Picks.{rowForwardWord, rowBackWord, greatest, standsIn, wordFor, between, wordsBetween}
 use Rattle.walk_pick.specs.PickStepLaws.{words-entry}
 use Rattle.verdict_laws.specs.Places.{place-found, found-place, places-few}

@@ -25,8 +25,8 @@ use Rattle.place_row.specs.RowTable.{rowsOf, tableOf, tableRows}
 use Rattle.place_row.specs.RowTableLaws.{KeysSmall, table-rows}
 use Rattle.place_laws.specs.Placed.{keys-below, rowsOf-length, accepted-edges}
 use Rattle.edge_count.specs.Slots.{tableEdges, tableCounts}
-use Rattle.walk_find.specs.EdgeTable.{tableWalk}
-use Rattle.walk_find.specs.Coding.{GreatestWords, greatest-picked}
+use Rattle.edge_word.specs.Greatest.{GreatestWords, greatest-picked}
+use Rattle.walk_find.specs.TableWalk.{tableWalk}
 use Rattle.walk_find.specs.WalkLaws.{table-verdict}
 use Rattle.walk_pick.specs.declared.PickedEdges.{PickedEdges}
 use Rattle.walk_pick.specs.Picks.{rowForwardWord, rowBackWord, wordsBetween, picksOf}

@@ -2,7 +2,7 @@
 
 use place_table::Rows;
 use spec_text::Workload;
-use walk_find::WalkFound;
+use walk_laws::WalkFound;
 ghost use mathlib.Core.Path.{_≡_};
 ghost use Rattle.spec_report.specs.State.{counted};
 ghost use Rattle.verdict_of.specs.Verdict.{told, Judged};
@@ -45,7 +45,7 @@ fn judged(programs: u64, nodes: u64, edges: u64, back: u64, found: WalkFound) ->
 pub fn verdict_of(w: Workload, area: &mut [u64]) -> Verdict
     ensures { λ r. ⌜ Judged w (now (area .entry)) (told r) (now (area .exit)) ⌝ }
 {
-    let mut table = [0u64; 4096];
+    let mut table = [0u64; place_row::TABLE_WORDS];
     let f = place_table::fill_rows(w, &mut table);
     match f {
         Rows::Refused(number) => {

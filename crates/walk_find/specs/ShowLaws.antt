@@ -16,10 +16,14 @@ use Rattle.spec_graph.specs.Graph.{Graph}
 use Rattle.spec_graph.specs.Walk.{Step, isDangerous, DangerousWalk}
 use Rattle.spec_report.specs.State.{shortForWalk}
 use Rattle.spec_report.specs.Area.{flowWord, stepWords, shownIn}
-use Rattle.walk_find.specs.EdgeTable.{entry, joinedRows, layersTo, nodeIn, pairFor, lowest, forwardStep, backStep}
-use Rattle.walk_find.specs.EdgeTable.{wayOn, walkOn, tableWalk, putWords, putStep, putSteps, Written, WalkAnswered}
-use Rattle.walk_find.specs.EdgeTable.WalkAnswered.{no-room, no-walk, shown}
-use Rattle.walk_find.specs.Paths.{put-cons}
+use Rattle.walk_laws.specs.declared.Pick.{Pick}
+use Rattle.edge_word.specs.Coding.{forwardEdge, backEdge, entry}
+use Rattle.walk_reach.specs.Layers.{joinedRows, layersTo}
+use Rattle.walk_pair.specs.Pairs.{nodeIn, pairFor, ClosingPair}
+use Rattle.walk_pair.specs.declared.Closing.{Closing}
+use Rattle.walk_find.specs.TableWalk.{lowest, forwardStep, backStep, wayOn, walkOn, tableWalk, putWords, putStep, putSteps, Written, WalkAnswered}
+use Rattle.walk_find.specs.TableWalk.WalkAnswered.{no-room, no-walk, shown}
+use Rattle.walk_find.specs.WayLaws.{put-cons}
 use Rattle.walk_find.specs.WalkLaws.{node-pair, table-none, table-written, table-verdict}
 
 -- a word after a front of the right length
@@ -165,16 +169,16 @@ found-pair forwards backs rows q l e =
     subst (λ (y : ℕ). y < 4096) (sym (e ∙ ap (pairFor forwards backs rows) q)) (node-pair forwards backs rows (rw q at l))
 
 -- two steps and the way after them
-pub walk-written : (forwards backs rows : List ℕ) (u x : ℕ) {e c r : ℕ} {layers before one two after : List ℕ}
-    → e ≡ getD forwards (u * 64 + x / 64) 0 → one ≡ putStep before 0 (forwardStep u e)
-    → c ≡ getD backs (x / 64 * 64 + x % 64) 0 → two ≡ putStep one 1 (backStep (x / 64) c)
+pub walk-written : (forwards backs rows : List ℕ) (u x : ℕ) {word worb r : ℕ} {e c : Pick} {layers before one two after : List ℕ}
+    → word ≡ getD forwards (u * 64 + x / 64) 0 → e ≡ forwardEdge word → one ≡ putWords before 0 u (e .leaves) (e .enters) 0
+    → worb ≡ getD backs (x / 64 * 64 + x % 64) 0 → c ≡ backEdge worb → two ≡ putWords one 1 (x / 64) (c .leaves) (c .enters) 1
     → layers ≡ layersTo rows u → Written (wayOn forwards rows layers 63 (x % 64)) 2 two after r
     → Written (walkOn forwards backs rows u x) 0 before after r
-unfolding walkOn
-walk-written forwards backs rows u x {e} {c} {r} {layers} {before} {one} {two} {after} p a q b same t =
+unfolding walkOn putStep
+walk-written forwards backs rows u x {word} {worb} {r} {e} {c} {layers} {before} {one} {two} {after} p f a q g b same t =
     record {
       area =
-          t .area ∙ ap₂ (λ (z : List ℕ) (w : List Step). putSteps z 2 w) (b ∙ both) way
+          t .area ∙ ap₂ (λ (z : List ℕ) (w : List Step). putSteps z 2 w) both way
           ∙ sym (put-cons before 0 s (d ∷ rest) ∙ put-cons (putStep before 0 s) 1 d rest);
       count = t .count ∙ ap (λ (w : List Step). 2 + length w) way ∙ last;
     }
@@ -188,8 +192,8 @@ walk-written forwards backs rows u x {e} {c} {r} {layers} {before} {one} {two} {
     rest : List Step
     rest = wayOn forwards rows (layersTo rows u) 63 (x % 64)
 
-    both : putStep one 1 (backStep (x / 64) c) ≡ putStep (putStep before 0 s) 1 d
-    both = rw (q, a, p) refl
+    both : two ≡ putStep (putStep before 0 s) 1 d
+    both = rw (b, g, q, a, f, p) refl
 
     way : wayOn forwards rows layers 63 (x % 64) ≡ rest
     way = ap (λ (l : List ℕ). wayOn forwards rows l 63 (x % 64)) same

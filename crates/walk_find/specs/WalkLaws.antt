@@ -1,81 +1,52 @@
 -- The walk that the code finds in two tables is the walk among the nodes.
 use mathlib.Core.Path.{_≡_, refl, sym, ap, ap₂, subst, _∙_}
-use mathlib.Core.Bool.{Bool, true, false, cond, not, _&&_, _||_, false≢true}
+use mathlib.Core.Bool.{Bool, true, false, cond, _&&_, false≢true}
 use mathlib.Core.Logic.{_⊎_, inl, inr}
 use mathlib.Core.List.{List, [], _∷_, _++_}
 use mathlib.Core.Option.{none, some}
-use Prim.Native.Nat.{ℕ, zero, suc, _+_, _-_, _*_, _/_, _%_, _≤_, _<_, zero-le}
+use Prim.Native.Nat.{ℕ, zero, suc, _+_, _*_, _/_, _%_, _≤_, _<_, zero-le}
 use native.Mathlib.Nat.{mod-eq-of-lt}
 use native.Mathlib.Omega.{arith}
 use lib.Bits.{bitAnd}
 use lib.Count.{trailingZeros}
-use lib.Dec.{eqb, ltb, leb}
+use lib.Dec.{eqb, ltb}
 use lib.ListN.{length, getD}
-use borrow.Author.Tests.{ltb-true, ltb-false, lt-ltb, le-ltb}
-use Rattle.spec_base.specs.Basic.{any, first, numbers, has, meets}
-use Rattle.law_base.specs.BoolLaws.{decide, true-false, same-test, and-true, and-of}
-use Rattle.law_base.specs.ListLaws.{any-numbers, any-numbers-of}
-use Rattle.law_base.specs.SetLaws.{has-empty, has-bitAnd, has-bit, meets-has, has-meets}
+use borrow.Author.Tests.{eqb-true, eqb-false, ltb-true, ltb-false, lt-ltb, le-ltb}
+use Rattle.spec_base.specs.Basic.{any, first, numbers, has}
+use Rattle.law_base.specs.BoolLaws.{decide, true-false, and-true, and-of}
+use Rattle.law_base.specs.ListLaws.{any-numbers}
+use Rattle.law_base.specs.SetLaws.{has-empty, has-bitAnd}
 use Rattle.spec_graph.specs.Graph.{Flow, Graph}
 use Rattle.spec_graph.specs.Walk.{Step, isDangerous, DangerousWalk}
 use Rattle.law_walk.specs.Reach.{Regular, roundsFor}
 use Rattle.walk_laws.specs.Pick.{Picks, picked, dangerousPicks, onwardTo, reaches, returnsAt, nodeTest, stepAlong, wayTo, walkAt}
 use Rattle.walk_laws.specs.PickLaws.{Picked, dangerous-some, walk-found, node-complete}
-use Rattle.walk_find.specs.EdgeTable.{forwardPick, backPick, entry, forwardsIn, backsIn, joinedBit, joinedRow, joinedRows}
-use Rattle.walk_find.specs.EdgeTable.{
-  growsTo,
-  grown,
-  layer,
-  layersTo,
-  closesAt,
-  pairIn,
-  pairFor,
-  hasPair,
-  nodeIn,
-  lowest,
-  forwardStep,
-  backStep,
-}
-use Rattle.walk_find.specs.EdgeTable.{wayOn, walkOn, tableWalk}
-use Rattle.walk_find.specs.Turns.{first-within, first-passes, first-found}
-use Rattle.walk_find.specs.Paths.{way-none, way-stays, way-along}
-use Rattle.walk_find.specs.NodeWordLaws.{word-out, word-in, list-at, trailing-first, first-is}
-
--- an edge is picked where its word is not 0
-pub picked-word : (x : ℕ) → picked (forwardPick x) ≡ not (eqb x 0)
-unfolding forwardPick
-picked-word x = go (eqb x 0)
-  where
-    go : (b : Bool) → picked (cond b none (some (record { leaves = x % 1024; enters = x / 1024 % 1024; loose = leb 2097152 x }))) ≡ not b
-    go true = refl
-    go false = refl
+use Rattle.edge_word.specs.Coding.{forwardPick, backPick, forwardEdge, backEdge, entry, forwardsIn, backsIn}
+use Rattle.walk_reach.specs.Layers.{joinedRow, joinedRows, layersTo}
+use Rattle.walk_reach.specs.LayerLaws.{row-at, row-has, layers-has}
+use Rattle.walk_pair.specs.Pairs.{closesAt, pairIn, pairFor, hasPair, nodeIn}
+use Rattle.walk_pair.specs.SearchLaws.{first-passes, first-found}
+use Rattle.walk_pair.specs.PairLaws.{pair-skipped, pair-sought}
+use Rattle.walk_find.specs.TableWalk.{lowest, forwardStep, backStep, wayOn, walkOn, tableWalk}
+use Rattle.walk_find.specs.WayLaws.{way-none, way-stays, way-along}
+use Rattle.walk_find.specs.LowestLaws.{trailing-first, first-is}
 
 -- the step along an edge that is picked
-pub forward-step : (m x : ℕ) → picked (forwardPick x) ≡ true → stepAlong m Flow.forward (forwardPick x) ≡ forwardStep m x ∷ []
+forward-step : (m x : ℕ) → picked (forwardPick x) ≡ true → stepAlong m Flow.forward (forwardPick x) ≡ forwardStep m x ∷ []
 unfolding forwardPick
 forward-step m x h = go (eqb x 0) h
   where
-    go : (b : Bool) → picked (cond b none (some (record { leaves = x % 1024; enters = x / 1024 % 1024; loose = leb 2097152 x }))) ≡ true
-        → stepAlong m Flow.forward (cond b none (some (record {
-          leaves =
-              x % 1024;
-          enters = x / 1024 % 1024;
-          loose = leb 2097152 x;
-        }))) ≡ forwardStep m x ∷ []
+    go : (b : Bool) → picked (cond b none (some (forwardEdge x))) ≡ true
+        → stepAlong m Flow.forward (cond b none (some (forwardEdge x))) ≡ forwardStep m x ∷ []
     go true k = absurd (false≢true k)
     go false k = refl
 
-pub back-step : (m y : ℕ) → picked (backPick y) ≡ true → stepAlong m Flow.back (backPick y) ≡ backStep m y ∷ []
+back-step : (m y : ℕ) → picked (backPick y) ≡ true → stepAlong m Flow.back (backPick y) ≡ backStep m y ∷ []
 unfolding backPick
 back-step m y h = go (eqb y 0) h
   where
-    go : (b : Bool) → picked (cond b none (some (record { leaves = 1023 - y / 1024 % 1024; enters = y % 1024; loose = true }))) ≡ true
-        → stepAlong m Flow.back (cond b none (some (record {
-          leaves =
-              1023 - y / 1024 % 1024;
-          enters = y % 1024;
-          loose = true;
-        }))) ≡ backStep m y ∷ []
+    go : (b : Bool) → picked (cond b none (some (backEdge y))) ≡ true
+        → stepAlong m Flow.back (cond b none (some (backEdge y))) ≡ backStep m y ∷ []
     go true k = absurd (false≢true k)
     go false k = refl
 
@@ -103,56 +74,6 @@ reaches-next forwards n u d w h e = rw e at h
 -- ---- of n = 64 nodes
 
 module _ (forwards : List ℕ) (n : ℕ) (full : n ≡ 64) where
-  row-at : (w : ℕ) → w < n → getD (joinedRows forwards) w 0 ≡ joinedRow forwards w
-  unfolding joinedRows
-  row-at w h = list-at (joinedRow forwards) 64 w (omega arith) (omega arith)
-
-  row-has : (w k : ℕ) → k < n → has (joinedRow forwards w) k ≡ picked (forwardsIn forwards w k)
-  unfolding joinedRow
-  row-has w k h = word-in (joinedBit forwards w) 64 k (omega arith) ∙ sym (picked-word (entry forwards w k))
-
-  row-inside : (w k : ℕ) → has (joinedRow forwards w) k ≡ true → k < n
-  unfolding joinedRow
-  row-inside w k h = go (decide (ltb k 64))
-    where
-      go : (ltb k 64 ≡ true) ⊎ (ltb k 64 ≡ false) → k < n
-      go (inl e) = let l = ltb-true k 64 e in omega arith
-      go (inr e) = let l = ltb-false k 64 e in absurd (true-false h (word-out (joinedBit forwards w) 64 k l))
-
-  -- an edge goes from w to one of the nodes
-  row-meets : (nodes : ℕ) (rest : ℕ → Bool) (w : ℕ) → w < n → ((k : ℕ) → k < n → has nodes k ≡ rest k)
-      → meets (getD (joinedRows forwards) w 0) nodes ≡ any (onwardTo (forwardsIn forwards) rest w) (numbers n)
-  row-meets nodes rest w h same = ap (λ (x : ℕ). meets x nodes) (row-at w h) ∙ same-test _ _ to of
-    where
-      to : meets (joinedRow forwards w) nodes ≡ true → any (onwardTo (forwardsIn forwards) rest w) (numbers n) ≡ true
-      to e =
-          let t = meets-has (joinedRow forwards w) nodes e in
-          let l = row-inside w (t .0) (t .1) in
-          any-numbers-of (onwardTo (forwardsIn forwards) rest w) n (t .0) l
-          (and-of (sym (row-has w (t .0) l) ∙ t .1) (sym (same (t .0) l) ∙ t .2))
-
-      of : any (onwardTo (forwardsIn forwards) rest w) (numbers n) ≡ true → meets (joinedRow forwards w) nodes ≡ true
-      of e =
-          let t = any-numbers (onwardTo (forwardsIn forwards) rest w) n e in
-          let b = and-true (picked (forwardsIn forwards w (t .0))) (rest (t .0)) (t .2) in
-          has-meets (joinedRow forwards w) nodes (t .0) (row-has w (t .0) (t .1) ∙ b .0) (same (t .0) (t .1) ∙ b .1)
-
-  -- a layer has the nodes from which u is reached in so many steps
-  pub layer-has : (u d w : ℕ) → w < n → has (layer (joinedRows forwards) u d) w ≡ reaches (forwardsIn forwards) n u d w
-  unfolding layer reaches grown growsTo
-  layer-has u zero w h = has-bit u w
-  layer-has u (suc d) w h =
-      word-in (growsTo (joinedRows forwards) (layer (joinedRows forwards) u d)) 64 w (omega arith)
-      ∙ ap₂ (λ (a b : Bool). a || b) (layer-has u d w h)
-      (row-meets (layer (joinedRows forwards) u d) (reaches (forwardsIn forwards) n u d) w h (λ k l. layer-has u d k l))
-
-  layers-at : (u d : ℕ) → d < 64 → getD (layersTo (joinedRows forwards) u) d 0 ≡ layer (joinedRows forwards) u d
-  unfolding layersTo
-  layers-at u d h = list-at (layer (joinedRows forwards) u) 64 d (omega arith) h
-
-  layers-has : (u d w : ℕ) → d < 64 → w < n → has (getD (layersTo (joinedRows forwards) u) d 0) w ≡ reaches (forwardsIn forwards) n u d w
-  layers-has u d w l h = ap (λ (x : ℕ). has x w) (layers-at u d l) ∙ layer-has u d w h
-
   -- the first node to go on to
   pub lowest-first : (nodes : ℕ) (rest : ℕ → Bool) (w : ℕ) → w < n → ((k : ℕ) → k < n → has nodes k ≡ rest k)
       → any (onwardTo (forwardsIn forwards) rest w) (numbers n) ≡ true
@@ -179,7 +100,7 @@ module _ (forwards : List ℕ) (n : ℕ) (full : n ≡ 64) where
       onward : (k : ℕ) → k < n → has word k ≡ onwardTo (forwardsIn forwards) rest w k
       onward k i =
           has-bitAnd (getD (joinedRows forwards) w 0) nodes k
-          ∙ ap₂ (λ (a b : Bool). a && b) (ap (λ (x : ℕ). has x k) (row-at w h) ∙ row-has w k i) (same k i)
+          ∙ ap₂ (λ (a b : Bool). a && b) (ap (λ (x : ℕ). has x k) (row-at forwards n full w h) ∙ row-has forwards n full w k i) (same k i)
 
   -- the way that is written is the way among the nodes
   pub way-same : (u d w : ℕ) → d ≤ 63 → w < n → reaches (forwardsIn forwards) n u d w ≡ true
@@ -196,14 +117,14 @@ module _ (forwards : List ℕ) (n : ℕ) (full : n ≡ 64) where
       go : Rest → (reaches (forwardsIn forwards) n u d w ≡ true) ⊎ (reaches (forwardsIn forwards) n u d w ≡ false)
           → wayOn forwards (joinedRows forwards) Layers (suc d) w ≡ wayTo (forwardsIn forwards) n u (suc d) w
       go rest (inl q) =
-          way-stays forwards (joinedRows forwards) Layers d w (layers-has u d w (omega arith) h ∙ q)
+          way-stays forwards (joinedRows forwards) Layers d w (layers-has forwards n full u d w (omega arith) h ∙ q)
           ∙ rest w h q ∙ sym (way-again (forwardsIn forwards) n u d w q)
       go rest (inr q) =
           let x = lowest (bitAnd (getD (joinedRows forwards) w 0) (getD Layers d 0)) in
-          let f = lowest-first (getD Layers d 0) (reaches (forwardsIn forwards) n u d) w h (λ k l. layers-has u d k (omega arith) l)
+          let f = lowest-first (getD Layers d 0) (reaches (forwardsIn forwards) n u d) w h (λ k l. layers-has forwards n full u d k (omega arith) l)
           (reaches-next (forwardsIn forwards) n u d w e q) in
           let b = and-true (picked (forwardsIn forwards w x)) (reaches (forwardsIn forwards) n u d x) (f .1) in
-          way-along forwards (joinedRows forwards) Layers d w (layers-has u d w (omega arith) h ∙ q)
+          way-along forwards (joinedRows forwards) Layers d w (layers-has forwards n full u d w (omega arith) h ∙ q)
           ∙ ap (λ (l : List Step). forwardStep w (entry forwards w x) ∷ l) (rest x (f .0) (b .1))
           ∙ ap (λ (l : List Step). l ++ wayTo (forwardsIn forwards) n u d x) (sym (forward-step w (entry forwards w x) (b .0)))
           ∙ sym (way-next (forwardsIn forwards) n u d w x q (f .2))
@@ -216,37 +137,44 @@ node-pair forwards backs rows h = ltb-true _ 4096 (first-passes (hasPair forward
 
 pair-closes : (forwards backs rows : List ℕ) (u : ℕ) → pairFor forwards backs rows u < 4096
     → closesAt forwards backs u (getD (layersTo rows u) 63 0) (pairFor forwards backs rows u) ≡ true
-unfolding pairFor pairIn
-pair-closes forwards backs rows u h = first-passes (closesAt forwards backs u (getD (layersTo rows u) 63 0)) 4096 0 h
-
-pair-found : (forwards backs rows : List ℕ) (u v w : ℕ) → v < 64 → w < 64
-    → closesAt forwards backs u (getD (layersTo rows u) 63 0) (v * 64 + w) ≡ true → pairFor forwards backs rows u < 4096
-unfolding pairFor pairIn
-pair-found forwards backs rows u v w i j e =
-    first-found (closesAt forwards backs u (getD (layersTo rows u) 63 0)) 4096 0 (v * 64 + w) zero-le (omega arith) e
-
--- W4: a node that no forward edge leaves has no pair
-pub pair-none : (forwards backs : List ℕ) (u : ℕ) {rows : List ℕ} → u < 64 → rows ≡ joinedRows forwards → getD rows u 0 ≡ 0
-    → 4096 ≡ pairFor forwards backs rows u
-unfolding pairFor pairIn closesAt
-pair-none forwards backs u {rows} h same e = go (decide (ltb (pairFor forwards backs rows u) 4096))
+unfolding pairIn
+pair-closes forwards backs rows u h = go (decide (eqb (getD rows u 0) 0))
   where
-    none : joinedRow forwards u ≡ 0
-    none = sym (row-at forwards 64 refl u h) ∙ ap (λ (l : List ℕ). getD l u 0) (sym same) ∙ e
+    closing : ℕ → Bool
+    closing = closesAt forwards backs u (getD (layersTo rows u) 63 0)
 
-    go : (ltb (pairFor forwards backs rows u) 4096 ≡ true) ⊎ (ltb (pairFor forwards backs rows u) 4096 ≡ false) → 4096 ≡ pairFor forwards backs rows u
-    go (inr l) =
-        let least = ltb-false (pairFor forwards backs rows u) 4096 l in
-        let most = first-within (closesAt forwards backs u (getD (layersTo rows u) 63 0)) 4096 0 in omega arith
-    go (inl l) =
-        let x = pairFor forwards backs rows u in
-        let small = ltb-true x 4096 l in
-        let parts = and-true (dangerousPicks (forwardsIn forwards u (x / 64)) (backsIn backs (x / 64) (x % 64)))
-        (has (getD (layersTo rows u) 63 0) (x % 64)) (pair-closes forwards backs rows u small) in
-        let pair = dangerous-some (forwardsIn forwards u (x / 64)) (backsIn backs (x / 64) (x % 64)) (parts .0) in
-        let there : has (joinedRow forwards u) (x / 64) ≡ true
-        = row-has forwards 64 refl u (x / 64) (omega arith) ∙ ap picked (pair .2) in
-        absurd (true-false there (ap (λ (word : ℕ). has word (x / 64)) none ∙ has-empty (x / 64)))
+    go : (eqb (getD rows u 0) 0 ≡ true) ⊎ (eqb (getD rows u 0) 0 ≡ false) → closing (pairFor forwards backs rows u) ≡ true
+    go (inl e) = let none = pair-skipped forwards backs rows u (eqb-true _ _ e) in absurd (omega arith)
+    go (inr e) =
+        let same = pair-sought forwards backs rows u (eqb-false _ _ e) in
+        ap closing (sym same) ∙ first-passes closing 4096 0 (subst (λ (x : ℕ). x < 4096) (sym same) h)
+
+-- W4: a pair that closes is found; its forward edge leaves u, so the row of u is not empty
+pair-found : (forwards backs : List ℕ) (u v w : ℕ) → u < 64 → v < 64 → w < 64
+    → closesAt forwards backs u (getD (layersTo (joinedRows forwards) u) 63 0) (v * 64 + w) ≡ true → pairFor forwards backs (joinedRows forwards) u < 4096
+unfolding pairIn closesAt
+pair-found forwards backs u v w h i j e = go (decide (eqb (getD (joinedRows forwards) u 0) 0))
+  where
+    rows : List ℕ
+    rows = joinedRows forwards
+
+    closing : ℕ → Bool
+    closing = closesAt forwards backs u (getD (layersTo rows u) 63 0)
+
+    go : (eqb (getD rows u 0) 0 ≡ true) ⊎ (eqb (getD rows u 0) 0 ≡ false) → pairFor forwards backs rows u < 4096
+    go (inl q) =
+        let left : (v * 64 + w) / 64 ≡ v = omega arith in
+        let right : (v * 64 + w) % 64 ≡ w = omega arith in
+        let closes : dangerousPicks (forwardsIn forwards u v) (backsIn backs v w) && has (getD (layersTo rows u) 63 0) w ≡ true
+        = rw (left, right) at e in
+        let danger = and-true (dangerousPicks (forwardsIn forwards u v) (backsIn backs v w)) (has (getD (layersTo rows u) 63 0) w) closes .0 in
+        let pair = dangerous-some (forwardsIn forwards u v) (backsIn backs v w) danger in
+        let there : has (joinedRow forwards u) v ≡ true = row-has forwards 64 refl u v i ∙ ap picked (pair .2) in
+        let none : joinedRow forwards u ≡ 0 = sym (row-at forwards 64 refl u h) ∙ eqb-true _ _ q in
+        absurd (true-false there (ap (λ (word : ℕ). has word v) none ∙ has-empty v))
+    go (inr q) =
+        let found = first-found closing 4096 0 (v * 64 + w) zero-le (omega arith) e in
+        subst (λ (x : ℕ). x < 4096) (pair-sought forwards backs rows u (eqb-false _ _ q)) found
 
 two-more : {s t : Step} {a b l m : List Step} → a ≡ s ∷ [] → b ≡ t ∷ [] → l ≡ m → s ∷ t ∷ l ≡ a ++ b ++ m
 two-more p q r = rw (p, q, r) refl
@@ -301,7 +229,7 @@ module _ (forwards backs : List ℕ) (n : ℕ) (full : n ≡ 64) where
       let c = any-numbers (returnsAt (forwardsIn forwards) (backsIn backs) n (a .0) (b .0)) n (b .2) in
       first-found (hasPair forwards backs (joinedRows forwards)) 64 0 (a .0) zero-le (omega (arith, a .1))
       (lt-ltb (pairFor forwards backs (joinedRows forwards) (a .0)) 4096
-      (pair-found forwards backs (joinedRows forwards) (a .0) (b .0) (c .0) (omega (arith, b .1)) (omega (arith, c .1))
+      (pair-found forwards backs (a .0) (b .0) (c .0) (omega (arith, a .1)) (omega (arith, b .1)) (omega (arith, c .1))
       (returns-closes (a .0) (b .0) (c .0) (b .1) (c .1) (c .2))))
 
 -- ---- the walk of the tables

@@ -8,13 +8,7 @@ use Rattle.spec_base.specs.Basic.{any, first, numbers}
 use Rattle.spec_graph.specs.Graph.{Flow}
 use Rattle.spec_graph.specs.Walk.{Step}
 use Rattle.law_walk.specs.Reach.{roundsFor}
-
--- an edge that stands for all edges of its flow from one node to another: the place left, the place entered, and
--- whether the place left is loose (W4: it is of kind ks, ps, pu or pd)
-pub record Pick : Type 0 where
-  pub leaves : ℕ
-  pub enters : ℕ
-  pub loose : Bool
+use Rattle.walk_laws.specs.declared.Pick.{Pick}
 
 -- for each pair of nodes the edge that stands for all, where there is one
 abbrev pub Picks : Type 0
@@ -48,10 +42,14 @@ returnsAt forwards backs n u v w = dangerousPicks (forwards u v) (backs v w) && 
 unfoldable pub nodeTest : Picks → Picks → ℕ → Bool
 nodeTest forwards backs n = any (λ u. any (λ v. any (returnsAt forwards backs n u v) (numbers n)) (numbers n)) (numbers n)
 
--- the step along the edge
+-- the step along an edge that is there
+abbrev pub stepOf : ℕ → Flow → Pick → Step
+stepOf m flow p = record { node = m; leaves = p .leaves; enters = p .enters; flow = flow }
+
+-- the step along the edge, where there is one
 abbrev pub stepAlong : ℕ → Flow → Option Pick → List Step
 stepAlong m flow none = []
-stepAlong m flow (some p) = record { node = m; leaves = p .leaves; enters = p .enters; flow = flow } ∷ []
+stepAlong m flow (some p) = stepOf m flow p ∷ []
 
 -- a shortest way from w to u, of at most d steps, each to the first node from which the rest is reached
 unfoldable pub wayTo : Picks → ℕ → ℕ → ℕ → ℕ → List Step

@@ -18,7 +18,8 @@ use Rattle.spec_graph.specs.Graph.{Flow, Graph, isBack}
 use Rattle.spec_graph.specs.Walk.{Step, isEdge, dangerousPair, isDangerous, DangerousWalk}
 use Rattle.law_walk.specs.Reach.{Regular, Reachable, stepsOf, closes, DangerousReturn, walk-return, back-of, roundsFor, reach-short}
 use Rattle.law_walk.specs.Reach.Reachable.{here, along}
-use Rattle.walk_laws.specs.Pick.{Pick, Picks, picked, dangerousPicks, onwardTo, reaches, returnsAt, nodeTest, stepAlong, wayTo, walkAt}
+use Rattle.walk_laws.specs.Pick.{Picks, picked, dangerousPicks, onwardTo, reaches, returnsAt, nodeTest, stepOf, stepAlong, wayTo, walkAt}
+use Rattle.walk_laws.specs.declared.Pick.{Pick}
 
 -- the picks among n nodes stand for all edges: each is an edge, a forward one leaves a loose place where any does and else
 -- enters last, and a back one leaves first
@@ -45,7 +46,7 @@ dangerous-some (some e) (some c) h = (e, c, refl, refl, h)
 
 -- the step along an edge that is there
 along-some : (m : ℕ) (flow : Flow) {o : Option Pick} {p : Pick} → o ≡ some p
-    → stepAlong m flow o ≡ record { node = m; leaves = p .leaves; enters = p .enters; flow = flow } ∷ []
+    → stepAlong m flow o ≡ stepOf m flow p ∷ []
 along-some m flow e = ap (stepAlong m flow) e
 
 -- the rounds are fewer than the nodes
@@ -85,7 +86,7 @@ module _ {g : Graph} {forwards backs : Picks} where
           let p = picked-some (forwards w x) (parts .0) in
           let t = rest x l (parts .1) in (
             along {m = w} (p .0 .leaves) x (p .0 .enters) Flow.forward (picks .forwardEdge w x (p .0) small l (p .1) .0) (t .0),
-            ap (λ (l : List Step). record { node = w; leaves = p .0 .leaves; enters = p .0 .enters; flow = Flow.forward } ∷ l) (t .1)
+            ap (λ (l : List Step). stepOf w Flow.forward (p .0) ∷ l) (t .1)
                 ∙ ap (λ (l : List Step). l ++ wayTo forwards n u d x) (sym (along-some w Flow.forward (p .1))),
             suc-le-suc (t .2),
           )
@@ -159,10 +160,10 @@ module _ {g : Graph} {forwards backs : Picks} where
           rw shape (and-of (and-of edges (or-left rest pair)) refl, let few = rounds-short n (omega arith) in omega arith)
         where
           e : Step
-          e = record { node = u; leaves = p .leaves; enters = p .enters; flow = Flow.forward }
+          e = stepOf u Flow.forward p
 
           c : Step
-          c = record { node = v; leaves = q .leaves; enters = q .enters; flow = Flow.back }
+          c = stepOf v Flow.back q
 
           shape : walkAt forwards backs n u v w ≡ e ∷ c ∷ stepsOf r
           shape = rw (first, second, same) refl

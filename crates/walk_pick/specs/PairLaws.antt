@@ -12,7 +12,7 @@ use Rattle.law_base.specs.BoolLaws.{and-true, and-of, and-left, and-right}
 use Rattle.spec_graph.specs.Edge.{loosens}
 use Rattle.place_row.specs.declared.Row.{Row}
 use Rattle.place_row.specs.RowTable.{rowAt, rowForward, rowBack}
-use Rattle.walk_find.specs.Coding.{forwardWord, backWord}
+use Rattle.edge_word.specs.Coding.{forwardWord, backWord}
 use Rattle.walk_pick.specs.declared.Tally.{Tally}
 use Rattle.walk_pick.specs.Picks.{rowForwardWord, rowBackWord}
 use Rattle.walk_pick.specs.PickSteps.{keptAt, hasEntries, keptPair, keptRow, keptRows, sumBelow}

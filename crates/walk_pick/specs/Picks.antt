@@ -8,7 +8,7 @@ use Rattle.spec_graph.specs.Edge.{loosens}
 use Rattle.place_row.specs.declared.Row.{Row}
 use Rattle.place_row.specs.RowTable.{rowForward, rowBack, tableRows}
 use Rattle.edge_count.specs.Slots.{tableCounts}
-use Rattle.walk_find.specs.Coding.{forwardWord, backWord}
+use Rattle.edge_word.specs.Coding.{forwardWord, backWord}
 use Rattle.walk_pick.specs.declared.PickedEdges.{PickedEdges}
 
 -- the word of the forward edge between two rows, 0 where none stands; W4: by its kind the left row may be loose

@@ -1,14 +1,17 @@
 // One pass over a table of places: its edges counted, and for each pair of nodes the edge that stands for all.
 
 ghost use mathlib.Core.Path.{_≡_};
-ghost use mathlib.Core.Bool.{cond};
 ghost use Prim.Native.Nat.{_≤_, _<_};
 ghost use Rattle.spec_graph.specs.Edge.{loosens};
-ghost use Rattle.walk_find.specs.Coding.{forwardWord, backWord};
 ghost use Rattle.walk_pick.specs.Picks.{picksOf};
 ghost use Rattle.walk_pick.specs.PickSteps.{keptAt, hasEntries, tallyOf, PairKept, RowAdded};
 use edge_test::back_stands;
 use edge_test::forward_stands;
+use edge_word::NODES;
+use edge_word::PAIRS;
+use edge_word::PLACES;
+use edge_word::back_word;
+use edge_word::forward_word;
 use place_fetch::row_at;
 use place_fetch::row_count;
 use place_row::Row;
@@ -16,8 +19,8 @@ use spec_text::StatementKind;
 
 // The tables for the detector, the word for nodes u and v at u * 64 + v, and how many edges and back edges there are.
 pub struct PickedEdges {
-    pub forwards: [u64; 4096],
-    pub backs: [u64; 4096],
+    pub forwards: [u64; PAIRS],
+    pub backs: [u64; PAIRS],
     pub edges: u64,
     pub back: u64,
 }
@@ -47,39 +50,14 @@ fn is_loose(k: StatementKind) -> bool
 fn has_entries(p: Row) -> bool
     ensures { λ r. ⌜ r ≡ hasEntries p ⌝ }
 {
-    if p.node < 64 {
-        return p.place < 1024;
+    if p.node < NODES as u64 {
+        return p.place < PLACES;
     }
     false
 }
 
-// The word of a forward edge from place i to place j, 0 where none stands. The greater the word, the more back edges make a dangerous pair with it.
-fn forward_word(stands: bool, loose: bool, i: u64, j: u64) -> u64
-    requires { ⌜ (i < 1024) × (j < 1024) ⌝ }
-    ensures { λ r. ⌜ r ≡ cond stands (forwardWord loose i j) 0 ⌝ }
-{
-    if stands {
-        if loose {
-            return 2097152 + j * 1024 + i;
-        }
-        return 1048576 + j * 1024 + i;
-    }
-    0
-}
-
-// The word of a back edge from place k to place l, 0 where none stands. The greater the word, the earlier the place that it leaves.
-fn back_word(stands: bool, k: u64, l: u64) -> u64
-    requires { ⌜ (k < 1024) × (l < 1024) ⌝ }
-    ensures { λ r. ⌜ r ≡ cond stands (backWord k l) 0 ⌝ }
-{
-    if stands {
-        return 1048576 + (1023 - k) * 1024 + l;
-    }
-    0
-}
-
 // Keeps at x the greater of the word that stands there and the word given.
-fn keep_word(words: &mut [u64; 4096], x: usize, word: u64)
+fn keep_word(words: &mut [u64; PAIRS], x: usize, word: u64)
     requires { ⌜ x < 4096 ⌝ }
     ensures { λ _. ⌜ now (words .exit) ≡ keptAt (now (words .entry)) x word ⌝ }
 {
@@ -105,7 +83,7 @@ fn tally_of(forward: bool, back: bool) -> Tally
 }
 
 // Counts the edges from row p to row q, and keeps their words for the nodes of the two where the tables have room.
-fn pick_pair(p: Row, q: Row, forwards: &mut [u64; 4096], backs: &mut [u64; 4096]) -> Tally
+fn pick_pair(p: Row, q: Row, forwards: &mut [u64; PAIRS], backs: &mut [u64; PAIRS]) -> Tally
     ensures { λ r. ⌜ PairKept p q (now (forwards .entry)) (now (backs .entry)) (now (forwards .exit)) (now (backs .exit)) r ⌝ }
 {
     let f = forward_stands(p, q);
@@ -113,7 +91,7 @@ fn pick_pair(p: Row, q: Row, forwards: &mut [u64; 4096], backs: &mut [u64; 4096]
     let t = tally_of(f, b);
     if has_entries(p) {
         if has_entries(q) {
-            let x = (p.node * 64 + q.node) as usize;
+            let x = (p.node * NODES as u64 + q.node) as usize;
             let k = p.kind;
             let loose = is_loose(k);
             let w = forward_word(f, loose, p.place, q.place);
@@ -131,8 +109,8 @@ fn pick_row(
     table: &[u64],
     n: usize,
     i: usize,
-    forwards: &mut [u64; 4096],
-    backs: &mut [u64; 4096],
+    forwards: &mut [u64; PAIRS],
+    backs: &mut [u64; PAIRS],
 ) -> Tally
     requires { ⌜ n ≤ 512 ⌝ }
     ensures { λ r. ⌜ RowAdded (now (table .entry)) n i (now (forwards .entry)) (now (backs .entry)) (now (forwards .exit)) (now (backs .exit)) r ⌝ }
@@ -156,8 +134,8 @@ pub fn pick_edges(table: &[u64]) -> PickedEdges
     ensures { λ r. ⌜ r ≡ picksOf (now (table .entry)) ⌝ }
 {
     let n = row_count(table);
-    let mut forwards = [0u64; 4096];
-    let mut backs = [0u64; 4096];
+    let mut forwards = [0u64; PAIRS];
+    let mut backs = [0u64; PAIRS];
     let mut edges: u64 = 0;
     let mut back: u64 = 0;
     let mut i: usize = 0;

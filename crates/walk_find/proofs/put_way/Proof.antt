@@ -1,7 +1,7 @@
 -- The steps written and those of the way still to go are together the whole way, and there is room for them (`WayTurn`, way-turn); where no depth
 -- is left none is to go (way-end).
-use Rattle.walk_find.specs.EdgeTable.{wayOn, WayTurn}
-use Rattle.walk_find.specs.Paths.{way-first, way-turn, way-end}
+use Rattle.walk_find.specs.TableWalk.{wayOn, WayTurn}
+use Rattle.walk_find.specs.WayLaws.{way-first, way-turn, way-end}
 use borrow.Author.Needs.{needs}
 use Rattle.walk_find.proofs.put_way.Statement.{statement}
 use Rattle.walk_find.proofs.put_way.Tie as tie

@@ -1,5 +1,5 @@
 -- The four stores are those of `putWords`, and each lies within the area, since a store leaves its length.
-use Rattle.walk_find.specs.EdgeTable.{putWords}
+use Rattle.walk_find.specs.TableWalk.{putWords}
 use native.Mathlib.Omega.{arith}
 use mathlib.Core.Path.{refl}
 use lib.ListN.{length-set}

@@ -38,11 +38,7 @@ is-loose-requires : tie.Need-is-loose-requires
 is-loose-requires c κs = search needs
 
 forward-word-requires : tie.Need-forward-word-requires
-forward-word-requires c κs =
-    let l = entries-small _ (c .before .before .before .before .before .before .has-entries .ensures)
-    (c .before .before .before .before .before .if1 .taken) in
-    let r = entries-small _ (c .before .before .before .before .has-entries2 .ensures) (c .before .before .before .if2 .taken) in
-    (l .1, r .1)
+forward-word-requires c κs = search needs
 
 keep-word-requires : tie.Need-keep-word-requires
 keep-word-requires c κs =
@@ -53,12 +49,7 @@ keep-word-requires c κs =
     omega (arith, l .0, r .0)
 
 back-word-requires : tie.Need-back-word-requires
-back-word-requires c κs =
-    let l = entries-small _ (c .before .before .before .before .before .before .before .before .before .has-entries .ensures)
-    (c .before .before .before .before .before .before .before .before .if1 .taken) in
-    let r = entries-small _ (c .before .before .before .before .before .before .before .has-entries2 .ensures)
-    (c .before .before .before .before .before .before .if2 .taken) in
-    (l .1, r .1)
+back-word-requires c κs = search needs
 
 keep-word-requires-2 : tie.Need-keep-word-requires-2
 keep-word-requires-2 c κs =
