@@ -18,7 +18,7 @@ use Rattle.spec_graph.specs.Edge as E
 use Rattle.place_row.specs.declared.Row.{Row}
 use Rattle.place_row.specs.RowTable.{rowAt, rowCount, rowForward, rowBack, rowEdge, rowEdges, tableRows, edgesOfRows}
 use Rattle.place_row.specs.RowTableLaws.{flatMap-map}
-use Rattle.edge_count.specs.Slots.{tableEdges, tableCounts}
+use Rattle.edge_count.specs.Slots.{tableEdges, tableCounts, pairCounts}
 use Rattle.walk_pick.specs.declared.PickedEdges.{PickedEdges}
 use Rattle.walk_pick.specs.Picks.{rowForwardWord, rowBackWord, greatest, standsIn, wordFor, between, wordsBetween, picksOf}
 use Rattle.walk_pick.specs.PickSteps.{
@@ -28,7 +28,6 @@ use Rattle.walk_pick.specs.PickSteps.{
   keptRow,
   keptRows,
   sumBelow,
-  tallyOf,
   edgesAt,
   backAt,
   rowSum,
@@ -258,7 +257,7 @@ module _ (size : List E.Edge → ℕ) (none : size [] ≡ 0) (parts : (l r : Lis
       n = rowCount table
 
 pair-edges : (p q : Row) → length (rowEdges p q) ≡ edgesAt p q
-unfolding rowEdges tallyOf
+unfolding rowEdges pairCounts
 pair-edges p q = go (rowForward p q) (rowBack p q)
   where
     go : (f b : Bool)
@@ -269,7 +268,7 @@ pair-edges p q = go (rowForward p q) (rowBack p q)
     go false false = refl
 
 pair-back : (p q : Row) → count (λ e. G.isBack (e .flow)) (rowEdges p q) ≡ backAt p q
-unfolding rowEdges tallyOf rowEdge
+unfolding rowEdges pairCounts rowEdge
 pair-back p q = go (rowForward p q) (rowBack p q)
   where
     go : (f b : Bool)

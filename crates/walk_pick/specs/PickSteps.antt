@@ -7,7 +7,8 @@ use lib.Dec.{ltb}
 use lib.ListN.{getD, set, replicate}
 use Rattle.place_row.specs.declared.Row.{Row}
 use Rattle.place_row.specs.RowTable.{rowAt, rowForward, rowBack}
-use Rattle.walk_pick.specs.declared.Tally.{Tally}
+use Rattle.edge_count.specs.declared.Counts.{Counts}
+use Rattle.edge_count.specs.Slots.{pairCounts}
 use Rattle.walk_pick.specs.Picks.{rowForwardWord, rowBackWord}
 
 -- the greater word is kept
@@ -38,14 +39,11 @@ sumBelow f zero = 0
 sumBelow f (suc n) = sumBelow f n + f n
 
 -- how many edges stand between two rows, and how many of them are back edges
-unfoldable pub tallyOf : Bool → Bool → Tally
-tallyOf forward back = record { edges = cond forward 1 0 + cond back 1 0; back = cond back 1 0 }
-
 abbrev pub edgesAt : Row → Row → ℕ
-edgesAt p q = tallyOf (rowForward p q) (rowBack p q) .edges
+edgesAt p q = pairCounts (rowForward p q) (rowBack p q) .edges
 
 abbrev pub backAt : Row → Row → ℕ
-backAt p q = tallyOf (rowForward p q) (rowBack p q) .back
+backAt p q = pairCounts (rowForward p q) (rowBack p q) .back
 
 -- the same between a row and the first n rows of a table
 unfoldable pub rowSum : (Row → Row → ℕ) → List ℕ → Row → ℕ → ℕ
@@ -56,10 +54,10 @@ unfoldable pub rowsSum : (Row → Row → ℕ) → List ℕ → ℕ → ℕ → 
 rowsSum f table n i = sumBelow (λ k. rowSum f table (rowAt table k) n) i
 
 -- what a pair of rows adds: its words and its edges
-pub record PairKept (p q : Row) (forwards₀ backs₀ forwards backs : List ℕ) (r : Tally) : Type 0 where
+pub record PairKept (p q : Row) (forwards₀ backs₀ forwards backs : List ℕ) (r : Counts) : Type 0 where
   pub forwardsKept : forwards ≡ keptPair rowForwardWord p q forwards₀
   pub backsKept : backs ≡ keptPair rowBackWord p q backs₀
-  pub counted : r ≡ tallyOf (rowForward p q) (rowBack p q)
+  pub counted : r ≡ pairCounts (rowForward p q) (rowBack p q)
 
 -- what a row adds, with each of the first j rows
 pub record RowKept (table : List ℕ) (p : Row) (j : ℕ) (forwards₀ backs₀ forwards backs : List ℕ) (edges back : ℕ) : Type 0 where
@@ -69,7 +67,7 @@ pub record RowKept (table : List ℕ) (p : Row) (j : ℕ) (forwards₀ backs₀ 
   pub backCounted : back ≡ rowSum backAt table p j
 
 -- what row i adds, with each of the first n rows
-abbrev pub RowAdded : List ℕ → ℕ → ℕ → List ℕ → List ℕ → List ℕ → List ℕ → Tally → Type 0
+abbrev pub RowAdded : List ℕ → ℕ → ℕ → List ℕ → List ℕ → List ℕ → List ℕ → Counts → Type 0
 RowAdded table n i forwards₀ backs₀ forwards backs r = RowKept table (rowAt table i) n forwards₀ backs₀ forwards backs (r .edges) (r .back)
 
 -- what the first i rows give, with each of the first n rows

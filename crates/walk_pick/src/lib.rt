@@ -2,9 +2,12 @@
 
 ghost use mathlib.Core.Path.{_≡_};
 ghost use Prim.Native.Nat.{_≤_, _<_};
-ghost use Rattle.spec_graph.specs.Edge.{loosens};
 ghost use Rattle.walk_pick.specs.Picks.{picksOf};
-ghost use Rattle.walk_pick.specs.PickSteps.{keptAt, hasEntries, tallyOf, PairKept, RowAdded};
+ghost use Rattle.walk_pick.specs.PickSteps.{keptAt, hasEntries, PairKept, RowAdded};
+use edge_count::Counts;
+use edge_count::pair_counts;
+use edge_kinds::LOOSE;
+use edge_kinds::kind_facts;
 use edge_test::back_stands;
 use edge_test::forward_stands;
 use edge_word::NODES;
@@ -15,7 +18,6 @@ use edge_word::forward_word;
 use place_fetch::row_at;
 use place_fetch::row_count;
 use place_row::Row;
-use spec_text::StatementKind;
 
 // The tables for the detector, the word for nodes u and v at u * 64 + v, and how many edges and back edges there are.
 pub struct PickedEdges {
@@ -23,27 +25,6 @@ pub struct PickedEdges {
     pub backs: [u64; PAIRS],
     pub edges: u64,
     pub back: u64,
-}
-
-// How many edges there are, and how many of them are back edges.
-struct Tally {
-    edges: u64,
-    back: u64,
-}
-
-// Whether a place of this kind is loose: an edge that leaves it makes a pair dangerous with any back edge after it (W4).
-fn is_loose(k: StatementKind) -> bool
-    ensures { λ r. ⌜ r ≡ loosens k ⌝ }
-{
-    match k {
-        StatementKind::Is => false,
-        StatementKind::Ks => true,
-        StatementKind::Ps => true,
-        StatementKind::Ku => false,
-        StatementKind::Pu => true,
-        StatementKind::Kd => false,
-        StatementKind::Pd => true,
-    }
 }
 
 // Whether the tables have room for a row's edges: its node is below 64 and its place below 1024.
@@ -66,34 +47,18 @@ fn keep_word(words: &mut [u64; PAIRS], x: usize, word: u64)
     }
 }
 
-// How many edges stand between two rows, by whether a forward and a back edge does.
-fn tally_of(forward: bool, back: bool) -> Tally
-    ensures { λ r. ⌜ r ≡ tallyOf forward back ⌝ }
-{
-    if forward {
-        if back {
-            return Tally { edges: 2, back: 1 };
-        }
-        return Tally { edges: 1, back: 0 };
-    }
-    if back {
-        return Tally { edges: 1, back: 1 };
-    }
-    Tally { edges: 0, back: 0 }
-}
-
 // Counts the edges from row p to row q, and keeps their words for the nodes of the two where the tables have room.
-fn pick_pair(p: Row, q: Row, forwards: &mut [u64; PAIRS], backs: &mut [u64; PAIRS]) -> Tally
+fn pick_pair(p: Row, q: Row, forwards: &mut [u64; PAIRS], backs: &mut [u64; PAIRS]) -> Counts
     ensures { λ r. ⌜ PairKept p q (now (forwards .entry)) (now (backs .entry)) (now (forwards .exit)) (now (backs .exit)) r ⌝ }
 {
     let f = forward_stands(p, q);
     let b = back_stands(p, q);
-    let t = tally_of(f, b);
+    let t = pair_counts(f, b);
     if has_entries(p) {
         if has_entries(q) {
             let x = (p.node * NODES as u64 + q.node) as usize;
             let k = p.kind;
-            let loose = is_loose(k);
+            let loose = kind_facts(k) & LOOSE != 0;
             let w = forward_word(f, loose, p.place, q.place);
             keep_word(forwards, x, w);
             let v = back_word(b, p.place, q.place);
@@ -111,13 +76,13 @@ fn pick_row(
     i: usize,
     forwards: &mut [u64; PAIRS],
     backs: &mut [u64; PAIRS],
-) -> Tally
+) -> Counts
     requires { ⌜ n ≤ 512 ⌝ }
     ensures { λ r. ⌜ RowAdded (now (table .entry)) n i (now (forwards .entry)) (now (backs .entry)) (now (forwards .exit)) (now (backs .exit)) r ⌝ }
 {
     let p = row_at(table, i);
-    let mut edges: u64 = 0;
-    let mut back: u64 = 0;
+    let mut edges: usize = 0;
+    let mut back: usize = 0;
     let mut j: usize = 0;
     while j < n {
         let q = row_at(table, j);
@@ -126,7 +91,7 @@ fn pick_row(
         back += t.back;
         j += 1;
     }
-    Tally { edges, back }
+    Counts { edges, back }
 }
 
 // Counts the edges of a table, and picks for each pair of nodes below 64 the forward and the back edge that stand for all.
@@ -136,8 +101,8 @@ pub fn pick_edges(table: &[u64]) -> PickedEdges
     let n = row_count(table);
     let mut forwards = [0u64; PAIRS];
     let mut backs = [0u64; PAIRS];
-    let mut edges: u64 = 0;
-    let mut back: u64 = 0;
+    let mut edges: usize = 0;
+    let mut back: usize = 0;
     let mut i: usize = 0;
     while i < n {
         let t = pick_row(table, n, i, &mut forwards, &mut backs);
@@ -148,7 +113,7 @@ pub fn pick_edges(table: &[u64]) -> PickedEdges
     PickedEdges {
         forwards,
         backs,
-        edges,
-        back,
+        edges: edges as u64,
+        back: back as u64,
     }
 }
