@@ -26,19 +26,15 @@ use Rattle.place_table.specs.Whole.{Whole, whole-refused}
 use Rattle.walk_pick.specs.declared.PickedEdges.{PickedEdges}
 use Rattle.walk_pick.specs.Picks.{picksOf}
 use Rattle.verdict_laws.specs.PickedVerdict.{PickedVerdict, given-picked}
-use Rattle.verdict_of.specs.Verdict.{Told, Word, Judged}
+use Rattle.verdict_told.specs.Told.{Told}
+use Rattle.verdict_told.specs.Found.{toldFor}
+use Rattle.verdict_of.specs.Verdict.{Word, Judged}
 use Rattle.verdict_of.specs.Verdict.Word.{robust, danger}
 use Rattle.verdict_of.specs.Verdict.Judged.{refused, judged}
 
 -- ---- what the code answers
 
--- the answer for what the search for a walk found
-unfoldable pub toldFor : Counts → WalkFound → Told
-toldFor c WalkFound.NoRoom = Told.refused 20
-toldFor c WalkFound.NoWalk = Told.robust c
-toldFor c (WalkFound.Shown steps) = Told.danger c steps
-
--- the same for a refusal's number and how many steps are shown, where there is one
+-- the answer for a refusal's number and how many steps are shown, where there is one
 unfoldable answerFor : Counts → Option ℕ → Option ℕ → Told
 answerFor c (some number) steps = Told.refused number
 answerFor c none none = Told.robust c

@@ -1,9 +1,9 @@
--- `judged` meets its contract: each answer of the search has its own.
+-- Each answer of the search has its own, and `toldFor` goes by the same cases.
 use mathlib.Core.Path.{refl}
 use borrow.Author.Needs.{needs}
-use Rattle.verdict_of.specs.VerdictLaws.{toldFor}
-use Rattle.verdict_of.proofs.judged.Statement.{statement}
-use Rattle.verdict_of.proofs.judged.Tie as tie
+use Rattle.verdict_told.specs.Found.{toldFor}
+use Rattle.verdict_told.proofs.judged.Statement.{statement}
+use Rattle.verdict_told.proofs.judged.Tie as tie
 
 enum-told : tie.Need-enum-told
 enum-told c = search needs
