@@ -11,7 +11,7 @@ use place_table::Rows;
 use spec_text::Line;
 use spec_text::LineKind;
 use spec_text::Workload;
-use verdict_of::Verdict;
+use verdict_told::Verdict;
 ghost use Rattle.io.specs.Counts.{Counts};
 ghost use Rattle.edge_list.specs.EdgesSettled.{PutSettled};
 

@@ -13,7 +13,8 @@ use Rattle.text_read.specs.declared.Parsed.{Parsed}
 use Rattle.text_read.specs.Parse.{parsedAs}
 use Rattle.unfold.specs.declared.Unfolded.{Unfolded}
 use Rattle.unfold.specs.UnfoldSettled.{Settled}
-use Rattle.verdict_of.specs.Verdict.{Told, Judged}
+use Rattle.verdict_told.specs.Told.{Told}
+use Rattle.verdict_of.specs.Verdict.{Judged}
 
 -- what a text gives: its workload value, or a refusal's number and line
 abbrev pub given : List ℕ → Parsed

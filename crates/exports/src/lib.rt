@@ -6,14 +6,14 @@ use edge_put::Put;
 use spec_text::Line;
 use spec_text::Workload;
 use unfold::Unfolded;
-use verdict_of::Totals;
-use verdict_of::Verdict;
+use verdict_told::Totals;
+use verdict_told::Verdict;
 ghost use mathlib.Core.Path.{_≡_};
 ghost use Prim.Native.Nat.{_+_, _*_, _%_};
 ghost use Rattle.spec_text.specs.Reading.{read};
 ghost use Rattle.edge_put.specs.Put.{putSaid};
 ghost use Rattle.exports.specs.Stages.{given, refusalWord, lineSum, middleLine, readWord, placesTold, unfoldWord, verdictWord};
-ghost use Rattle.verdict_of.specs.Verdict.{told};
+ghost use Rattle.verdict_told.specs.Told.{told};
 ghost use Rattle.exports.specs.Stages.{Unfolds, Judges, UnfoldStage, VerdictStage};
 ghost use Rattle.exports.specs.TextEdges.{edgesWord, FewPut, TextEdges};
 

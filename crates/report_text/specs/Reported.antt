@@ -8,7 +8,7 @@ use Rattle.spec_text.specs.Value.{Given, linesOf}
 use Rattle.spec_text.specs.Reading.{read}
 use Rattle.spec_text.specs.Reading.Outcome.{accepted}
 use Rattle.spec_report.specs.Report.{Report, refusalReport, robustReport, dangerReport}
-use Rattle.verdict_of.specs.Verdict.{Told}
+use Rattle.verdict_told.specs.Told.{Told}
 use Rattle.report_print.specs.declared.Printed.{Printed}
 use Rattle.report_print.specs.Printed.{walkIn}
 

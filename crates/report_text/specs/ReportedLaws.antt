@@ -21,7 +21,8 @@ use Rattle.spec_report.specs.Report.{Report, refusalReport, dangerReport}
 use Rattle.spec_report.specs.Report.Report.{refusal, unfolding-refusal, robust, danger}
 use Rattle.text_read.specs.declared.Parsed.{Parsed}
 use Rattle.text_read.specs.Parse.{parsedAs}
-use Rattle.verdict_of.specs.Verdict.{Told, Word, Judged}
+use Rattle.verdict_told.specs.Told.{Told}
+use Rattle.verdict_of.specs.Verdict.{Word, Judged}
 use Rattle.verdict_of.specs.Verdict.Word.{robust as robust-word, danger as danger-word}
 use Rattle.verdict_of.specs.Verdict.Judged.{refused as refused-answer, judged as judged-answer}
 use Rattle.report_print.specs.declared.Printed.{Printed}

@@ -2,9 +2,9 @@
 
 use report_print::Printed;
 use spec_text::Workload;
-use verdict_of::Verdict;
+use verdict_told::Verdict;
 ghost use mathlib.Core.Path.{_≡_};
-ghost use Rattle.verdict_of.specs.Verdict.{told};
+ghost use Rattle.verdict_told.specs.Told.{told};
 ghost use Rattle.report_print.specs.Printed.{printedAs};
 ghost use Rattle.report_text.specs.Reported.{bytesFor, Reported, ValueReported};
 
