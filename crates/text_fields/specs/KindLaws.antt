@@ -9,7 +9,8 @@ use Rattle.spec_text.specs.declared.LineKind.{LineKind}
 use Rattle.spec_text.specs.declared.LineKind.the-variants.{Rl, Fk, Pr, St, Lo, Br, El, En, Li}
 use Rattle.spec_text.specs.declared.StatementKind.the-variants.{Is, Ks, Ps, Ku, Pu, Kd, Pd}
 use Rattle.spec_text.specs.Text.{same, wordOf, kinds, kindOf}
-use Rattle.text_fields.specs.FieldLaws.{kind-word, word-two}
+use Rattle.law_text.specs.TextLaws.{word-two}
+use Rattle.text_fields.specs.FieldLaws.{kind-word}
 
 -- the number of a word's two bytes
 abbrev pub twoBytes : List ℕ → ℕ
