@@ -23,7 +23,7 @@ use Rattle.spec_text.specs.Reading.{Block, sameBlock, blocksAfter, blocksAfterL
 use Rattle.spec_text.specs.Reading.{beforeStatement, blocksAround, statement, key, relation, relationSet, bounded, withinBounds, inBody}
 use Rattle.spec_text.specs.Reading.{noneOpen, innermost, ordered, named, setsFit, linkFits, allAround, testsOf, firstFailed, fault}
 use Rattle.law_text.specs.ReadingLaws.{fault-none}
-use Rattle.law_text.specs.ReaderState.{aroundFrom, ownOf, stateOf, emptyOwn, emptyState, ownAfter, ownAfterLines, stateAfter}
+use Rattle.law_text.specs.ReaderState.{aroundFrom, ownOf, stateOf, emptyOwn, emptyState, ownAfter, ownAfterAny, stateAfter}
 use Rattle.law_text.specs.ReaderState.{stateBounded, stateInBody, stateNoneOpen, stateInnermost, stateOrdered, stateNamed, stateSetsFit}
 use Rattle.law_text.specs.ReaderState.{blocksWithin, stateLinkFits, stateTests, stateFault, numberedFrom, numbered}
 
@@ -152,8 +152,8 @@ program-none (x ∷ lines) h = go (isProgram x) (any isProgram lines) (program l
 
 -- the program at hand after one line more
 pub own-append : (lines : List Line) (l : Line)
-    → ownOf (program (lines ++ (l ∷ []))) ≡ ownAfterLines (count isProgram lines) (ownOf (program lines)) l
-unfolding ownAfterLines ownOf emptyOwn openBlocks blocksAfterLines aroundFrom
+    → ownOf (program (lines ++ (l ∷ []))) ≡ ownAfterAny (count isProgram lines) (ownOf (program lines)) l
+unfolding ownAfterAny ownOf emptyOwn openBlocks blocksAfterLines aroundFrom
 own-append lines l =
     ap ownOf (program-append lines l)
     ∙ go (isProgram l) (any isProgram lines) (eqb (count isProgram lines) 0) refl (count-none isProgram lines)

@@ -10,7 +10,8 @@ use Rattle.line_state.specs.Records.{State}
 use Rattle.line_state.specs.StateSteps.{emptyStack, emptyStatements, takenProgram}
 use Rattle.line_state.specs.StateWords.{arrayIn, stateIn}
 use Rattle.line_state.specs.StateWordsLaws.{cell-word, array-length}
-use Rattle.line_take.specs.Stores.{Store, stepIn, storeIn, storesIn, stateAfterStores, arrayAfterStores, countAfterStores, arrayAfter, countAfter}
+use Rattle.line_take.specs.Stores.{Store, stepIn, storeIn, storesIn}
+use Rattle.line_take.specs.Stores.{stateAfterStores, arrayAfterStores, countAfterStores, arrayAfter, countAfter}
 use Rattle.line_take.specs.Stores.{fits, Took}
 use Rattle.line_take.specs.Stores.Store.{step}
 use Rattle.line_take.specs.StoreLaws.{took-stores}

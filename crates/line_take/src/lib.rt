@@ -16,11 +16,14 @@ ghost use Rattle.line_state.specs.StateSteps.{takenRelation, takenKey, takenPro
 ghost use Rattle.line_state.specs.StateWords.{arrayIn, stateIn, Taken};
 ghost use Rattle.line_take.specs.Stores.{putIn, rowIn, stepIn, countIn, atDepth, Took};
 
-// One more; no count that is kept comes near the end.
+// Where counts stop; none that is kept comes near it.
+const MOST: u64 = 65535;
+
+// One more.
 fn next(n: u64) -> u64
     ensures { λ r. ⌜ r ≡ nextOf n ⌝ }
 {
-    if n < 65535 {
+    if n < MOST {
         return n + 1;
     }
     n

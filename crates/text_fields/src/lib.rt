@@ -66,6 +66,9 @@ fn wide(b: u8) -> u32
     b as u32
 }
 
+// How many bytes there are.
+const BYTES: u32 = 256;
+
 // The kind whose word this is; the two bytes of a word make one number.
 fn kind_of(word: &[u8]) -> KindRead
     ensures { λ r. ⌜ kindAnswer r ≡ kindOf (now (word .entry)) ⌝ }
@@ -75,7 +78,7 @@ fn kind_of(word: &[u8]) -> KindRead
     }
     let a = wide(word[0]);
     let b = wide(word[1]);
-    let both = a * 256 + b;
+    let both = a * BYTES + b;
     match both {
         0x726c => KindRead::Kind(LineKind::Rl),
         0x666b => KindRead::Kind(LineKind::Fk),

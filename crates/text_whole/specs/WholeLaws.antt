@@ -186,7 +186,8 @@ module _ (text : List ℕ) (few : length text ≤ 32768) (allowed : otherByte 1 
   whole-unnamed e n = whole-line false (first-line e false n)
 
   -- it is the names line
-  pub whole-named : {span : Span} → AtLine span ≡ lineAt text 0 1 → same (bytesOf text span) namesLine ≡ true → wholeOf text ≡ Whole.Lines (span .next)
+  pub whole-named : {span : Span} → AtLine span ≡ lineAt text 0 1 → same (bytesOf text span) namesLine ≡ true
+      → wholeOf text ≡ Whole.Lines (span .next)
   whole-named {span} e n =
       let found : AtLine (spanAt text 0 1) ≡ lineAt text 0 1 = line-found text 0 1 (endsLine-some text ends) refl in
       let same-span : spanAt text 0 1 ≡ span = cc in

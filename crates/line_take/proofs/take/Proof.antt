@@ -76,7 +76,10 @@ returns-2 : tie.Need-returns-2
 unfolding takeAs
 returns-2 c =
     let told = c .before .before .before .before in
-    taken (told .before .before .before .before .before .before .if1 .left) (told .enum-told .given .1) (c .before .before .take-relation .ensures)
+    let body = told .before .before in
+    let depth = body .before .before in
+    let passed = depth .before .before in
+    taken (passed .if1 .left) (told .enum-told .given .1) (c .before .before .take-relation .ensures)
 
 same-length-2 : tie.Need-same-length-2
 same-length-2 c = search needs
@@ -85,7 +88,10 @@ returns-3 : tie.Need-returns-3
 unfolding takeAs
 returns-3 c =
     let told = c .before .before .before .before in
-    taken (told .before .before .before .before .before .before .if1 .left) (told .enum-told2 .given .1) (c .before .before .take-key .ensures)
+    let body = told .before .before in
+    let depth = body .before .before in
+    let passed = depth .before .before in
+    taken (passed .if1 .left) (told .enum-told2 .given .1) (c .before .before .take-key .ensures)
 
 same-length-3 : tie.Need-same-length-3
 same-length-3 c = search needs
@@ -94,7 +100,10 @@ returns-4 : tie.Need-returns-4
 unfolding takeAs
 returns-4 c =
     let told = c .before .before .before .before in
-    taken (told .before .before .before .before .before .before .if1 .left) (told .enum-told3 .given .1) (c .before .before .take-program .ensures)
+    let body = told .before .before in
+    let depth = body .before .before in
+    let passed = depth .before .before in
+    taken (passed .if1 .left) (told .enum-told3 .given .1) (c .before .before .take-program .ensures)
 
 same-length-4 : tie.Need-same-length-4
 same-length-4 c = search needs
@@ -103,7 +112,10 @@ returns-5 : tie.Need-returns-5
 unfolding takeAs
 returns-5 c =
     let told = c .before .before .before .before in
-    taken (told .before .before .before .before .before .before .before .if1 .left) (told .before .kind .given .1) (c .before .before .take-statement .ensures)
+    let body = told .before .before .before in
+    let depth = body .before .before in
+    let passed = depth .before .before in
+    taken (passed .if1 .left) (told .before .kind .given .1) (c .before .before .take-statement .ensures)
 
 same-length-5 : tie.Need-same-length-5
 same-length-5 c = search needs
@@ -112,7 +124,11 @@ returns-6 : tie.Need-returns-6
 unfolding takeAs
 returns-6 c =
     let told = c .before .before .before .before in
-    taken (told .before .before .before .before .before .before .if1 .left) (told .enum-told4 .given .1) (took-opening 0 (told .before .before .before .before .word-at .ensures) (told .before .before .word-at2 .ensures) (c .before .before .push .ensures))
+    let body = told .before .before in
+    let depth = body .before .before in
+    let passed = depth .before .before in
+    taken (passed .if1 .left) (told .enum-told4 .given .1)
+    (took-opening 0 (depth .word-at .ensures) (body .word-at2 .ensures) (c .before .before .push .ensures))
 
 same-length-6 : tie.Need-same-length-6
 same-length-6 c = search needs
@@ -121,7 +137,11 @@ returns-7 : tie.Need-returns-7
 unfolding takeAs
 returns-7 c =
     let told = c .before .before .before .before in
-    taken (told .before .before .before .before .before .before .if1 .left) (told .enum-told5 .given .1) (took-opening 1 (told .before .before .before .before .word-at .ensures) (told .before .before .word-at2 .ensures) (c .before .before .push2 .ensures))
+    let body = told .before .before in
+    let depth = body .before .before in
+    let passed = depth .before .before in
+    taken (passed .if1 .left) (told .enum-told5 .given .1)
+    (took-opening 1 (depth .word-at .ensures) (body .word-at2 .ensures) (c .before .before .push2 .ensures))
 
 same-length-7 : tie.Need-same-length-7
 same-length-7 c = search needs
@@ -130,7 +150,10 @@ returns-8 : tie.Need-returns-8
 unfolding takeAs
 returns-8 c =
     let told = c .before .before .before .before in
-    taken (told .before .before .before .before .before .before .if1 .left) (told .enum-told6 .given .1) (c .before .before .take-second .ensures)
+    let body = told .before .before in
+    let depth = body .before .before in
+    let passed = depth .before .before in
+    taken (passed .if1 .left) (told .enum-told6 .given .1) (c .before .before .take-second .ensures)
 
 same-length-8 : tie.Need-same-length-8
 same-length-8 c = search needs
@@ -139,7 +162,10 @@ returns-9 : tie.Need-returns-9
 unfolding takeAs
 returns-9 c =
     let told = c .before .before .before .before in
-    taken (told .before .before .before .before .before .before .if1 .left) (told .enum-told7 .given .1) (c .before .before .take-closing .ensures)
+    let body = told .before .before in
+    let depth = body .before .before in
+    let passed = depth .before .before in
+    taken (passed .if1 .left) (told .enum-told7 .given .1) (c .before .before .take-closing .ensures)
 
 same-length-9 : tie.Need-same-length-9
 same-length-9 c = search needs
@@ -148,7 +174,10 @@ returns-10 : tie.Need-returns-10
 unfolding takeAs
 returns-10 c =
     let told = c .before .before .before .before in
-    taken (told .before .before .before .before .before .before .if1 .left) (told .enum-told8 .given .1) (took-link (told .before .before .before .before .before .before .if1 .left) (c .before .before .count-line .ensures))
+    let body = told .before .before in
+    let depth = body .before .before in
+    let passed = depth .before .before in
+    taken (passed .if1 .left) (told .enum-told8 .given .1) (took-link (passed .if1 .left) (c .before .before .count-line .ensures))
 
 pub take-spec : {M : Type 1} → statement M
 take-spec =

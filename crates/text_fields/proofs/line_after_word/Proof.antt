@@ -25,10 +25,14 @@ Read c forms front end =
 abbrev has : ℕ → ℕ → Bool
 has facts field = not (lacksFact facts field)
 
+-- the forms of the three sets
+abbrev sets-of : ℕ → List Form
+sets-of f = setIf (has f hasReads) ∷ setIf (has f hasWrites) ∷ setIf (has f hasTests) ∷ []
+
 -- no field is read yet
 none-read : (c : tie.After-line-facts) → let f = c .line-facts .result in
     Read (c .before .before)
-    (numberIf (has f hasId) ∷ numberIf (has f hasRel) ∷ numberIf (has f hasTo) ∷ setIf (has f hasReads) ∷ setIf (has f hasWrites) ∷ setIf (has f hasTests) ∷ []) []
+    (numberIf (has f hasId) ∷ numberIf (has f hasRel) ∷ numberIf (has f hasTo) ∷ sets-of f) []
     (c .before .before .args .at)
 unfolding formsWith
 none-read c = started _ _ (ap formsBy (c .line-facts .ensures) ∙ sym (forms-told (c .before .before .args .kind)))
@@ -60,7 +64,7 @@ abbrev values-id : tie.After-known-told → List ℕ
 values-id c = c .before .id .given .0 .0 ∷ []
 
 id-read : (c : tie.After-known-told) → let f = fields-id c in
-    Read (start-id c) (numberIf (has f hasRel) ∷ numberIf (has f hasTo) ∷ setIf (has f hasReads) ∷ setIf (has f hasWrites) ∷ setIf (has f hasTests) ∷ []) (values-id c)
+    Read (start-id c) (numberIf (has f hasRel) ∷ numberIf (has f hasTo) ∷ sets-of f) (values-id c)
     (c .before .id .given .0 .1 .0)
 id-read c =
     gone-on (none-read (c .before .before .before .before))
@@ -76,7 +80,7 @@ abbrev values-rel : tie.After-known-told2 → List ℕ
 values-rel c = values-id (before-id c) ++ (c .before .rel .given .0 .0 ∷ [])
 
 rel-read : (c : tie.After-known-told2) → let f = fields-rel c in
-    Read (start-rel c) (numberIf (has f hasTo) ∷ setIf (has f hasReads) ∷ setIf (has f hasWrites) ∷ setIf (has f hasTests) ∷ []) (values-rel c)
+    Read (start-rel c) (numberIf (has f hasTo) ∷ sets-of f) (values-rel c)
     (c .before .rel .given .0 .1 .0)
 rel-read c =
     gone-on (id-read (before-id c))
@@ -93,7 +97,7 @@ abbrev values-to : tie.After-known-told3 → List ℕ
 values-to c = values-rel (before-rel c) ++ (c .before .to .given .0 .0 ∷ [])
 
 to-read : (c : tie.After-known-told3) → let f = fields-to c in
-    Read (start-to c) (setIf (has f hasReads) ∷ setIf (has f hasWrites) ∷ setIf (has f hasTests) ∷ []) (values-to c) (c .before .to .given .0 .1 .0)
+    Read (start-to c) (sets-of f) (values-to c) (c .before .to .given .0 .1 .0)
 to-read c =
     gone-on (rel-read (before-rel c))
     (sym (c .before .before .before .next-number3 .ensures .is) ∙ ap (stepAnswer (start-to c .args .bytes .now)) (c .before .to .given .1))
