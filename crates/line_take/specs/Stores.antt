@@ -5,6 +5,8 @@ use mathlib.Core.Path.{_≡_}
 use Prim.Native.Nat.{ℕ, _+_, _*_}
 use lib.Dec.{eqb, ltb}
 use lib.ListN.{length, getD, set, drop}
+use Rattle.spec_text.specs.declared.Line.{Line}
+use Rattle.spec_text.specs.declared.LineKind.{LineKind}
 use Rattle.line_state.specs.Records.{Stack, State}
 use Rattle.line_state.specs.StateSteps.{nextOf}
 use Rattle.line_state.specs.StateWords.{arrayIn, stateIn}
@@ -120,3 +122,7 @@ atDepth k depth =
       firsts = k .firsts;
       seconds = k .seconds;
     }
+
+-- a line of this kind by the values that taking it keeps
+abbrev pub lineBy : LineKind → ℕ → ℕ → ℕ → Line
+lineBy kind reads rel to = record { kind = kind; id = 0; rel = rel; to = to; reads = reads; writes = 0; tests = 0 }

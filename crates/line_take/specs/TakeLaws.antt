@@ -8,7 +8,7 @@ use lib.ListN.{length, getD, set}
 use Rattle.spec_text.specs.declared.Line.{Line}
 use Rattle.spec_text.specs.declared.LineKind.{LineKind}
 use Rattle.line_state.specs.StateSteps.{nextOf, markOf, pushedOf, poppedOf, secondOf, takenRelation, takenKey, takenStatement, takenFlow, takenLink}
-use Rattle.line_state.specs.StateSteps.{takeAs}
+use Rattle.line_state.specs.StateSteps.{takeAs, takeOf}
 use Rattle.line_state.specs.StateWords.{arrayIn, stateIn, Taken}
 use Rattle.line_take.specs.Stores.{putIn, rowIn, stepIn, countIn, fits, storeIn, storesIn}
 use Rattle.line_take.specs.Stores.{stateAfterStores, arrayAfterStores, countAfterStores}
@@ -97,14 +97,18 @@ pub took-second : {before after : List ℕ} {depth below place : ℕ} → depth 
 unfolding stateIn
 took-second e p f t = rw (f, p, e) at t
 
--- the words after a line, from what a line of its kind makes of the state
-pub taken : {before after : List ℕ} {l : Line} {kind : LineKind} → 424 ≤ length before → l .kind ≡ kind
-    → Took before after (takeAs (stateIn before) l kind) → Taken before l after
-taken {before} {l = l} n e t =
+-- what a line of one kind takes, a line of the same kind takes
+pub took-kind : {before after : List ℕ} (l : Line) {kind as-told : LineKind} → kind ≡ as-told → Took before after (takeAs (stateIn before) l as-told)
+    → Took before after (takeAs (stateIn before) l kind)
+took-kind {before} l e t =
+    record { size = t .size; state = t .state ∙ ap (takeAs (stateIn before) l) (sym e); rest = t .rest }
+
+pub taken : {before after : List ℕ} {l : Line} → 424 ≤ length before → Took before after (takeOf (stateIn before) l) → Taken before l after
+taken n t =
     record {
       size = t .size;
       short = λ h. absurd (omega arith);
-      state = λ h. t .state ∙ ap (takeAs (stateIn before) l) (sym e);
+      state = λ h. t .state;
       rest = t .rest;
     }
 

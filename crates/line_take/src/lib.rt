@@ -11,10 +11,10 @@ ghost use Prim.Native.Nat.{_-_, _≤_, _<_};
 ghost use lib.Bits.{bitOr};
 ghost use lib.ListN.{length, getD};
 ghost use Rattle.spec_text.specs.Reading.{canBeParent};
-ghost use Rattle.line_state.specs.StateSteps.{nextOf, markOf, pushedOf, poppedOf, secondOf};
+ghost use Rattle.line_state.specs.StateSteps.{nextOf, markOf, pushedOf, poppedOf, secondOf, takeAs};
 ghost use Rattle.line_state.specs.StateSteps.{takenRelation, takenKey, takenProgram, takenStatement, takenFlow};
 ghost use Rattle.line_state.specs.StateWords.{arrayIn, stateIn, Taken};
-ghost use Rattle.line_take.specs.Stores.{putIn, rowIn, stepIn, countIn, atDepth, Took};
+ghost use Rattle.line_take.specs.Stores.{putIn, rowIn, stepIn, countIn, atDepth, lineBy, Took};
 
 // Where counts stop; none that is kept comes near it.
 const MOST: u64 = 65535;
@@ -40,7 +40,7 @@ fn previous(n: u64) -> u64
 }
 
 // Sets a cell of the array that begins at a word; past its end nothing changes.
-fn put(words: &mut [u64], from: usize, i: u64, v: u64)
+fn put_cell(words: &mut [u64], from: usize, i: u64, v: u64)
     requires { ⌜ (from ≤ 392) × (424 ≤ length (now words)) ⌝ }
     ensures { λ _. ⌜ now (words .exit) ≡ putIn (now (words .entry)) from i v ⌝ }
 {
@@ -54,11 +54,11 @@ fn put_row(words: &mut [u64], from: usize, i: u64, v: u64, w: u64, x: u64, y: u6
     requires { ⌜ (from ≤ 264) × (424 ≤ length (now words)) ⌝ }
     ensures { λ _. ⌜ now (words .exit) ≡ rowIn (now (words .entry)) from i v w x y z ⌝ }
 {
-    put(words, from, i, v);
-    put(words, from + 32, i, w);
-    put(words, from + 64, i, x);
-    put(words, from + 96, i, y);
-    put(words, from + 128, i, z);
+    put_cell(words, from, i, v);
+    put_cell(words, from + 32, i, w);
+    put_cell(words, from + 64, i, x);
+    put_cell(words, from + 96, i, y);
+    put_cell(words, from + 128, i, z);
 }
 
 // Makes a word one more.
@@ -84,7 +84,7 @@ fn take_relation(words: &mut [u64], reads: u64)
     ensures { λ _. ⌜ Took (now (words .entry)) (now (words .exit)) (takenRelation (stateIn (now (words .entry))) reads) ⌝ }
 {
     let at = word_at(words, line_state::RELATIONS);
-    put(words, line_state::SETS, at, reads);
+    put_cell(words, line_state::SETS, at, reads);
     count_line(words, line_state::RELATIONS);
 }
 
@@ -103,8 +103,8 @@ fn take_key(words: &mut [u64], child: u8, parent: u8)
     ensures { λ _. ⌜ Took (now (words .entry)) (now (words .exit)) (takenKey (stateIn (now (words .entry))) child parent) ⌝ }
 {
     let at = word_at(words, line_state::KEYS);
-    put(words, line_state::CHILDREN, at, child as u64);
-    put(words, line_state::PARENTS, at, parent as u64);
+    put_cell(words, line_state::CHILDREN, at, child as u64);
+    put_cell(words, line_state::PARENTS, at, parent as u64);
     count_line(words, line_state::KEYS);
 }
 
@@ -199,6 +199,39 @@ fn take_closing(words: &mut [u64])
     words[line_state::DEPTH] = previous(depth);
 }
 
+// A loop or the first arm of a branch begins.
+fn take_opening(words: &mut [u64], part: u64)
+    requires { ⌜ 424 ≤ length (now words) ⌝ }
+    ensures { λ _. ⌜
+        Took (now (words .entry)) (now (words .exit))
+        (takenFlow (stateIn (now (words .entry))) (pushedOf (stateIn (now (words .entry)) .stack) (stateIn (now (words .entry)) .body) part))
+        ⌝ }
+{
+    let depth = word_at(words, line_state::DEPTH);
+    let body = word_at(words, line_state::BODY);
+    push(words, depth, body, part);
+}
+
+// A line of this kind taken, with the values that matter to it: with few locals the nine arms are cheap to check.
+fn take_kind(words: &mut [u64], kind: LineKind, reads: u64, rel: u8, to: u8)
+    requires { ⌜ 424 ≤ length (now words) ⌝ }
+    ensures { λ _. ⌜
+        Took (now (words .entry)) (now (words .exit)) (takeAs (stateIn (now (words .entry))) (lineBy kind reads rel to) kind)
+        ⌝ }
+{
+    match kind {
+        LineKind::Rl => take_relation(words, reads),
+        LineKind::Fk => take_key(words, rel, to),
+        LineKind::Pr => take_program(words),
+        LineKind::St(j) => take_statement(words, rel, j),
+        LineKind::Lo => take_opening(words, 0),
+        LineKind::Br => take_opening(words, 1),
+        LineKind::El => take_second(words),
+        LineKind::En => take_closing(words),
+        LineKind::Li => count_line(words, line_state::LINKS),
+    }
+}
+
 // A line taken; too few words stay as they are.
 pub fn take(words: &mut [u64], l: Line)
     ensures { λ _. ⌜ Taken (now (words .entry)) l (now (words .exit)) ⌝ }
@@ -206,18 +239,6 @@ pub fn take(words: &mut [u64], l: Line)
     if words.len() < line_state::WORDS {
         return;
     }
-    let depth = word_at(words, line_state::DEPTH);
-    let body = word_at(words, line_state::BODY);
     let kind = l.kind;
-    match kind {
-        LineKind::Rl => take_relation(words, l.reads),
-        LineKind::Fk => take_key(words, l.rel, l.to),
-        LineKind::Pr => take_program(words),
-        LineKind::St(j) => take_statement(words, l.rel, j),
-        LineKind::Lo => push(words, depth, body, 0),
-        LineKind::Br => push(words, depth, body, 1),
-        LineKind::El => take_second(words),
-        LineKind::En => take_closing(words),
-        LineKind::Li => count_line(words, line_state::LINKS),
-    }
+    take_kind(words, kind, l.reads, l.rel, l.to);
 }

@@ -28,13 +28,13 @@ abbrev pub unusedCells : ℕ → Workload
 unusedCells count = record { count = count; lines = replicate 1616 unusedLine }
 
 -- the number of the fault of a line's bytes after the lines kept, 0 where there is none
-unfoldable pub numberOf : State → Option Line → ℕ
-numberOf s none = 4
-numberOf s (some l) = checkOf s l
+unfoldable pub faultNumber : State → Option Line → ℕ
+faultNumber s none = 4
+faultNumber s (some l) = checkOf s l
 
 -- what is seen of a line's bytes: a fault's number, or 0 and the line, which is then taken
 pub record Saw (before : List ℕ) (o : Option Line) (after : List ℕ) (r : Seen) : Type 0 where
-  pub number : r .number ≡ numberOf (stateIn before) o
+  pub number : r .number ≡ faultNumber (stateIn before) o
   pub value : r .number ≡ 0 → o ≡ some (r .line)
   pub taken : r .number ≡ 0 → Taken before (r .line) after
 

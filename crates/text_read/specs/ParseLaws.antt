@@ -29,7 +29,7 @@ use Rattle.text_lines.specs.declared.Step.the-variants.{Line as AtLine, End as 
 use Rattle.text_lines.specs.Span.{lineAt}
 use Rattle.text_lines.specs.Going.{bytesOf, goneThrough}
 use Rattle.text_lines.specs.GoingLaws.{came, gone-through}
-use Rattle.text_read.specs.Parse.{parsedAs, unusedCells, numberOf, Saw, Going}
+use Rattle.text_read.specs.Parse.{parsedAs, unusedCells, faultNumber, Saw, Going}
 
 -- ---- the workload
 
@@ -56,16 +56,16 @@ value-count before = refl
 -- ---- a line's bytes
 
 pub saw-wrong : (words : List ℕ) {r : Seen} → r .number ≡ 4 → Saw words none words r
-unfolding numberOf
+unfolding faultNumber
 saw-wrong words e = record { number = e; value = λ z. absurd (omega arith); taken = λ z. absurd (omega arith) }
 
 pub saw-fault : (words : List ℕ) (l : Line) {r : Seen} → r .number ≡ checkOf (stateIn words) l → (r .number ≡ 0 → ⊥) → Saw words (some l) words r
-unfolding numberOf
+unfolding faultNumber
 saw-fault words l e n = record { number = e; value = λ z. absurd (n z); taken = λ z. absurd (n z) }
 
 pub saw-line : (words : List ℕ) (l : Line) {after : List ℕ} {r : Seen} → r .number ≡ checkOf (stateIn words) l → r .line ≡ l
     → Taken words l after → Saw words (some l) after r
-unfolding numberOf
+unfolding faultNumber
 saw-line words l {after} e f t =
     record {
       number = e;
@@ -75,14 +75,14 @@ saw-line words l {after} e f t =
 
 -- a fault ends reading
 pub line-refused : (before : List Line) (s : State) (n : ℕ) (bytes : List ℕ) (rest : List (List ℕ)) → Holds s before
-    → n ≡ numberOf s (lineOf bytes) → (n ≡ 0 → ⊥) → readLines before (bytes ∷ rest) ≡ refused n (length before + 2)
-unfolding readLines numberOf faultOf
+    → n ≡ faultNumber s (lineOf bytes) → (n ≡ 0 → ⊥) → readLines before (bytes ∷ rest) ≡ refused n (length before + 2)
+unfolding readLines faultNumber faultOf
 line-refused before s n bytes rest h e z = go (lineOf bytes) e
   where
     one : (l : Line) → n ≡ checkOf s l → fault before l ≡ some n
     one l q = sym (holds-check s before l h) ∙ ap faultOf (sym q) ∙ ap (λ t. cond t none (some n)) (ne-eqb n 0 z)
 
-    go : (o : Option Line) → n ≡ numberOf s o
+    go : (o : Option Line) → n ≡ faultNumber s o
         → _≡_ {A = Outcome} (elim o [
           | none ↦ refused 4 (length before + 2)
           | some l ↦
@@ -172,9 +172,9 @@ going-refused {text} {words} {at = at} {line = line} {r = r} {span = span} g her
 -- the line taken
 passes : {text words after : List ℕ} {start at line : ℕ} {w : Workload} {r : Seen} {o : Option Line} (g : Going text start w words at line)
     → Saw words o after r → r .number ≡ 0 → fault (g .before) (r .line) ≡ none
-unfolding numberOf
+unfolding faultNumber
 passes {words = words} {r = r} g saw z =
-    line-passes (g .before) (stateIn words) (r .line) (g .holds .state) (sym (saw .number ∙ ap (numberOf (stateIn words)) (saw .value z)) ∙ z)
+    line-passes (g .before) (stateIn words) (r .line) (g .holds .state) (sym (saw .number ∙ ap (faultNumber (stateIn words)) (saw .value z)) ∙ z)
 
 pub going-room : {text words after : List ℕ} {start at line : ℕ} {w : Workload} {r : Seen} {o : Option Line} → Going text start w words at line
     → Saw words o after r → r .number ≡ 0 → w .count < 1616

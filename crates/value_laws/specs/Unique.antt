@@ -27,7 +27,7 @@ use Rattle.text_digits.specs.DigitLaws.{Digit, digit-view}
 use Rattle.text_fields.specs.Field.{fieldLength, othersIn, lineFrom, lineAfterWord}
 use Rattle.text_fields.specs.FieldLaws.{inFront, withValue, values-cons, values-split}
 use Rattle.text_fields.specs.FieldLaws.{fields-cut, kind-word, line-none, line-some}
-use Rattle.text_fields.specs.KindLaws.{kind-of-word}
+use Rattle.text_fields.specs.WordLaws.{kind-of-word}
 use Rattle.text_digits.specs.DigitLaws.Digit.{decimal, letter, neither}
 
 -- a digit is written for what it stands for

@@ -7,11 +7,11 @@ use Rattle.line_take.proofs.take_key.Tie as tie
 word-at-requires : tie.Need-word-at-requires
 word-at-requires c κs = search needs
 
-put-requires : tie.Need-put-requires
-put-requires c κs = search needs
+put-cell-requires : tie.Need-put-cell-requires
+put-cell-requires c κs = search needs
 
-put-requires-2 : tie.Need-put-requires-2
-put-requires-2 c κs = search needs
+put-cell-requires-2 : tie.Need-put-cell-requires-2
+put-cell-requires-2 c κs = search needs
 
 count-line-requires : tie.Need-count-line-requires
 count-line-requires c κs = search needs
@@ -26,7 +26,7 @@ returns c =
     let first = second .before .before .before .before in
     let at = first .before .before in
     let entry = at .before .before .before in
-    took-key (entry .args .child) (entry .args .parent) (entry .pre) (at .word-at .ensures) (first .put .ensures) (second .put2 .ensures)
+    took-key (entry .args .child) (entry .args .parent) (entry .pre) (at .word-at .ensures) (first .put-cell .ensures) (second .put-cell2 .ensures)
     (counted .count-line .ensures)
 
 pub take-key-spec : {M : Type 1} → statement M
@@ -34,8 +34,8 @@ take-key-spec =
     tie.close
     (tie.spec
     word-at-requires
-    put-requires
-    put-requires-2
+    put-cell-requires
+    put-cell-requires-2
     count-line-requires
     same-length
     returns)

@@ -7,10 +7,10 @@ use mathlib.Core.Path.{_≡_, refl, ap, sym, _∙_}
 use Prim.Native.Nat.{ℕ, _+_, _-_, _*_, _≤_, _<_}
 use lib.ListN.{length, set, getD, length-set, take, drop}
 use borrow.Author.Needs.{needs}
-use Rattle.line_take.proofs.put.Statement.{statement}
-use Rattle.line_take.proofs.put.Tie as tie
-use Rattle.line_take.proofs.put.Reads as reads
-use Rattle.line_take.proofs.put.Lts as lts
+use Rattle.line_take.proofs.put_cell.Statement.{statement}
+use Rattle.line_take.proofs.put_cell.Tie as tie
+use Rattle.line_take.proofs.put_cell.Reads as reads
+use Rattle.line_take.proofs.put_cell.Lts as lts
 
 add-words : tie.Need-add-words
 add-words c = search needs
@@ -30,5 +30,5 @@ returns c = put-in _ _ _ _ (c .if1 .taken)
 returns-2 : tie.Need-returns-2
 returns-2 c = put-out _ _ _ _ (c .if1 .left)
 
-pub put-spec : {M : Type 1} → statement M
-put-spec = tie.close (tie.spec add-words mul-words slice-write-words same-length returns returns-2)
+pub put-cell-spec : {M : Type 1} → statement M
+put-cell-spec = tie.close (tie.spec add-words mul-words slice-write-words same-length returns returns-2)
