@@ -15,7 +15,7 @@ use Rattle.law_base.specs.ListLaws.{any-append, any-true, all-true, all-of, cou
 use Rattle.spec_text.specs.declared.Line.{Line}
 use Rattle.spec_text.specs.declared.LineKind.{LineKind}
 use Rattle.spec_text.specs.declared.LineKind.the-variants.{Rl, Fk, Pr, St, Lo, Br, El, En, Li}
-use Rattle.spec_text.specs.Reading.{sort, isRelation, isKey, isProgram, isStatementOrFlow, isLink, isStatement, program, openBlocks, blocksBehind}
+use Rattle.spec_text.specs.Reading.{sort, isRelation, isKey, isProgram, isStatementOrFlow, isLink, isStatement, program, openBlocks, blocksAfterLines}
 use Rattle.spec_text.specs.Reading.{bounded, withinBounds, inBody, ordered, read}
 use Rattle.spec_text.specs.Reading.Outcome.{accepted}
 use Rattle.law_text.specs.ReadingLaws.{fault-none, Taken, read-taken}
@@ -238,7 +238,7 @@ size-taken before (l ∷ lines) b z t =
 
 -- lines that are taken are at most as many as a workload value has cells
 pub taken-length : (lines : List Line) → Taken [] lines → length lines ≤ 1616
-unfolding bounded program openBlocks blocksBehind
+unfolding bounded program openBlocks blocksAfterLines
 taken-length lines t =
     let r = size-taken [] lines (bounded-true [] refl) (none-begun refl refl) t in
     go (r .0) (r .1)

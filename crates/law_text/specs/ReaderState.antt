@@ -82,8 +82,8 @@ ownAfter o l =
     }
 
 -- T6: a `pr` begins a program; a line before the first `pr` belongs to none
-unfoldable pub ownBehind : ℕ → Own → Line → Own
-ownBehind programs o l =
+unfoldable pub ownAfterAny : ℕ → Own → Line → Own
+ownAfterAny programs o l =
     elim (isProgram l) [ true ↦ emptyOwn | false ↦ elim (eqb programs 0) [ true ↦ o | false ↦ ownAfter o l ] ]
 
 -- one line more
@@ -94,7 +94,7 @@ stateAfter s l =
       relations = s .relations ++ keep isRelation (l ∷ []);
       keys = s .keys ++ keep isKey (l ∷ []);
       programs = s .programs + cond (isProgram l) 1 0;
-      own = ownBehind (s .programs) (s .own) l;
+      own = ownAfterAny (s .programs) (s .own) l;
     }
 
 -- T12: the bounds on lines

@@ -19,29 +19,29 @@ use Rattle.spec_text.specs.declared.LineKind.{LineKind}
 use Rattle.spec_text.specs.declared.LineKind.the-variants.{Rl, Fk, Pr, St, Lo, Br, El, En, Li}
 use Rattle.spec_text.specs.Text.{unusedLine}
 use Rattle.spec_text.specs.Reading.{sort, isRelation, isKey, isProgram, isStatementOrFlow, isLink, isStatement, isStatementOf, canBeParent}
-use Rattle.spec_text.specs.Reading.{Block, sameBlock, blocksAfter, blocksBehind, openBlocks, program, loop, firstArm, secondArm}
+use Rattle.spec_text.specs.Reading.{Block, sameBlock, blocksAfter, blocksAfterLines, openBlocks, program, loop, firstArm, secondArm}
 use Rattle.spec_text.specs.Reading.{beforeStatement, blocksAround, statement, key, relation, relationSet, bounded, withinBounds, inBody}
 use Rattle.spec_text.specs.Reading.{noneOpen, innermost, ordered, named, setsFit, linkFits, allAround, testsOf, firstFailed, fault}
 use Rattle.law_text.specs.ReadingLaws.{fault-none}
-use Rattle.law_text.specs.ReaderState.{aroundFrom, ownOf, stateOf, emptyOwn, emptyState, ownAfter, ownBehind, stateAfter}
+use Rattle.law_text.specs.ReaderState.{aroundFrom, ownOf, stateOf, emptyOwn, emptyState, ownAfter, ownAfterAny, stateAfter}
 use Rattle.law_text.specs.ReaderState.{stateBounded, stateInBody, stateNoneOpen, stateInnermost, stateOrdered, stateNamed, stateSetsFit}
 use Rattle.law_text.specs.ReaderState.{blocksWithin, stateLinkFits, stateTests, stateFault, numberedFrom, numbered}
 
 -- ---- one line more
 
 -- the blocks after lines and one more
-pub blocksBehind-append : (place : ℕ) (blocks : List Block) (lines : List Line) (l : Line)
-    → blocksBehind place blocks (lines ++ (l ∷ [])) ≡ blocksAfter (l .kind) (place + length lines) (blocksBehind place blocks lines)
-unfolding blocksBehind
-blocksBehind-append place blocks [] l = rw add-zero refl
-blocksBehind-append place blocks (x ∷ lines) l =
-    blocksBehind-append (suc place) (blocksAfter (x .kind) place blocks) lines l ∙ rw (suc-add, add-suc) refl
+pub blocksAfterLines-append : (place : ℕ) (blocks : List Block) (lines : List Line) (l : Line)
+    → blocksAfterLines place blocks (lines ++ (l ∷ [])) ≡ blocksAfter (l .kind) (place + length lines) (blocksAfterLines place blocks lines)
+unfolding blocksAfterLines
+blocksAfterLines-append place blocks [] l = rw add-zero refl
+blocksAfterLines-append place blocks (x ∷ lines) l =
+    blocksAfterLines-append (suc place) (blocksAfter (x .kind) place blocks) lines l ∙ rw (suc-add, add-suc) refl
 
 -- the blocks around each statement of lines and one more
 pub aroundFrom-append : (place : ℕ) (blocks : List Block) (lines : List Line) (l : Line)
     → aroundFrom place blocks (lines ++ (l ∷ []))
-    ≡ aroundFrom place blocks lines ++ cond (isStatement l) (blocksBehind place blocks lines ∷ []) []
-unfolding aroundFrom blocksBehind
+    ≡ aroundFrom place blocks lines ++ cond (isStatement l) (blocksAfterLines place blocks lines ∷ []) []
+unfolding aroundFrom blocksAfterLines
 aroundFrom-append place blocks [] l = refl
 aroundFrom-append place blocks (x ∷ lines) l =
     go (isStatement x) _ _ _ (aroundFrom-append (suc place) (blocksAfter (x .kind) place blocks) lines l)
@@ -100,7 +100,7 @@ ownOf-append lines l =
     let bodies = count-more isStatementOrFlow lines l in
     let links = count-more isLink lines l in
     let blocks : openBlocks (lines ++ (l ∷ [])) ≡ blocksAfter (l .kind) (length lines) (openBlocks lines)
-    = blocksBehind-append 0 [] lines l ∙ rw (zero-add (length lines)) in
+    = blocksAfterLines-append 0 [] lines l ∙ rw (zero-add (length lines)) in
     let statements = keep-append isStatement lines (l ∷ []) in
     let around = aroundFrom-append 0 [] lines l in
     λ i. record {
@@ -152,8 +152,8 @@ program-none (x ∷ lines) h = go (isProgram x) (any isProgram lines) (program l
 
 -- the program at hand after one line more
 pub own-append : (lines : List Line) (l : Line)
-    → ownOf (program (lines ++ (l ∷ []))) ≡ ownBehind (count isProgram lines) (ownOf (program lines)) l
-unfolding ownBehind ownOf emptyOwn openBlocks blocksBehind aroundFrom
+    → ownOf (program (lines ++ (l ∷ []))) ≡ ownAfterAny (count isProgram lines) (ownOf (program lines)) l
+unfolding ownAfterAny ownOf emptyOwn openBlocks blocksAfterLines aroundFrom
 own-append lines l =
     ap ownOf (program-append lines l)
     ∙ go (isProgram l) (any isProgram lines) (eqb (count isProgram lines) 0) refl (count-none isProgram lines)
@@ -183,7 +183,7 @@ stateOf-append lines l =
 
 -- the value of no line
 pub stateOf-empty : stateOf [] ≡ emptyState
-unfolding stateOf emptyState ownOf emptyOwn openBlocks blocksBehind aroundFrom program
+unfolding stateOf emptyState ownOf emptyOwn openBlocks blocksAfterLines aroundFrom program
 stateOf-empty = refl
 
 -- ---- the tests
@@ -306,8 +306,8 @@ setsFit-state lines l = refl
 -- where the statements of lines are numbered from n on, the blocks around the statement of an id stand at its place
 pub around-numbered : (n place : ℕ) (blocks : List Block) (lines : List Line) (s : ℕ)
     → numberedFrom n lines ≡ true → s < length (keep isStatement lines)
-    → blocksBehind place blocks (beforeStatement (n + s) lines) ≡ getD (aroundFrom place blocks lines) s []
-unfolding numberedFrom aroundFrom beforeStatement blocksBehind
+    → blocksAfterLines place blocks (beforeStatement (n + s) lines) ≡ getD (aroundFrom place blocks lines) s []
+unfolding numberedFrom aroundFrom beforeStatement blocksAfterLines
 around-numbered n place blocks [] s numbered below = absurd (not-suc-le-zero below)
 around-numbered n place blocks (l ∷ lines) s numbered below =
     go (isStatement l) s numbered below
@@ -320,15 +320,15 @@ around-numbered n place blocks (l ∷ lines) s numbered below =
     Later : ℕ → Type 0
     Later m =
         (t : ℕ) → numberedFrom m lines ≡ true → t < length (keep isStatement lines)
-        → blocksBehind (suc place) (blocksAfter (l .kind) place blocks) (beforeStatement (m + t) lines) ≡ getD rest t []
+        → blocksAfterLines (suc place) (blocksAfter (l .kind) place blocks) (beforeStatement (m + t) lines) ≡ getD rest t []
 
-    here-stop : (c : Bool) (before : List Line) → c ≡ true → blocksBehind place blocks (elim c [ true ↦ [] | false ↦ l ∷ before ]) ≡ blocks
+    here-stop : (c : Bool) (before : List Line) → c ≡ true → blocksAfterLines place blocks (elim c [ true ↦ [] | false ↦ l ∷ before ]) ≡ blocks
     here-stop true before e = refl
     here-stop false before e = absurd (B.false≢true e)
 
     past : (c : Bool) (before : List Line) → c ≡ false
-        → blocksBehind place blocks (elim c [ true ↦ [] | false ↦ l ∷ before ])
-        ≡ blocksBehind (suc place) (blocksAfter (l .kind) place blocks) before
+        → blocksAfterLines place blocks (elim c [ true ↦ [] | false ↦ l ∷ before ])
+        ≡ blocksAfterLines (suc place) (blocksAfter (l .kind) place blocks) before
     past true before e = absurd (B.true≢false e)
     past false before e = refl
 
@@ -336,7 +336,7 @@ around-numbered n place blocks (l ∷ lines) s numbered below =
         → (elim b as (λ x. Bool) [ true ↦ eqb (l .id) n && numberedFrom (suc n) lines | false ↦ numberedFrom n lines ]) ≡ true
         → t < length (cond b (l ∷ keep isStatement lines) (keep isStatement lines))
         → Later (suc n) → Later n
-        → blocksBehind place blocks (elim (b && eqb (l .id) (n + t)) [ true ↦ [] | false ↦ l ∷ beforeStatement (n + t) lines ])
+        → blocksAfterLines place blocks (elim (b && eqb (l .id) (n + t)) [ true ↦ [] | false ↦ l ∷ beforeStatement (n + t) lines ])
         ≡ getD (cond b (blocks ∷ rest) rest) t []
     go true zero h m ih ih′ =
         let here : l .id ≡ n = eqb-true (l .id) n (and-true (eqb (l .id) n) (numberedFrom (suc n) lines) h .0) in

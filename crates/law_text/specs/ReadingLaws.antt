@@ -186,10 +186,10 @@ relation-word : (l : Line) → l .kind ≡ Rl → lineFits l ≡ true → l .rea
 unfolding lineFits allFit fits formsOf
 relation-word l e h =
     let six : allFit (formsOf Rl) (valuesIn l) ≡ true = rw e at h in
-    let behind-id = and-true (ltb (l .id) 256) _ six in
-    let behind-rel = and-true (eqb (l .rel) 0) _ (behind-id .1) in
-    let behind-to = and-true (eqb (l .to) 0) _ (behind-rel .1) in
-    ltb-true (l .reads) (2 ^ 64) (and-true (ltb (l .reads) (2 ^ 64)) _ (behind-to .1) .0)
+    let after-id = and-true (ltb (l .id) 256) _ six in
+    let after-rel = and-true (eqb (l .rel) 0) _ (after-id .1) in
+    let after-to = and-true (eqb (l .to) 0) _ (after-rel .1) in
+    ltb-true (l .reads) (2 ^ 64) (and-true (ltb (l .reads) (2 ^ 64)) _ (after-to .1) .0)
 
 -- a line that counts as a relation is one
 relation-kind : (l : Line) → isRelation l ≡ true → l .kind ≡ Rl

@@ -16,8 +16,8 @@ use Rattle.spec_text.specs.declared.Line.{Line}
 use Rattle.spec_text.specs.declared.LineKind.{LineKind}
 use Rattle.spec_text.specs.declared.LineKind.the-variants.{Rl, Fk, Pr, St, Lo, Br, El, En, Li}
 use Rattle.spec_text.specs.declared.StatementKind.the-variants.{Is, Ks, Ps, Ku, Pu, Kd, Pd}
-use Rattle.spec_text.specs.Text.{dash, isDecimal, isHexadecimal, same, fieldsIn, digitsForm, digitValue, valueBehind, numberOf, setOf}
-use Rattle.spec_text.specs.Text.{dashOf, kindOf, Form, formsOf, fieldOf, valuesOf, lineWith, lineOf}
+use Rattle.spec_text.specs.Text.{dash, isDecimal, isHexadecimal, same, fieldsIn, digitsForm, digitValue, valueAfter, numberOf, setOf}
+use Rattle.spec_text.specs.Text.{dashOf, wordOf, kindOf, Form, formsOf, fieldOf, valuesOf, lineWith, lineOf}
 use Rattle.spec_text.specs.Text.Form.{number, set, nothing}
 
 -- a value fits the form of its field
@@ -76,8 +76,8 @@ digit-below d h = go (isDecimal d) refl
 
 -- digits after a number below 16 ^ j stand for a number below 16 ^ (j + how many they are)
 value-below : (digits : List ℕ) (j n m : ℕ) → n < 16 ^ j → all isHexadecimal digits ≡ true → j + length digits ≡ m
-    → valueBehind 16 n digits < 16 ^ m
-unfolding valueBehind
+    → valueAfter 16 n digits < 16 ^ m
+unfolding valueAfter
 value-below [] j n m h a e =
     let same : j ≡ m = omega arith in
     rw same at h
@@ -104,7 +104,7 @@ unfolding setOf
 set-below field n h =
     let g = given-by (digitsForm isHexadecimal 16 field) h in
     let f = form-digits isHexadecimal 16 field (g .0) in
-    let small : valueBehind 16 0 field < 16 ^ length field = value-below field 0 0 (length field) (omega arith) (f .0) (omega arith) in
+    let small : valueAfter 16 0 field < 16 ^ length field = value-below field 0 0 (length field) (omega arith) (f .0) (omega arith) in
     let most : 16 ^ length field ≤ 16 ^ 16 = pow-le-pow-right (omega arith) (f .1) in
     omega arith
 
@@ -112,8 +112,8 @@ set-below field n h =
 pub number-below : (field : List ℕ) (n : ℕ) → numberOf field ≡ some n → n ≤ 255
 unfolding numberOf
 number-below field n h =
-    let g = given-by (digitsForm isDecimal 3 field && leb (valueBehind 10 0 field) 255) h in
-    let most : valueBehind 10 0 field ≤ 255 = leb-true _ 255 (and-true (digitsForm isDecimal 3 field) _ (g .0) .1) in
+    let g = given-by (digitsForm isDecimal 3 field && leb (valueAfter 10 0 field) 255) h in
+    let most : valueAfter 10 0 field ≤ 255 = leb-true _ 255 (and-true (digitsForm isDecimal 3 field) _ (g .0) .1) in
     omega arith
 
 -- T2: the value of a field fits its form
@@ -245,3 +245,22 @@ value-line bytes l h = by-fields (fieldsIn bytes) refl h
 pub line-fits : (bytes : List ℕ) {l : Line} → lineOf bytes ≡ some l → lineFits l ≡ true
 unfolding lineFits
 line-fits bytes {l} h = let v = value-line bytes l h in values-fit (formsOf (l .kind)) (v .others) (valuesIn l) (v .values)
+
+-- each kind has a word of two bytes
+pub word-two : (k : LineKind) → length (wordOf k) ≡ 2
+unfolding wordOf
+word-two Rl = refl
+word-two Fk = refl
+word-two Pr = refl
+word-two (St Is) = refl
+word-two (St Ks) = refl
+word-two (St Ps) = refl
+word-two (St Ku) = refl
+word-two (St Pu) = refl
+word-two (St Kd) = refl
+word-two (St Pd) = refl
+word-two Lo = refl
+word-two Br = refl
+word-two El = refl
+word-two En = refl
+word-two Li = refl

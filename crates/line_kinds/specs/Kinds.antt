@@ -46,6 +46,10 @@ hasRel = 256
 abbrev pub hasTo : ℕ
 hasTo = 512
 
+-- it closes a block
+abbrev pub closesBlock : ℕ
+closesBlock = 1024
+
 -- the facts of a kind of statement
 abbrev pub factsOf : StatementKind → ℕ
 factsOf Is = hasWrites + wholeWrites + mayParent
@@ -65,7 +69,7 @@ lineFacts (St k) = hasId + hasRel + factsOf k
 lineFacts Lo = 0
 lineFacts Br = 0
 lineFacts El = 0
-lineFacts En = 0
+lineFacts En = closesBlock
 lineFacts Li = hasId + hasRel + hasTo
 
 -- a fact is not among these

@@ -27,12 +27,15 @@ pub const WHOLE: u64 = 32;
 // it may be a link's parent;
 pub const PARENT: u64 = 64;
 
-// it has an id, a rel, a to.
+// it has an id, a rel, a to;
 pub const ID: u64 = 128;
 
 pub const REL: u64 = 256;
 
 pub const TO: u64 = 512;
+
+// it closes a block.
+pub const CLOSES: u64 = 1024;
 
 // The facts of a kind of statement.
 pub fn facts_of(k: StatementKind) -> u64
@@ -61,7 +64,7 @@ pub fn line_facts(k: LineKind) -> u64
         LineKind::Lo => 0,
         LineKind::Br => 0,
         LineKind::El => 0,
-        LineKind::En => 0,
+        LineKind::En => CLOSES,
         LineKind::Li => ID + REL + TO,
     }
 }

@@ -19,7 +19,7 @@ use Rattle.spec_text.specs.declared.LineKind.{LineKind}
 use Rattle.spec_text.specs.declared.LineKind.the-variants.{Rl, Fk, Pr, St, Lo, Br, El, En, Li}
 use Rattle.spec_text.specs.Reading.{sort, isRelation, isKey, isProgram, isStatementOrFlow, isLink, isStatement, isStatementOf}
 use Rattle.spec_text.specs.Reading.{Block, blocksAfter, toSecondArm, fault, noneOpen, program}
-use Rattle.law_text.specs.ReaderState.{Own, State as Before, ownAfter, ownBehind, emptyOwn, stateOf, stateAfter, stateBounded, stateInBody}
+use Rattle.law_text.specs.ReaderState.{Own, State as Before, ownAfter, ownAfterAny, emptyOwn, stateOf, stateAfter, stateBounded, stateInBody}
 use Rattle.law_text.specs.ReaderState.{stateNoneOpen, stateInnermost, stateOrdered, numbered, numberedFrom, emptyState}
 use Rattle.law_text.specs.ReaderStateLaws.{fault-state, numbered-more, stateOf-append, stateOf-empty, noneOpen-state}
 use Rattle.line_state.specs.Records.{Tables, Stack, Statements, State}
@@ -37,10 +37,7 @@ use Rattle.line_rules.specs.TestLaws.{check-kept, stateFault-none}
 abbrev Kept-on : State → Before → Line → Type 0
 Kept-on s b l = Keeps s (stateAfter b l) × Good (stateAfter b l)
 
--- the tables with no line of theirs more
-tables-same : {t : Tables} {rs ks : List Line} → TablesHold t rs ks → TablesHold t (rs ++ []) (ks ++ [])
-tables-same {t} {rs} {ks} h = rw (append-nil rs, append-nil ks) h
-
+-- the statements with no line of theirs more
 statements-same : {x : Statements} {ls : List Line} {around : List (List Block)} → StatementsHold x ls around
     → StatementsHold x (ls ++ []) (around ++ [])
 statements-same {x} {ls} {around} h = rw (append-nil ls, append-nil around) h
@@ -154,7 +151,7 @@ close-step k (b ∷ blocks) h fit e = (
 )
 
 -- what is shown of the program at hand holds of all lines with one more
-finish : (s : State) (b : Before) (l : Line) (o : Own) → ownBehind (b .programs) (b .own) l ≡ o → stateBounded (stateAfter b l) ≡ true
+finish : (s : State) (b : Before) (l : Line) (o : Own) → ownAfterAny (b .programs) (b .own) l ≡ o → stateBounded (stateAfter b l) ≡ true
     → (stateBounded (after b l o) ≡ true → Keeps s (after b l o) × Good (after b l o))
     → Keeps s (stateAfter b l) × Good (stateAfter b l)
 unfolding stateAfter
@@ -356,7 +353,7 @@ table-line s b l t k g other none-yet one-more tables h =
 -- a program begins
 program-line : (s : State) (b : Before) (l : Line) → Keeps s b → Good b → sort (l .kind) ≡ 2 → stateBounded (stateAfter b l) ≡ true
     → Kept-on (takenProgram s) b l
-unfolding isRelation isKey isProgram ownBehind emptyOwn fitting
+unfolding isRelation isKey isProgram ownAfterAny emptyOwn fitting
 program-line s b l k g e h =
     let n = numbers-of k in
     let w = good-bounds b (g .bounds) in
@@ -366,7 +363,7 @@ program-line s b l k g e h =
     = ap (λ m. b .relations ++ cond (eqb m 0) (l ∷ []) []) e ∙ append-nil (b .relations) in
     let keys : b .keys ++ keep isKey (l ∷ []) ≡ b .keys
     = ap (λ m. b .keys ++ cond (eqb m 1) (l ∷ []) []) e ∙ append-nil (b .keys) in
-    finish _ b l emptyOwn (rw (e, ownBehind)) h
+    finish _ b l emptyOwn (rw (e, ownAfterAny)) h
     (λ fits. (
       record {
         lines = lines-next s b k g;

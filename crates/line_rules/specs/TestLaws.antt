@@ -16,7 +16,7 @@ use Rattle.spec_text.specs.declared.LineKind.the-variants.{Rl, Fk, Pr, St, Lo, 
 use Rattle.spec_text.specs.Text.{unusedLine}
 use Rattle.spec_text.specs.Reading.{sort, isRelation, isKey, isProgram, isStatementOrFlow, isLink, isStatement, isStatementOf, canBeParent}
 use Rattle.spec_text.specs.Reading.{Block, blocksAfter, toSecondArm, kindSets, firstFailed}
-use Rattle.law_text.specs.ReaderState.{Own, State as Before, ownAfter, ownBehind, emptyOwn, stateAfter, stateBounded, stateInBody}
+use Rattle.law_text.specs.ReaderState.{Own, State as Before, ownAfter, ownAfterAny, emptyOwn, stateAfter, stateBounded, stateInBody}
 use Rattle.law_text.specs.ReaderState.{stateNoneOpen, stateInnermost, stateOrdered, stateNamed, stateSetsFit, blocksWithin, stateLinkFits}
 use Rattle.law_text.specs.ReaderState.{stateTests, stateFault}
 use Rattle.line_state.specs.Records.{Stack, State}
@@ -329,14 +329,14 @@ lengths b l =
     }
 
 -- a line before the first program leaves the program at hand
-pub own-none : (programs : ℕ) (o : Own) (l : Line) → isProgram l ≡ false → programs ≡ 0 → ownBehind programs o l ≡ o
-unfolding ownBehind
-own-none programs o l h e = rw (h, ownBehind) (rw e)
+pub own-none : (programs : ℕ) (o : Own) (l : Line) → isProgram l ≡ false → programs ≡ 0 → ownAfterAny programs o l ≡ o
+unfolding ownAfterAny
+own-none programs o l h e = rw (h, ownAfterAny) (rw e)
 
 -- a line of a program
-pub own-some : (programs : ℕ) (o : Own) (l : Line) → isProgram l ≡ false → not (eqb programs 0) ≡ true → ownBehind programs o l ≡ ownAfter o l
-unfolding ownBehind
-own-some programs o l h e = rw (h, ownBehind) (rw (not-true (eqb programs 0) e))
+pub own-some : (programs : ℕ) (o : Own) (l : Line) → isProgram l ≡ false → not (eqb programs 0) ≡ true → ownAfterAny programs o l ≡ ownAfter o l
+unfolding ownAfterAny
+own-some programs o l h e = rw (h, ownAfterAny) (rw (not-true (eqb programs 0) e))
 
 -- all lines with one more, where the program at hand is given
 abbrev pub after : Before → Line → Own → Before
@@ -373,7 +373,7 @@ own-room b l {p} t e h fits begun =
 
 -- the test for room is the test of the bounds with one line more
 pub room-kept : (s : State) (b : Before) → Keeps s b → Good b → (l : Line) → roomOf s (l .kind) ≡ stateBounded (stateAfter b l)
-unfolding roomOf stateAfter ownBehind ownAfter emptyOwn isRelation isKey isProgram isStatementOrFlow isLink isStatement isStatementOf sort
+unfolding roomOf stateAfter ownAfterAny ownAfter emptyOwn isRelation isKey isProgram isStatementOrFlow isLink isStatement isStatementOf sort
     blocksAfter toSecondArm
 room-kept s b k g l = go (good-bounds b (g .bounds)) (numbers-of k) (l .kind) (lengths b l)
   where

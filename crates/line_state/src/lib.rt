@@ -50,6 +50,9 @@ pub const RELATIONS: usize = 422;
 
 pub const KEYS: usize = 423;
 
+// The words of a state: all arrays and counts.
+pub const WORDS: usize = 424;
+
 // A cell of the array that begins at a word, 0 past its end.
 pub fn cell(words: &[u64], from: usize, i: u64) -> u64
     ensures { λ r. ⌜ r ≡ getD (arrayIn (now (words .entry)) from) i 0 ⌝ }
@@ -70,8 +73,8 @@ pub fn cell(words: &[u64], from: usize, i: u64) -> u64
 pub fn start(words: &mut [u64])
     ensures { λ _. ⌜ now (words .exit) ≡ startedIn (now (words .entry)) ⌝ }
 {
-    if words.len() < 424 {
+    if words.len() < WORDS {
         return;
     }
-    word_list::clear(words, 0, 424);
+    word_list::clear(words, 0, WORDS);
 }

@@ -10,7 +10,8 @@ use Rattle.line_state.specs.Records.{State}
 use Rattle.line_state.specs.StateSteps.{emptyStack, emptyStatements, takenProgram}
 use Rattle.line_state.specs.StateWords.{arrayIn, stateIn}
 use Rattle.line_state.specs.StateWordsLaws.{cell-word, array-length}
-use Rattle.line_take.specs.Stores.{Store, stepIn, storeIn, storesIn, stateBehind, arraysBehind, countsBehind, arrayBehind, countBehind}
+use Rattle.line_take.specs.Stores.{Store, stepIn, storeIn, storesIn}
+use Rattle.line_take.specs.Stores.{stateAfterStores, arrayAfterStores, countAfterStores, arrayAfter, countAfter}
 use Rattle.line_take.specs.Stores.{fits, Took}
 use Rattle.line_take.specs.Stores.Store.{step}
 use Rattle.line_take.specs.StoreLaws.{took-stores}
@@ -102,12 +103,12 @@ programStores = step 5 ∷ step 4 ∷ []
 
 pub took-program : {before cleared after : List ℕ} → 424 ≤ length before → Cleared 96 420 before cleared
     → after ≡ stepIn (stepIn cleared 421) 420 → Took before after (takenProgram (stateIn before))
-unfolding programStores storesIn storeIn stateIn clearedState stateBehind arraysBehind countsBehind arrayBehind countBehind fits
+unfolding programStores storesIn storeIn stateIn clearedState stateAfterStores arrayAfterStores countAfterStores arrayAfter countAfter fits
 took-program n c e =
     let size = c .size in
     let t = took-stores _ programStores (omega arith) refl e in
     record {
       size = t .size ∙ size;
-      state = t .state ∙ ap (λ s. stateBehind s programStores) (cleared-state n c);
+      state = t .state ∙ ap (λ s. stateAfterStores s programStores) (cleared-state n c);
       rest = t .rest ∙ cleared-rest (omega arith) n c;
     }

@@ -13,8 +13,8 @@ use Rattle.spec_base.specs.Basic.{all}
 use Rattle.law_base.specs.BoolLaws.{and-true}
 use Rattle.line_state.specs.StateSteps.{nextOf}
 use Rattle.line_state.specs.StateWords.{arrayIn, stateIn}
-use Rattle.line_take.specs.Stores.{putIn, stepIn, Store, fits, storeIn, storesIn, arrayBehind, arraysBehind, countBehind, countsBehind}
-use Rattle.line_take.specs.Stores.{stateBehind, Took}
+use Rattle.line_take.specs.Stores.{putIn, stepIn, Store, fits, storeIn, storesIn, arrayAfter, arrayAfterStores, countAfter, countAfterStores}
+use Rattle.line_take.specs.Stores.{stateAfterStores, Took}
 use Rattle.line_take.specs.Stores.Store.{cell, count, step}
 
 -- a store below, within or above an array
@@ -39,8 +39,8 @@ unfolding arrayIn
 array-most words from = omega (arith, length-take 32 (drop from words))
 
 -- a cell of array k set, seen from array j
-array-put : (words : List ℕ) (j k i v : ℕ) → arrayIn (putIn words (32 * k) i v) (32 * j) ≡ arrayBehind j (arrayIn words (32 * j)) (cell k i v)
-unfolding putIn arrayBehind
+array-put : (words : List ℕ) (j k i v : ℕ) → arrayIn (putIn words (32 * k) i v) (32 * j) ≡ arrayAfter j (arrayIn words (32 * j)) (cell k i v)
+unfolding putIn arrayAfter
 array-put words j k i v = go (ltb i 32) refl (eqb k j) refl
   where
     apart : i < 32 → k ≡ j → arrayIn (set words (32 * k + i) v) (32 * j) ≡ set (arrayIn words (32 * j)) i v
@@ -62,18 +62,18 @@ array-put words j k i v = go (ltb i 32) refl (eqb k j) refl
     go false e true f = sym (set-out (arrayIn words (32 * j)) i v (omega (arith, ltb-false i 32 e, array-most words (32 * j))))
     go false e false f = refl
 
-array-store : (words : List ℕ) (j : ℕ) → j < 13 → (x : Store) → arrayIn (storeIn words x) (32 * j) ≡ arrayBehind j (arrayIn words (32 * j)) x
-unfolding storeIn stepIn arrayBehind
+array-store : (words : List ℕ) (j : ℕ) → j < 13 → (x : Store) → arrayIn (storeIn words x) (32 * j) ≡ arrayAfter j (arrayIn words (32 * j)) x
+unfolding storeIn stepIn arrayAfter
 array-store words j h (cell k i v) = array-put words j k i v
 array-store words j h (count c v) = array-above words (32 * j) (416 + c) v (omega arith)
 array-store words j h (step c) = array-above words (32 * j) (416 + c) (nextOf (getD words (416 + c) 0)) (omega arith)
 
 arrays-store : (words : List ℕ) (j : ℕ) → j < 13 → (stores : List Store)
-    → arrayIn (storesIn words stores) (32 * j) ≡ arraysBehind j (arrayIn words (32 * j)) stores
-unfolding storesIn arraysBehind
+    → arrayIn (storesIn words stores) (32 * j) ≡ arrayAfterStores j (arrayIn words (32 * j)) stores
+unfolding storesIn arrayAfterStores
 arrays-store words j h [] = refl
 arrays-store words j h (x ∷ stores) =
-    arrays-store (storeIn words x) j h stores ∙ ap (λ a. arraysBehind j a stores) (array-store words j h x)
+    arrays-store (storeIn words x) j h stores ∙ ap (λ a. arrayAfterStores j a stores) (array-store words j h x)
 
 -- a cell set, or not where it is past the end
 pub put-in : (words : List ℕ) (from i v : ℕ) → i < 32 → set words (from + i) v ≡ putIn words from i v
@@ -139,20 +139,20 @@ count-step words c b h n = count-set words c b (nextOf (getD words (416 + b) 0))
     go false e = refl
 
 count-store : (words : List ℕ) (c : ℕ) → c < 8 → 424 ≤ length words → (x : Store) → fits x ≡ true
-    → getD (storeIn words x) (416 + c) 0 ≡ countBehind c (getD words (416 + c) 0) x
-unfolding storeIn countBehind fits
+    → getD (storeIn words x) (416 + c) 0 ≡ countAfter c (getD words (416 + c) 0) x
+unfolding storeIn countAfter fits
 count-store words c h n (cell k i v) f = count-put words c k i v (ltb-true k 13 f)
 count-store words c h n (count b v) f = count-set words c b v h n
 count-store words c h n (step b) f = count-step words c b h n
 
 counts-store : (words : List ℕ) (c : ℕ) → c < 8 → 424 ≤ length words → (stores : List Store) → all fits stores ≡ true
-    → getD (storesIn words stores) (416 + c) 0 ≡ countsBehind c (getD words (416 + c) 0) stores
-unfolding storesIn countsBehind
+    → getD (storesIn words stores) (416 + c) 0 ≡ countAfterStores c (getD words (416 + c) 0) stores
+unfolding storesIn countAfterStores
 counts-store words c h n [] f = refl
 counts-store words c h n (x ∷ stores) f =
     let both = and-true (fits x) (all fits stores) f in
     counts-store (storeIn words x) c h (omega (arith, store-size words x)) stores (both .1)
-    ∙ ap (λ m. countsBehind c m stores) (count-store words c h n x (both .0))
+    ∙ ap (λ m. countAfterStores c m stores) (count-store words c h n x (both .0))
 
 -- what stands past the state
 rest-put : (words : List ℕ) (k i v : ℕ) → k < 13 → drop 424 (putIn words (32 * k) i v) ≡ drop 424 words
@@ -178,12 +178,12 @@ rest-stores words (x ∷ stores) f =
 
 -- the state after stores
 stores-state : (words : List ℕ) (stores : List Store) → 424 ≤ length words → all fits stores ≡ true
-    → stateIn (storesIn words stores) ≡ stateBehind (stateIn words) stores
-unfolding stateIn stateBehind
+    → stateIn (storesIn words stores) ≡ stateAfterStores (stateIn words) stores
+unfolding stateIn stateAfterStores
 stores-state words stores n f =
-    let number : (c : ℕ) → c < 8 → getD (storesIn words stores) (416 + c) 0 ≡ countsBehind c (getD words (416 + c) 0) stores =
+    let number : (c : ℕ) → c < 8 → getD (storesIn words stores) (416 + c) 0 ≡ countAfterStores c (getD words (416 + c) 0) stores =
     λ c h. counts-store words c h n stores f in
-    let array : (j : ℕ) → j < 13 → arrayIn (storesIn words stores) (32 * j) ≡ arraysBehind j (arrayIn words (32 * j)) stores =
+    let array : (j : ℕ) → j < 13 → arrayIn (storesIn words stores) (32 * j) ≡ arrayAfterStores j (arrayIn words (32 * j)) stores =
     λ j h. arrays-store words j h stores in
     λ q. record {
       lines = number 4 (omega arith) q;
@@ -219,7 +219,7 @@ stores-state words stores n f =
     }
 
 pub took-stores : (before : List ℕ) (stores : List Store) {after : List ℕ} → 424 ≤ length before → all fits stores ≡ true
-    → after ≡ storesIn before stores → Took before after (stateBehind (stateIn before) stores)
+    → after ≡ storesIn before stores → Took before after (stateAfterStores (stateIn before) stores)
 took-stores before stores n f e =
     record {
       size = ap length e ∙ stores-size before stores;

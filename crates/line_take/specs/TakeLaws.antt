@@ -10,73 +10,77 @@ use Rattle.spec_text.specs.declared.LineKind.{LineKind}
 use Rattle.line_state.specs.StateSteps.{nextOf, markOf, pushedOf, poppedOf, secondOf, takenRelation, takenKey, takenStatement, takenFlow, takenLink}
 use Rattle.line_state.specs.StateSteps.{takeAs, takeOf}
 use Rattle.line_state.specs.StateWords.{arrayIn, stateIn, Taken}
-use Rattle.line_take.specs.Stores.{putIn, pairIn, stepIn, countIn, aroundIn, openIn, fits, storeIn, storesIn}
-use Rattle.line_take.specs.Stores.{stateBehind, arraysBehind, countsBehind}
-use Rattle.line_take.specs.Stores.{arrayBehind, countBehind, atDepth, Took}
+use Rattle.line_take.specs.Stores.{putIn, rowIn, stepIn, countIn, fits, storeIn, storesIn}
+use Rattle.line_take.specs.Stores.{stateAfterStores, arrayAfterStores, countAfterStores}
+use Rattle.line_take.specs.Stores.{arrayAfter, countAfter, atDepth, Took}
 use Rattle.line_take.specs.Stores.Store.{cell, count, step}
 use Rattle.line_take.specs.StoreLaws.{took-stores}
 
 pub took-relation : {before a after : List ℕ} {at : ℕ} (reads : ℕ) → 424 ≤ length before → at ≡ getD before 422 0
     → a ≡ putIn before 0 at reads → after ≡ countIn a 422 → Took before after (takenRelation (stateIn before) reads)
-unfolding stateIn stateBehind storesIn storeIn arraysBehind countsBehind arrayBehind countBehind fits
+unfolding stateIn stateAfterStores storesIn storeIn arrayAfterStores countAfterStores arrayAfter countAfter fits
 took-relation {before} reads n e p q =
     took-stores before (cell 0 (getD before 422 0) reads ∷ step 6 ∷ step 4 ∷ []) n refl (rw (q, p, e))
 
-pub took-key : {before a after : List ℕ} {at : ℕ} (child parent : ℕ) → 424 ≤ length before → at ≡ getD before 423 0
-    → a ≡ pairIn before 32 at child parent → after ≡ countIn a 423 → Took before after (takenKey (stateIn before) child parent)
-unfolding stateIn stateBehind storesIn storeIn arraysBehind countsBehind arrayBehind countBehind fits
-took-key {before} child parent n e p q =
-    took-stores before (cell 1 (getD before 423 0) child ∷ cell 2 (getD before 423 0) parent ∷ step 7 ∷ step 4 ∷ []) n refl (rw (q, p, e))
+pub took-key : {before a b after : List ℕ} {at : ℕ} (child parent : ℕ) → 424 ≤ length before → at ≡ getD before 423 0
+    → a ≡ putIn before 32 at child → b ≡ putIn a 64 at parent → after ≡ countIn b 423
+    → Took before after (takenKey (stateIn before) child parent)
+unfolding stateIn stateAfterStores storesIn storeIn arrayAfterStores countAfterStores arrayAfter countAfter fits
+took-key {before} child parent n e p q r =
+    took-stores before (cell 1 (getD before 423 0) child ∷ cell 2 (getD before 423 0) parent ∷ step 7 ∷ step 4 ∷ []) n refl (rw (r, q, p, e))
 
-pub took-statement : {before a b c after : List ℕ} {at depth : ℕ} (rel fit : ℕ) → 424 ≤ length before → at ≡ getD before 419 0
-    → depth ≡ getD before 418 0 → a ≡ aroundIn before at depth → b ≡ pairIn a 256 at rel fit → c ≡ stepIn b 419 → after ≡ countIn c 416
-    → Took before after (takenStatement (stateIn before) rel fit)
-unfolding stateIn stateBehind storesIn storeIn arraysBehind countsBehind arrayBehind countBehind fits
-took-statement {before} rel fit n e h p q r s =
+pub took-statement : {before a b after : List ℕ} {at depth loops firsts seconds : ℕ} (rel fit : ℕ) → 424 ≤ length before → at ≡ getD before 419 0
+    → depth ≡ getD before 418 0 → loops ≡ getD (arrayIn before 160) depth 0 → firsts ≡ getD (arrayIn before 192) depth 0
+    → seconds ≡ getD (arrayIn before 224) depth 0 → a ≡ rowIn before 256 at rel fit loops firsts seconds → b ≡ stepIn a 419
+    → after ≡ countIn b 416 → Took before after (takenStatement (stateIn before) rel fit)
+unfolding stateIn stateAfterStores storesIn storeIn arrayAfterStores countAfterStores arrayAfter countAfter fits
+took-statement {before} rel fit n e h k l m p q r =
     let at = getD before 419 0 in
     let depth = getD before 418 0 in
     took-stores before
-    (cell 10 at (getD (arrayIn before 160) depth 0)
+    (cell 8 at rel
+    ∷ cell 9 at fit
+    ∷ cell 10 at (getD (arrayIn before 160) depth 0)
     ∷ cell 11 at (getD (arrayIn before 192) depth 0)
     ∷ cell 12 at (getD (arrayIn before 224) depth 0)
-    ∷ cell 8 at rel
-    ∷ cell 9 at fit
     ∷ step 3
     ∷ step 0
     ∷ step 4
     ∷ [])
     n
     refl
-    (rw (s, r, q, p, h, e))
+    (rw (r, q, p, m, l, k, h, e))
 
-pub took-push : {before a b c after : List ℕ} {at : ℕ} (below place part : ℕ) → 424 ≤ length before → at ≡ nextOf below
-    → a ≡ openIn before at below place part → b ≡ pairIn a 96 at place part → c ≡ set b 418 at → after ≡ countIn c 416
+pub took-push : {before a b after : List ℕ} {at loops firsts seconds : ℕ} (below place part : ℕ) → 424 ≤ length before → at ≡ nextOf below
+    → loops ≡ bitOr (markOf part 0 place) (getD (arrayIn before 160) below 0)
+    → firsts ≡ bitOr (markOf part 1 place) (getD (arrayIn before 192) below 0)
+    → seconds ≡ bitOr (markOf part 2 place) (getD (arrayIn before 224) below 0)
+    → a ≡ rowIn before 96 at place part loops firsts seconds → b ≡ countIn a 416 → after ≡ set b 418 at
     → Took before after (takenFlow (stateIn before) (pushedOf (atDepth (stateIn before .stack) below) place part))
-unfolding stateIn stateBehind storesIn storeIn arraysBehind countsBehind arrayBehind countBehind fits
-took-push {before} below place part n e p q r s =
+unfolding stateIn stateAfterStores storesIn storeIn arrayAfterStores countAfterStores arrayAfter countAfter fits
+took-push {before} below place part n e k l m p q r =
     let at = nextOf below in
     took-stores before
-    (cell 5 at (bitOr (markOf part 0 place) (getD (arrayIn before 160) below 0))
+    (cell 3 at place
+    ∷ cell 4 at part
+    ∷ cell 5 at (bitOr (markOf part 0 place) (getD (arrayIn before 160) below 0))
     ∷ cell 6 at (bitOr (markOf part 1 place) (getD (arrayIn before 192) below 0))
     ∷ cell 7 at (bitOr (markOf part 2 place) (getD (arrayIn before 224) below 0))
-    ∷ cell 3 at place
-    ∷ cell 4 at part
-    ∷ count 2 at
     ∷ step 0
     ∷ step 4
+    ∷ count 2 at
     ∷ [])
     n
     refl
-    (rw (s, r, q, p, e))
+    (rw (r, q, p, m, l, k, e))
 
 pub took-closing : {before a after : List ℕ} {depth below : ℕ} → 424 ≤ length before → depth ≡ getD before 418 0 → below ≡ depth - 1
-    → a ≡ set before 418 below → after ≡ countIn a 416
-    → Took before after (takenFlow (stateIn before) (poppedOf (stateIn before .stack)))
-unfolding stateIn stateBehind storesIn storeIn arraysBehind countsBehind arrayBehind countBehind fits
-took-closing {before} n e f p q = took-stores before (count 2 (getD before 418 0 - 1) ∷ step 0 ∷ step 4 ∷ []) n refl (rw (q, p, f, e))
+    → a ≡ countIn before 416 → after ≡ set a 418 below → Took before after (takenFlow (stateIn before) (poppedOf (stateIn before .stack)))
+unfolding stateIn stateAfterStores storesIn storeIn arrayAfterStores countAfterStores arrayAfter countAfter fits
+took-closing {before} n e f p q = took-stores before (step 0 ∷ step 4 ∷ count 2 (getD before 418 0 - 1) ∷ []) n refl (rw (q, p, f, e))
 
 pub took-link : {before after : List ℕ} → 424 ≤ length before → after ≡ countIn before 417 → Took before after (takenLink (stateIn before))
-unfolding stateIn stateBehind storesIn storeIn arraysBehind countsBehind arrayBehind countBehind fits
+unfolding stateIn stateAfterStores storesIn storeIn arrayAfterStores countAfterStores arrayAfter countAfter fits
 took-link {before} n p = took-stores before (step 1 ∷ step 4 ∷ []) n refl p
 
 -- a loop or a branch begins at the depth and the place at hand

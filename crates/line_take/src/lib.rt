@@ -9,18 +9,21 @@ ghost use mathlib.Core.Path.{_≡_};
 ghost use mathlib.Core.Bool.{cond};
 ghost use Prim.Native.Nat.{_-_, _≤_, _<_};
 ghost use lib.Bits.{bitOr};
-ghost use lib.ListN.{length, getD, set};
+ghost use lib.ListN.{length, getD};
 ghost use Rattle.spec_text.specs.Reading.{canBeParent};
 ghost use Rattle.line_state.specs.StateSteps.{nextOf, markOf, pushedOf, poppedOf, secondOf, takeAs};
-ghost use Rattle.line_state.specs.StateSteps.{takenRelation, takenKey, takenProgram, takenStatement, takenFlow, takenLink};
+ghost use Rattle.line_state.specs.StateSteps.{takenRelation, takenKey, takenProgram, takenStatement, takenFlow};
 ghost use Rattle.line_state.specs.StateWords.{arrayIn, stateIn, Taken};
-ghost use Rattle.line_take.specs.Stores.{putIn, pairIn, marksIn, stepIn, countIn, aroundIn, openIn, lineBy, atDepth, Took};
+ghost use Rattle.line_take.specs.Stores.{putIn, rowIn, stepIn, countIn, atDepth, lineBy, Took};
 
-// One more; no count that is kept comes near the end.
+// Where counts stop; none that is kept comes near it.
+const MOST: u64 = 65535;
+
+// One more.
 fn next(n: u64) -> u64
     ensures { λ r. ⌜ r ≡ nextOf n ⌝ }
 {
-    if n < 65535 {
+    if n < MOST {
         return n + 1;
     }
     n
@@ -36,28 +39,8 @@ fn previous(n: u64) -> u64
     n - 1
 }
 
-// The set of a block's place where it is of the part asked for.
-fn mark(part: u64, which: u64, place: u64) -> u64
-    ensures { λ r. ⌜ r ≡ markOf part which place ⌝ }
-{
-    if part != which {
-        return 0;
-    }
-    if place < 64 {
-        return 1u64 << place;
-    }
-    0
-}
-
-// 1 where a statement of the kind may be a link's parent.
-fn parental(kind: StatementKind) -> u64
-    ensures { λ r. ⌜ r ≡ cond (canBeParent kind) 1 0 ⌝ }
-{
-    (facts_of(kind) & line_kinds::PARENT) / line_kinds::PARENT
-}
-
 // Sets a cell of the array that begins at a word; past its end nothing changes.
-fn put(words: &mut [u64], from: usize, i: u64, v: u64)
+fn put_cell(words: &mut [u64], from: usize, i: u64, v: u64)
     requires { ⌜ (from ≤ 392) × (424 ≤ length (now words)) ⌝ }
     ensures { λ _. ⌜ now (words .exit) ≡ putIn (now (words .entry)) from i v ⌝ }
 {
@@ -66,31 +49,16 @@ fn put(words: &mut [u64], from: usize, i: u64, v: u64)
     }
 }
 
-// Sets two cells at one place of neighbouring arrays.
-fn put_pair(words: &mut [u64], from: usize, i: u64, x: u64, y: u64)
-    requires { ⌜ (from ≤ 360) × (424 ≤ length (now words)) ⌝ }
-    ensures { λ _. ⌜ now (words .exit) ≡ pairIn (now (words .entry)) from i x y ⌝ }
+// Sets five cells at one place of neighbouring arrays.
+fn put_row(words: &mut [u64], from: usize, i: u64, v: u64, w: u64, x: u64, y: u64, z: u64)
+    requires { ⌜ (from ≤ 264) × (424 ≤ length (now words)) ⌝ }
+    ensures { λ _. ⌜ now (words .exit) ≡ rowIn (now (words .entry)) from i v w x y z ⌝ }
 {
-    put(words, from, i, x);
-    put(words, from + 32, i, y);
-}
-
-// Sets three cells at one place of neighbouring arrays.
-fn put_marks(words: &mut [u64], from: usize, i: u64, x: u64, y: u64, z: u64)
-    requires { ⌜ (from ≤ 328) × (424 ≤ length (now words)) ⌝ }
-    ensures { λ _. ⌜ now (words .exit) ≡ marksIn (now (words .entry)) from i x y z ⌝ }
-{
-    put(words, from, i, x);
-    put(words, from + 32, i, y);
-    put(words, from + 64, i, z);
-}
-
-// Sets a word.
-fn set_word(words: &mut [u64], at: usize, v: u64)
-    requires { ⌜ at < length (now words) ⌝ }
-    ensures { λ _. ⌜ now (words .exit) ≡ set (now (words .entry)) at v ⌝ }
-{
-    words[at] = v;
+    put_cell(words, from, i, v);
+    put_cell(words, from + 32, i, w);
+    put_cell(words, from + 64, i, x);
+    put_cell(words, from + 96, i, y);
+    put_cell(words, from + 128, i, z);
 }
 
 // Makes a word one more.
@@ -116,17 +84,8 @@ fn take_relation(words: &mut [u64], reads: u64)
     ensures { λ _. ⌜ Took (now (words .entry)) (now (words .exit)) (takenRelation (stateIn (now (words .entry))) reads) ⌝ }
 {
     let at = word_at(words, line_state::RELATIONS);
-    put(words, line_state::SETS, at, reads);
+    put_cell(words, line_state::SETS, at, reads);
     count_line(words, line_state::RELATIONS);
-}
-
-fn take_key(words: &mut [u64], child: u8, parent: u8)
-    requires { ⌜ 424 ≤ length (now words) ⌝ }
-    ensures { λ _. ⌜ Took (now (words .entry)) (now (words .exit)) (takenKey (stateIn (now (words .entry))) child parent) ⌝ }
-{
-    let at = word_at(words, line_state::KEYS);
-    put_pair(words, line_state::CHILDREN, at, child as u64, parent as u64);
-    count_line(words, line_state::KEYS);
 }
 
 // A new program: no block is open, and it has no line yet. What is kept of the program at hand stands in one piece.
@@ -138,26 +97,40 @@ fn take_program(words: &mut [u64])
     count_line(words, line_state::PROGRAMS);
 }
 
-// The places of the blocks around a statement: those of the open blocks at a depth.
-fn put_around(words: &mut [u64], at: u64, depth: u64)
+// A foreign key more, with its child and its parent relation.
+fn take_key(words: &mut [u64], child: u8, parent: u8)
     requires { ⌜ 424 ≤ length (now words) ⌝ }
-    ensures { λ _. ⌜ now (words .exit) ≡ aroundIn (now (words .entry)) at depth ⌝ }
+    ensures { λ _. ⌜ Took (now (words .entry)) (now (words .exit)) (takenKey (stateIn (now (words .entry))) child parent) ⌝ }
 {
-    let loops = line_state::cell(words, line_state::OPEN_LOOPS, depth);
-    let firsts = line_state::cell(words, line_state::OPEN_FIRSTS, depth);
-    let seconds = line_state::cell(words, line_state::OPEN_SECONDS, depth);
-    put_marks(words, line_state::AROUND_LOOPS, at, loops, firsts, seconds);
+    let at = word_at(words, line_state::KEYS);
+    put_cell(words, line_state::CHILDREN, at, child as u64);
+    put_cell(words, line_state::PARENTS, at, parent as u64);
+    count_line(words, line_state::KEYS);
 }
 
-// One statement more, within the open blocks.
-fn take_statement(words: &mut [u64], rel: u8, fit: u64)
+// One statement more, within the open blocks, with 1 where its kind may be a link's parent.
+fn take_statement(words: &mut [u64], rel: u8, kind: StatementKind)
     requires { ⌜ 424 ≤ length (now words) ⌝ }
-    ensures { λ _. ⌜ Took (now (words .entry)) (now (words .exit)) (takenStatement (stateIn (now (words .entry))) rel fit) ⌝ }
+    ensures { λ _. ⌜
+        Took (now (words .entry)) (now (words .exit)) (takenStatement (stateIn (now (words .entry))) rel (cond (canBeParent kind) 1 0))
+        ⌝ }
 {
     let at = word_at(words, line_state::STATEMENTS);
     let depth = word_at(words, line_state::DEPTH);
-    put_around(words, at, depth);
-    put_pair(words, line_state::STATEMENT_RELATIONS, at, rel as u64, fit);
+    let loops = line_state::cell(words, line_state::OPEN_LOOPS, depth);
+    let firsts = line_state::cell(words, line_state::OPEN_FIRSTS, depth);
+    let seconds = line_state::cell(words, line_state::OPEN_SECONDS, depth);
+    let fit = (facts_of(kind) & line_kinds::PARENT) / line_kinds::PARENT;
+    put_row(
+        words,
+        line_state::STATEMENT_RELATIONS,
+        at,
+        rel as u64,
+        fit,
+        loops,
+        firsts,
+        seconds,
+    );
     advance(words, line_state::STATEMENTS);
     count_line(words, line_state::BODY);
 }
@@ -166,20 +139,14 @@ fn take_statement(words: &mut [u64], rel: u8, fit: u64)
 fn marked(words: &[u64], from: usize, below: u64, part: u64, which: u64, place: u64) -> u64
     ensures { λ r. ⌜ r ≡ bitOr (markOf part which place) (getD (arrayIn (now (words .entry)) from) below 0) ⌝ }
 {
-    let own = mark(part, which, place);
     let others = line_state::cell(words, from, below);
-    own | others
-}
-
-// The places of the open blocks with one block more above a depth.
-fn put_open(words: &mut [u64], at: u64, below: u64, place: u64, part: u64)
-    requires { ⌜ 424 ≤ length (now words) ⌝ }
-    ensures { λ _. ⌜ now (words .exit) ≡ openIn (now (words .entry)) at below place part ⌝ }
-{
-    let loops = marked(words, line_state::OPEN_LOOPS, below, part, 0, place);
-    let firsts = marked(words, line_state::OPEN_FIRSTS, below, part, 1, place);
-    let seconds = marked(words, line_state::OPEN_SECONDS, below, part, 2, place);
-    put_marks(words, line_state::OPEN_LOOPS, at, loops, firsts, seconds);
+    if part != which {
+        return others;
+    }
+    if place < 64 {
+        return (1u64 << place) | others;
+    }
+    others
 }
 
 // One block more above a depth.
@@ -191,23 +158,21 @@ fn push(words: &mut [u64], below: u64, place: u64, part: u64)
         ⌝ }
 {
     let at = next(below);
-    put_open(words, at, below, place, part);
-    put_pair(words, line_state::OPEN_PLACES, at, place, part);
-    set_word(words, line_state::DEPTH, at);
+    let loops = marked(words, line_state::OPEN_LOOPS, below, part, 0, place);
+    let firsts = marked(words, line_state::OPEN_FIRSTS, below, part, 1, place);
+    let seconds = marked(words, line_state::OPEN_SECONDS, below, part, 2, place);
+    put_row(
+        words,
+        line_state::OPEN_PLACES,
+        at,
+        place,
+        part,
+        loops,
+        firsts,
+        seconds,
+    );
     count_line(words, line_state::BODY);
-}
-
-// A loop or the first arm of a branch begins.
-fn take_opening(words: &mut [u64], part: u64)
-    requires { ⌜ 424 ≤ length (now words) ⌝ }
-    ensures { λ _. ⌜
-        Took (now (words .entry)) (now (words .exit))
-        (takenFlow (stateIn (now (words .entry))) (pushedOf (stateIn (now (words .entry)) .stack) (stateIn (now (words .entry)) .body) part))
-        ⌝ }
-{
-    let depth = word_at(words, line_state::DEPTH);
-    let body = word_at(words, line_state::BODY);
-    push(words, depth, body, part);
+    words[line_state::DEPTH] = at;
 }
 
 // The innermost block goes on with its second arm.
@@ -230,18 +195,24 @@ fn take_closing(words: &mut [u64])
         ⌝ }
 {
     let depth = word_at(words, line_state::DEPTH);
-    set_word(words, line_state::DEPTH, previous(depth));
     count_line(words, line_state::BODY);
+    words[line_state::DEPTH] = previous(depth);
 }
 
-fn take_link(words: &mut [u64])
+// A loop or the first arm of a branch begins.
+fn take_opening(words: &mut [u64], part: u64)
     requires { ⌜ 424 ≤ length (now words) ⌝ }
-    ensures { λ _. ⌜ Took (now (words .entry)) (now (words .exit)) (takenLink (stateIn (now (words .entry)))) ⌝ }
+    ensures { λ _. ⌜
+        Took (now (words .entry)) (now (words .exit))
+        (takenFlow (stateIn (now (words .entry))) (pushedOf (stateIn (now (words .entry)) .stack) (stateIn (now (words .entry)) .body) part))
+        ⌝ }
 {
-    count_line(words, line_state::LINKS);
+    let depth = word_at(words, line_state::DEPTH);
+    let body = word_at(words, line_state::BODY);
+    push(words, depth, body, part);
 }
 
-// A line of this kind taken, with the values that matter to it.
+// A line of this kind taken, with the values that matter to it: with few locals the nine arms are cheap to check.
 fn take_kind(words: &mut [u64], kind: LineKind, reads: u64, rel: u8, to: u8)
     requires { ⌜ 424 ≤ length (now words) ⌝ }
     ensures { λ _. ⌜
@@ -252,12 +223,12 @@ fn take_kind(words: &mut [u64], kind: LineKind, reads: u64, rel: u8, to: u8)
         LineKind::Rl => take_relation(words, reads),
         LineKind::Fk => take_key(words, rel, to),
         LineKind::Pr => take_program(words),
-        LineKind::St(j) => take_statement(words, rel, parental(j)),
+        LineKind::St(j) => take_statement(words, rel, j),
         LineKind::Lo => take_opening(words, 0),
         LineKind::Br => take_opening(words, 1),
         LineKind::El => take_second(words),
         LineKind::En => take_closing(words),
-        LineKind::Li => take_link(words),
+        LineKind::Li => count_line(words, line_state::LINKS),
     }
 }
 
@@ -265,7 +236,7 @@ fn take_kind(words: &mut [u64], kind: LineKind, reads: u64, rel: u8, to: u8)
 pub fn take(words: &mut [u64], l: Line)
     ensures { λ _. ⌜ Taken (now (words .entry)) l (now (words .exit)) ⌝ }
 {
-    if words.len() < 424 {
+    if words.len() < line_state::WORDS {
         return;
     }
     let kind = l.kind;

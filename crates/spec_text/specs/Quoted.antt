@@ -3,10 +3,10 @@ use mathlib.Core.List.{List, [], _∷_, _++_, headD}
 use Prim.Native.Nat.{ℕ}
 use Prim.Native.Char.{code}
 use Prim.Native.String.{String}
-use Rattle.spec_text.specs.Text.{newline, same, onFirst, linesIn, fieldsIn, namesLine, digitsForm, digitValue, valueBehind, numberOf}
+use Rattle.spec_text.specs.Text.{newline, same, onFirst, linesIn, fieldsIn, namesLine, digitsForm, digitValue, valueAfter, numberOf}
 use Rattle.spec_text.specs.Text.{setOf, dashOf, wordOf, kinds, kindOf, formsOf, fieldOf, valuesOf, lineWith, lineOf, unusedLine}
 use Rattle.spec_text.specs.Reading.{sort, isRelation, isKey, isProgram, isStatementOrFlow, isLink, isStatementOf, isStatement}
-use Rattle.spec_text.specs.Reading.{program, relation, key, statement, sameBlock, toSecondArm, blocksAfter, blocksBehind, openBlocks}
+use Rattle.spec_text.specs.Reading.{program, relation, key, statement, sameBlock, toSecondArm, blocksAfter, blocksAfterLines, openBlocks}
 use Rattle.spec_text.specs.Reading.{beforeStatement, blocksAround, relationSet, bounded, withinBounds, inBody, noneOpen, innermost}
 use Rattle.spec_text.specs.Reading.{ordered, named, kindSets, setsFit, canBeParent, allAround, linkFits, testsOf, firstFailed, fault}
 use Rattle.spec_text.specs.Reading.{Outcome, readLines, isAllowed, otherByte, endsLine, read}
@@ -26,8 +26,8 @@ text (line ∷ lines) = bytes line ++ (newline ∷ text lines)
 unfoldable pub readBytes : List ℕ → Outcome
 unfolding
     namesLine lineOf fieldsIn onFirst kindOf kinds same wordOf valuesOf formsOf fieldOf numberOf setOf dashOf digitsForm digitValue
-    valueBehind lineWith unusedLine linesIn sort isRelation isKey isProgram isStatementOrFlow isLink isStatementOf isStatement program
-    relation key statement sameBlock toSecondArm blocksAfter blocksBehind openBlocks beforeStatement blocksAround relationSet bounded withinBounds
+    valueAfter lineWith unusedLine linesIn sort isRelation isKey isProgram isStatementOrFlow isLink isStatementOf isStatement program
+    relation key statement sameBlock toSecondArm blocksAfter blocksAfterLines openBlocks beforeStatement blocksAround relationSet bounded withinBounds
     inBody noneOpen innermost ordered named kindSets setsFit canBeParent allAround linkFits testsOf firstFailed fault readLines isAllowed
     otherByte endsLine read headD
 readBytes b = read b

@@ -107,13 +107,13 @@ blocksAfter Pr place blocks = blocks
 blocksAfter Li place blocks = blocks
 
 -- T8: the blocks around what stands after lines, from those around the first line and its place
-unfoldable pub blocksBehind : ℕ → List Block → List Line → List Block
-blocksBehind place blocks [] = blocks
-blocksBehind place blocks (l ∷ lines) = blocksBehind (suc place) (blocksAfter (l .kind) place blocks) lines
+unfoldable pub blocksAfterLines : ℕ → List Block → List Line → List Block
+blocksAfterLines place blocks [] = blocks
+blocksAfterLines place blocks (l ∷ lines) = blocksAfterLines (suc place) (blocksAfter (l .kind) place blocks) lines
 
 -- T8: the blocks open after these lines of a program
 unfoldable pub openBlocks : List Line → List Block
-openBlocks lines = blocksBehind 0 [] lines
+openBlocks lines = blocksAfterLines 0 [] lines
 
 -- T8: the lines of a program before its statement of this number
 unfoldable pub beforeStatement : ℕ → List Line → List Line

@@ -74,9 +74,9 @@ digitsForm isDigit n (d ∷ more) =
 unfoldable pub digitValue : ℕ → ℕ
 digitValue d = cond (isDecimal d) (d - 0x30) (d - 0x61 + 10)
 
-unfoldable pub valueBehind : ℕ → ℕ → List ℕ → ℕ
-valueBehind base n [] = n
-valueBehind base n (d ∷ digits) = valueBehind base (n * base + digitValue d) digits
+unfoldable pub valueAfter : ℕ → ℕ → List ℕ → ℕ
+valueAfter base n [] = n
+valueAfter base n (d ∷ digits) = valueAfter base (n * base + digitValue d) digits
 
 -- T3, T4: the digit for a number below the base
 unfoldable pub digit : ℕ → ℕ
@@ -90,11 +90,11 @@ digitsOf base (suc most) n = elim (ltb n base) [ true ↦ digit n ∷ [] | false
 -- T3: a number: decimal, 1 to 3 digits, at most 255
 unfoldable pub numberOf : List ℕ → Option ℕ
 numberOf field =
-    cond (digitsForm isDecimal 3 field && leb (valueBehind 10 0 field) 255) (some (valueBehind 10 0 field)) none
+    cond (digitsForm isDecimal 3 field && leb (valueAfter 10 0 field) 255) (some (valueAfter 10 0 field)) none
 
 -- T4: a set: 1 to 16 lowercase hexadecimal digits
 unfoldable pub setOf : List ℕ → Option ℕ
-setOf field = cond (digitsForm isHexadecimal 16 field) (some (valueBehind 16 0 field)) none
+setOf field = cond (digitsForm isHexadecimal 16 field) (some (valueAfter 16 0 field)) none
 
 -- T2: `-` where the kind has no such field; the value then holds 0
 unfoldable pub dashOf : List ℕ → Option ℕ

@@ -50,17 +50,17 @@ unfolding given base baseLines
 base-read = refl
 
 -- what is read of lines after `base`: the first of them is line 7
-behind : List String → Outcome
+afterBase : List String → Outcome
 unfolding given baseLines
-behind lines = readLines baseLines (map bytes lines)
+afterBase lines = readLines baseLines (map bytes lines)
 
 abbrev isAccepted : Outcome → Bool
 isAccepted o = elim o [ refused number line ↦ false | accepted lines ↦ true ]
 
 -- lines after `base` are accepted
 taken : List String → Bool
-unfolding behind
-taken lines = isAccepted (behind lines)
+unfolding afterBase
+taken lines = isAccepted (afterBase lines)
 
 -- lines of flow, and two inserts into relation 0
 abbrev lo : String
@@ -273,12 +273,12 @@ value-for-dash : given ("rl 0 - - 3 0 -" ∷ []) ≡ refused 4 2
 unfolding given
 value-for-dash = refl
 
-tests-of-ku : behind ("ku 0 0 - 1 1 1" ∷ []) ≡ refused 4 7
-unfolding behind
+tests-of-ku : afterBase ("ku 0 0 - 1 1 1" ∷ []) ≡ refused 4 7
+unfolding afterBase
 tests-of-ku = refl
 
-id-of-flow : behind ("lo 0 - - - - -" ∷ []) ≡ refused 4 7
-unfolding behind
+id-of-flow : afterBase ("lo 0 - - - - -" ∷ []) ≡ refused 4 7
+unfolding afterBase
 id-of-flow = refl
 
 -- R9: lines of each sort, the first with this id
@@ -468,16 +468,16 @@ rl-after-fk : given ("rl 0 - - 3 - -" ∷ "fk 0 0 0 - - -" ∷ "rl 1 - - 3 - -" 
 unfolding given
 rl-after-fk = refl
 
-rl-after-pr : behind ("rl 2 - - 3 - -" ∷ []) ≡ refused 7 7
-unfolding behind
+rl-after-pr : afterBase ("rl 2 - - 3 - -" ∷ []) ≡ refused 7 7
+unfolding afterBase
 rl-after-pr = refl
 
 rl-after-pr-alone : given ("pr 0 - - - - -" ∷ "rl 0 - - 3 - -" ∷ []) ≡ refused 7 3
 unfolding given
 rl-after-pr-alone = refl
 
-fk-after-pr : behind ("fk 2 0 0 - - -" ∷ []) ≡ refused 7 7
-unfolding behind
+fk-after-pr : afterBase ("fk 2 0 0 - - -" ∷ []) ≡ refused 7 7
+unfolding afterBase
 fk-after-pr = refl
 
 statement-before-pr : given ("rl 0 - - 3 - -" ∷ "ks 0 0 - 1 - -" ∷ []) ≡ refused 7 3
@@ -496,16 +496,16 @@ li-before-pr : given ("rl 0 - - 3 - -" ∷ "fk 0 0 0 - - -" ∷ "li 0 0 0 - - -"
 unfolding given
 li-before-pr = refl
 
-statement-after-li : behind (is0 ∷ "li 1 0 0 - - -" ∷ is1 ∷ []) ≡ refused 7 9
-unfolding behind
+statement-after-li : afterBase (is0 ∷ "li 1 0 0 - - -" ∷ is1 ∷ []) ≡ refused 7 9
+unfolding afterBase
 statement-after-li = refl
 
-flow-after-li : behind (is0 ∷ "li 1 0 0 - - -" ∷ lo ∷ en ∷ []) ≡ refused 7 9
-unfolding behind
+flow-after-li : afterBase (is0 ∷ "li 1 0 0 - - -" ∷ lo ∷ en ∷ []) ≡ refused 7 9
+unfolding afterBase
 flow-after-li = refl
 
-branch-after-li : behind (is0 ∷ "li 1 0 0 - - -" ∷ br ∷ el ∷ en ∷ []) ≡ refused 7 9
-unfolding behind
+branch-after-li : afterBase (is0 ∷ "li 1 0 0 - - -" ∷ br ∷ el ∷ en ∷ []) ≡ refused 7 9
+unfolding afterBase
 branch-after-li = refl
 
 -- R7, T8: a run may be empty, blocks may stand in blocks
@@ -518,47 +518,47 @@ unfolding taken
 blocks-in-blocks = refl
 
 -- R7, T8: el or en without its opener
-el-alone : behind (el ∷ []) ≡ refused 7 7
-unfolding behind
+el-alone : afterBase (el ∷ []) ≡ refused 7 7
+unfolding afterBase
 el-alone = refl
 
-en-alone : behind (lo ∷ en ∷ en ∷ []) ≡ refused 7 9
-unfolding behind
+en-alone : afterBase (lo ∷ en ∷ en ∷ []) ≡ refused 7 9
+unfolding afterBase
 en-alone = refl
 
-en-in-next-program : behind ("pr 1 - - - - -" ∷ en ∷ []) ≡ refused 7 8
-unfolding behind
+en-in-next-program : afterBase ("pr 1 - - - - -" ∷ en ∷ []) ≡ refused 7 8
+unfolding afterBase
 en-in-next-program = refl
 
 -- R7: a loop has no el
-el-in-loop : behind (lo ∷ el ∷ en ∷ []) ≡ refused 7 8
-unfolding behind
+el-in-loop : afterBase (lo ∷ el ∷ en ∷ []) ≡ refused 7 8
+unfolding afterBase
 el-in-loop = refl
 
 -- R7: the opener is the innermost block's: no el in a loop in a first arm, no en in a first arm in a loop
-inner-opener : map behind ((br ∷ lo ∷ el ∷ en ∷ el ∷ en ∷ []) ∷ (lo ∷ br ∷ en ∷ en ∷ []) ∷ []) ≡ refused 7 9 ∷ refused 7 9 ∷ []
-unfolding behind
+inner-opener : map afterBase ((br ∷ lo ∷ el ∷ en ∷ el ∷ en ∷ []) ∷ (lo ∷ br ∷ en ∷ en ∷ []) ∷ []) ≡ refused 7 9 ∷ refused 7 9 ∷ []
+unfolding afterBase
 inner-opener = refl
 
-el-twice : behind (br ∷ el ∷ el ∷ en ∷ []) ≡ refused 7 9
-unfolding behind
+el-twice : afterBase (br ∷ el ∷ el ∷ en ∷ []) ≡ refused 7 9
+unfolding afterBase
 el-twice = refl
 
-br-without-el : behind (br ∷ en ∷ []) ≡ refused 7 8
-unfolding behind
+br-without-el : afterBase (br ∷ en ∷ []) ≡ refused 7 8
+unfolding afterBase
 br-without-el = refl
 
 -- R7: a block open at a pr, at an li, at the end
-open-at-pr : behind (lo ∷ "pr 1 - - - - -" ∷ []) ≡ refused 7 8
-unfolding behind
+open-at-pr : afterBase (lo ∷ "pr 1 - - - - -" ∷ []) ≡ refused 7 8
+unfolding afterBase
 open-at-pr = refl
 
-open-at-li : behind (is0 ∷ br ∷ el ∷ "li 1 0 0 - - -" ∷ en ∷ []) ≡ refused 7 10
-unfolding behind
+open-at-li : afterBase (is0 ∷ br ∷ el ∷ "li 1 0 0 - - -" ∷ en ∷ []) ≡ refused 7 10
+unfolding afterBase
 open-at-li = refl
 
-open-at-end : behind (lo ∷ is0 ∷ []) ≡ refused 7 8
-unfolding behind
+open-at-end : afterBase (lo ∷ is0 ∷ []) ≡ refused 7 8
+unfolding afterBase
 open-at-end = refl
 
 -- R6, T7: ids count from 0
@@ -570,12 +570,12 @@ id-of-fk : given ("rl 0 - - 3 - -" ∷ "fk 1 0 0 - - -" ∷ []) ≡ refused 6 3
 unfolding given
 id-of-fk = refl
 
-id-of-pr : behind ("pr 0 - - - - -" ∷ []) ≡ refused 6 7
-unfolding behind
+id-of-pr : afterBase ("pr 0 - - - - -" ∷ []) ≡ refused 6 7
+unfolding afterBase
 id-of-pr = refl
 
-id-of-statement : behind (is0 ∷ is0 ∷ []) ≡ refused 6 8
-unfolding behind
+id-of-statement : afterBase (is0 ∷ is0 ∷ []) ≡ refused 6 8
+unfolding afterBase
 id-of-statement = refl
 
 -- R6, T7: no id comes again, and none is passed over
@@ -585,8 +585,8 @@ id-again : map given
 unfolding given
 id-again = refl
 
-id-passed-over : map behind (("pr 2 - - - - -" ∷ []) ∷ (is1 ∷ []) ∷ []) ≡ refused 6 7 ∷ refused 6 7 ∷ []
-unfolding behind
+id-passed-over : map afterBase (("pr 2 - - - - -" ∷ []) ∷ (is1 ∷ []) ∷ []) ≡ refused 6 7 ∷ refused 6 7 ∷ []
+unfolding afterBase
 id-passed-over = refl
 
 -- R6, T7: statements in their program
@@ -594,8 +594,8 @@ id-in-program : taken (is0 ∷ "pr 1 - - - - -" ∷ is0 ∷ is1 ∷ []) ≡ true
 unfolding taken
 id-in-program = refl
 
-id-past-program : behind (is0 ∷ "pr 1 - - - - -" ∷ is1 ∷ []) ≡ refused 6 9
-unfolding behind
+id-past-program : afterBase (is0 ∷ "pr 1 - - - - -" ∷ is1 ∷ []) ≡ refused 6 9
+unfolding afterBase
 id-past-program = refl
 
 -- R6: naming nothing
@@ -607,12 +607,12 @@ parent-of-fk : given ("rl 0 - - 3 - -" ∷ "fk 0 0 1 - - -" ∷ []) ≡ refused 
 unfolding given
 parent-of-fk = refl
 
-relation-of-statement : behind ("is 0 2 - - 3 -" ∷ []) ≡ refused 6 7
-unfolding behind
+relation-of-statement : afterBase ("is 0 2 - - 3 -" ∷ []) ≡ refused 6 7
+unfolding afterBase
 relation-of-statement = refl
 
-key-of-li : behind (is0 ∷ "li 2 0 0 - - -" ∷ []) ≡ refused 6 8
-unfolding behind
+key-of-li : afterBase (is0 ∷ "li 2 0 0 - - -" ∷ []) ≡ refused 6 8
+unfolding afterBase
 key-of-li = refl
 
 key-of-li-in-keys
@@ -620,32 +620,32 @@ key-of-li-in-keys
 unfolding given
 key-of-li-in-keys = refl
 
-child-of-li : behind (is0 ∷ "li 1 1 0 - - -" ∷ []) ≡ refused 6 8
-unfolding behind
+child-of-li : afterBase (is0 ∷ "li 1 1 0 - - -" ∷ []) ≡ refused 6 8
+unfolding afterBase
 child-of-li = refl
 
-parent-of-li : behind (is0 ∷ "li 1 0 1 - - -" ∷ []) ≡ refused 6 8
-unfolding behind
+parent-of-li : afterBase (is0 ∷ "li 1 0 1 - - -" ∷ []) ≡ refused 6 8
+unfolding afterBase
 parent-of-li = refl
 
 -- R6: a link's child and parent are statements of its program, whatever other programs have
-child-of-other-program : behind (is0 ∷ is1 ∷ "pr 1 - - - - -" ∷ is0 ∷ "li 1 1 0 - - -" ∷ []) ≡ refused 6 11
-unfolding behind
+child-of-other-program : afterBase (is0 ∷ is1 ∷ "pr 1 - - - - -" ∷ is0 ∷ "li 1 1 0 - - -" ∷ []) ≡ refused 6 11
+unfolding afterBase
 child-of-other-program = refl
 
-parent-of-other-program : behind (is0 ∷ is1 ∷ "pr 1 - - - - -" ∷ is0 ∷ "li 1 0 1 - - -" ∷ []) ≡ refused 6 11
-unfolding behind
+parent-of-other-program : afterBase (is0 ∷ is1 ∷ "pr 1 - - - - -" ∷ is0 ∷ "li 1 0 1 - - -" ∷ []) ≡ refused 6 11
+unfolding afterBase
 parent-of-other-program = refl
 
 -- R6: a line of flow is no statement
-flow-no-statement : map behind ((is0 ∷ lo ∷ en ∷ "li 1 1 0 - - -" ∷ []) ∷ (is0 ∷ lo ∷ en ∷ "li 1 0 1 - - -" ∷ []) ∷ [])
+flow-no-statement : map afterBase ((is0 ∷ lo ∷ en ∷ "li 1 1 0 - - -" ∷ []) ∷ (is0 ∷ lo ∷ en ∷ "li 1 0 1 - - -" ∷ []) ∷ [])
     ≡ refused 6 10 ∷ refused 6 10 ∷ []
-unfolding behind
+unfolding afterBase
 flow-no-statement = refl
 
 -- R7 comes before R6, R6 before R5
-order-before-id : behind ("rl 9 - - 3 - -" ∷ []) ≡ refused 7 7
-unfolding behind
+order-before-id : afterBase ("rl 9 - - 3 - -" ∷ []) ≡ refused 7 7
+unfolding afterBase
 order-before-id = refl
 
 id-before-set : given ("rl 9 - - 0 - -" ∷ []) ≡ refused 6 2
@@ -658,29 +658,29 @@ unfolding given
 rl-of-nothing = refl
 
 -- R5, T9: sets lie within the relation's
-reads-outside : behind ("ks 0 0 - 4 - -" ∷ []) ≡ refused 5 7
-unfolding behind
+reads-outside : afterBase ("ks 0 0 - 4 - -" ∷ []) ≡ refused 5 7
+unfolding afterBase
 reads-outside = refl
 
-writes-outside : behind ("ku 0 0 - 1 5 -" ∷ []) ≡ refused 5 7
-unfolding behind
+writes-outside : afterBase ("ku 0 0 - 1 5 -" ∷ []) ≡ refused 5 7
+unfolding afterBase
 writes-outside = refl
 
-tests-outside : behind ("ps 0 0 - 1 - 8" ∷ []) ≡ refused 5 7
-unfolding behind
+tests-outside : afterBase ("ps 0 0 - 1 - 8" ∷ []) ≡ refused 5 7
+unfolding afterBase
 tests-outside = refl
 
 -- R5, T9: reads of ks and writes of ku and pu are not 0
-ks-of-nothing : behind ("ks 0 0 - 0 - -" ∷ []) ≡ refused 5 7
-unfolding behind
+ks-of-nothing : afterBase ("ks 0 0 - 0 - -" ∷ []) ≡ refused 5 7
+unfolding afterBase
 ks-of-nothing = refl
 
-ku-of-nothing : behind ("ku 0 0 - 1 0 -" ∷ []) ≡ refused 5 7
-unfolding behind
+ku-of-nothing : afterBase ("ku 0 0 - 1 0 -" ∷ []) ≡ refused 5 7
+unfolding afterBase
 ku-of-nothing = refl
 
-pu-of-nothing : behind ("pu 0 0 - 1 0 1" ∷ []) ≡ refused 5 7
-unfolding behind
+pu-of-nothing : afterBase ("pu 0 0 - 1 0 1" ∷ []) ≡ refused 5 7
+unfolding afterBase
 pu-of-nothing = refl
 
 -- T9: other sets may be 0
@@ -689,16 +689,16 @@ unfolding taken
 sets-of-nothing = refl
 
 -- R5, T9: writes of is, kd, pd are the whole relation
-is-of-part : behind ("is 0 0 - - 1 -" ∷ []) ≡ refused 5 7
-unfolding behind
+is-of-part : afterBase ("is 0 0 - - 1 -" ∷ []) ≡ refused 5 7
+unfolding afterBase
 is-of-part = refl
 
-kd-of-part : behind ("kd 0 0 - - 2 -" ∷ []) ≡ refused 5 7
-unfolding behind
+kd-of-part : afterBase ("kd 0 0 - - 2 -" ∷ []) ≡ refused 5 7
+unfolding afterBase
 kd-of-part = refl
 
-pd-of-part : behind ("pd 0 0 - - 1 1" ∷ []) ≡ refused 5 7
-unfolding behind
+pd-of-part : afterBase ("pd 0 0 - - 1 1" ∷ []) ≡ refused 5 7
+unfolding afterBase
 pd-of-part = refl
 
 -- R8, T10: a link fits its key's relations
@@ -706,12 +706,12 @@ link-fits : taken ("is 0 1 - - 3 -" ∷ is1 ∷ "li 0 0 1 - - -" ∷ []) ≡ tru
 unfolding taken
 link-fits = refl
 
-child-of-other-relation : behind (is0 ∷ is1 ∷ "li 0 0 1 - - -" ∷ []) ≡ refused 8 9
-unfolding behind
+child-of-other-relation : afterBase (is0 ∷ is1 ∷ "li 0 0 1 - - -" ∷ []) ≡ refused 8 9
+unfolding afterBase
 child-of-other-relation = refl
 
-parent-of-other-relation : behind ("is 0 1 - - 3 -" ∷ "is 1 1 - - 3 -" ∷ "li 0 0 1 - - -" ∷ []) ≡ refused 8 9
-unfolding behind
+parent-of-other-relation : afterBase ("is 0 1 - - 3 -" ∷ "is 1 1 - - 3 -" ∷ "li 0 0 1 - - -" ∷ []) ≡ refused 8 9
+unfolding afterBase
 parent-of-other-relation = refl
 
 -- R8, T10: of the links between statements over relations 0, 1 and 2, by a key from relation 1 to relation 1, one fits
@@ -736,16 +736,16 @@ parents
 unfolding taken
 parents = refl
 
-parent-ps : behind (is0 ∷ "ps 1 0 - 1 - 1" ∷ "li 1 0 1 - - -" ∷ []) ≡ refused 8 9
-unfolding behind
+parent-ps : afterBase (is0 ∷ "ps 1 0 - 1 - 1" ∷ "li 1 0 1 - - -" ∷ []) ≡ refused 8 9
+unfolding afterBase
 parent-ps = refl
 
-parent-pu : behind (is0 ∷ "pu 1 0 - 1 1 1" ∷ "li 1 0 1 - - -" ∷ []) ≡ refused 8 9
-unfolding behind
+parent-pu : afterBase (is0 ∷ "pu 1 0 - 1 1 1" ∷ "li 1 0 1 - - -" ∷ []) ≡ refused 8 9
+unfolding afterBase
 parent-pu = refl
 
-parent-pd : behind (is0 ∷ "pd 1 0 - - 3 1" ∷ "li 1 0 1 - - -" ∷ []) ≡ refused 8 9
-unfolding behind
+parent-pd : afterBase (is0 ∷ "pd 1 0 - - 3 1" ∷ "li 1 0 1 - - -" ∷ []) ≡ refused 8 9
+unfolding afterBase
 parent-pd = refl
 
 -- T10: a link of a statement to itself, and a link twice
@@ -762,16 +762,16 @@ both-in-loop : taken (lo ∷ is0 ∷ lo ∷ is1 ∷ en ∷ en ∷ "li 1 1 0 - - 
 unfolding taken
 both-in-loop = refl
 
-parent-in-loop : behind (is0 ∷ lo ∷ is1 ∷ en ∷ "li 1 0 1 - - -" ∷ []) ≡ refused 8 11
-unfolding behind
+parent-in-loop : afterBase (is0 ∷ lo ∷ is1 ∷ en ∷ "li 1 0 1 - - -" ∷ []) ≡ refused 8 11
+unfolding afterBase
 parent-in-loop = refl
 
-parent-in-inner-loop : behind (lo ∷ is0 ∷ lo ∷ is1 ∷ en ∷ en ∷ "li 1 0 1 - - -" ∷ []) ≡ refused 8 13
-unfolding behind
+parent-in-inner-loop : afterBase (lo ∷ is0 ∷ lo ∷ is1 ∷ en ∷ en ∷ "li 1 0 1 - - -" ∷ []) ≡ refused 8 13
+unfolding afterBase
 parent-in-inner-loop = refl
 
-parent-in-other-loop : behind (lo ∷ is0 ∷ en ∷ lo ∷ is1 ∷ en ∷ "li 1 1 0 - - -" ∷ []) ≡ refused 8 13
-unfolding behind
+parent-in-other-loop : afterBase (lo ∷ is0 ∷ en ∷ lo ∷ is1 ∷ en ∷ "li 1 1 0 - - -" ∷ []) ≡ refused 8 13
+unfolding afterBase
 parent-in-other-loop = refl
 
 -- R8, T11: each arm around the parent is around the child
@@ -787,20 +787,20 @@ child-in-arm : taken (is0 ∷ br ∷ el ∷ is1 ∷ en ∷ "li 1 1 0 - - -" ∷ 
 unfolding taken
 child-in-arm = refl
 
-parent-in-arm : behind (is0 ∷ br ∷ is1 ∷ el ∷ en ∷ "li 1 0 1 - - -" ∷ []) ≡ refused 8 12
-unfolding behind
+parent-in-arm : afterBase (is0 ∷ br ∷ is1 ∷ el ∷ en ∷ "li 1 0 1 - - -" ∷ []) ≡ refused 8 12
+unfolding afterBase
 parent-in-arm = refl
 
-parent-in-other-arm : behind (br ∷ is0 ∷ el ∷ is1 ∷ en ∷ "li 1 1 0 - - -" ∷ []) ≡ refused 8 12
-unfolding behind
+parent-in-other-arm : afterBase (br ∷ is0 ∷ el ∷ is1 ∷ en ∷ "li 1 1 0 - - -" ∷ []) ≡ refused 8 12
+unfolding afterBase
 parent-in-other-arm = refl
 
-parent-in-other-branch : behind (br ∷ is0 ∷ el ∷ en ∷ br ∷ is1 ∷ el ∷ en ∷ "li 1 1 0 - - -" ∷ []) ≡ refused 8 15
-unfolding behind
+parent-in-other-branch : afterBase (br ∷ is0 ∷ el ∷ en ∷ br ∷ is1 ∷ el ∷ en ∷ "li 1 1 0 - - -" ∷ []) ≡ refused 8 15
+unfolding afterBase
 parent-in-other-branch = refl
 
-parent-in-other-second-arm : behind (br ∷ el ∷ is0 ∷ en ∷ br ∷ el ∷ is1 ∷ en ∷ "li 1 1 0 - - -" ∷ []) ≡ refused 8 15
-unfolding behind
+parent-in-other-second-arm : afterBase (br ∷ el ∷ is0 ∷ en ∷ br ∷ el ∷ is1 ∷ en ∷ "li 1 1 0 - - -" ∷ []) ≡ refused 8 15
+unfolding afterBase
 parent-in-other-second-arm = refl
 
 -- R8: a link's statements are those of its own program
@@ -832,8 +832,8 @@ unfolding given
 link-by-second-key = refl
 
 -- Each line is tested before the next one: the first refused line counts
-first-line-first : behind ("is 0 0 - - 1 -" ∷ "is 9 9 - - 9 -" ∷ []) ≡ refused 5 7
-unfolding behind
+first-line-first : afterBase ("is 0 0 - - 1 -" ∷ "is 9 9 - - 9 -" ∷ []) ≡ refused 5 7
+unfolding afterBase
 first-line-first = refl
 
 -- R4 comes before R9

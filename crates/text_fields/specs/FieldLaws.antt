@@ -13,13 +13,11 @@ use borrow.Author.Tests.{eq-eqb, ne-eqb}
 use Rattle.law_base.specs.ListLaws.{first-some}
 use Rattle.spec_text.specs.declared.Line.{Line}
 use Rattle.spec_text.specs.declared.LineKind.{LineKind}
-use Rattle.spec_text.specs.declared.LineKind.the-variants.{Rl, Fk, Pr, St, Lo, Br, El, En, Li}
-use Rattle.spec_text.specs.declared.StatementKind.the-variants.{Is, Ks, Ps, Ku, Pu, Kd, Pd}
 use Rattle.spec_text.specs.Text.{space, same, onFirst, fieldsIn}
 use Rattle.spec_text.specs.Text.{wordOf, kinds, kindOf, Form, formsOf, fieldOf, valuesOf, lineWith, lineOf}
 use Rattle.law_text.specs.TextLaws.{same-equal}
-use Rattle.text_fields.specs.Field.{fieldLength, othersIn, numberIf, before, stepAt, lineFrom, lineBehind}
-use Rattle.text_fields.specs.DigitLaws.{number-small, dash-zero}
+use Rattle.text_fields.specs.Field.{fieldLength, othersIn, numberIf, before, stepAt, lineFrom, lineAfterWord}
+use Rattle.text_digits.specs.DigitLaws.{number-small, dash-zero}
 
 -- the first field and the others
 pub fields-cut : (line : List ℕ) → fieldsIn line ≡ take (fieldLength line) line ∷ othersIn (drop (fieldLength line) line)
@@ -125,32 +123,13 @@ line-none bytes e = rw (fields-cut bytes, e, lineOf)
 
 -- a line whose first field is a kind's word
 pub line-some : (bytes : List ℕ) {k : LineKind} → kindOf (take (fieldLength bytes) bytes) ≡ some k
-    → lineOf bytes ≡ lineBehind k (drop (fieldLength bytes) bytes)
-unfolding lineOf lineBehind lineFrom
+    → lineOf bytes ≡ lineAfterWord k (drop (fieldLength bytes) bytes)
+unfolding lineOf lineAfterWord lineFrom
 line-some bytes {k} e = rw (fields-cut bytes, e, lineOf) (go (valuesOf (formsOf k) (othersIn (drop (fieldLength bytes) bytes))))
   where
     go : (o : Option (List ℕ)) → _≡_ {A = Option Line} (elim o [ none ↦ none | some values ↦ some (lineWith k values) ]) (lineFrom k o)
     go none = refl
     go (some values) = refl
-
--- each kind has a word of two bytes
-pub word-two : (k : LineKind) → length (wordOf k) ≡ 2
-unfolding wordOf
-word-two Rl = refl
-word-two Fk = refl
-word-two Pr = refl
-word-two (St Is) = refl
-word-two (St Ks) = refl
-word-two (St Ps) = refl
-word-two (St Ku) = refl
-word-two (St Pu) = refl
-word-two (St Kd) = refl
-word-two (St Pd) = refl
-word-two Lo = refl
-word-two Br = refl
-word-two El = refl
-word-two En = refl
-word-two Li = refl
 
 -- the kind's word is the one that was read
 pub kind-word : (word : List ℕ) {k : LineKind} → kindOf word ≡ some k → word ≡ wordOf k

@@ -1,10 +1,8 @@
 pub mod Answer
 pub mod AnswerLaws
-pub mod DigitLaws
 pub mod Field
 pub mod FieldLaws
-pub mod KindLaws
+pub mod WordLaws
 pub mod Progress
-pub mod Step
+pub mod FieldStep
 pub mod FieldSteps
-pub mod Unique

@@ -2,15 +2,16 @@
 use spec_text::Line;
 use spec_text::LineKind;
 use spec_text::StatementKind;
+use text_digits::FieldForm;
+use text_digits::FieldRead;
 ghost use mathlib.Core.Path.{_≡_};
-ghost use Prim.Native.Nat.{_+_, _≤_};
-ghost use lib.ListN.{length, drop};
-ghost use Rattle.spec_text.specs.declared.LineKind.the-variants.{St};
-ghost use Rattle.spec_text.specs.Text.{lineOf, kindOf, numberOf, setOf, dashOf, fieldOf, formsOf};
-ghost use Rattle.text_fields.specs.Field.{hexadecimal, digitsFrom, digitsIn, fieldLength};
-ghost use Rattle.text_fields.specs.Field.{setIf, formsWith, stepAt, lineBehind};
+ghost use Prim.Native.Nat.{_+_};
+ghost use lib.ListN.{drop};
+ghost use Rattle.spec_text.specs.Text.{lineOf, kindOf};
+ghost use Rattle.text_digits.specs.Digits.{formOf};
+ghost use Rattle.text_fields.specs.Field.{fieldLength, setIf, stepAt, lineAfterWord};
 ghost use Rattle.text_fields.specs.Answer.{lineAnswer, valueOr4};
-ghost use Rattle.text_fields.specs.Step.{fieldAnswer, kindAnswer, stepAnswer, formOf, formsFor, NumberStep};
+ghost use Rattle.text_fields.specs.FieldStep.{kindAnswer, stepAnswer, NumberStep};
 
 // The line that the bytes are, or that they are none.
 pub enum LineRead {
@@ -18,14 +19,8 @@ pub enum LineRead {
     Wrong,
 }
 
-// The value of one field, or that the field has another form.
-enum FieldRead {
-    Value(u64),
-    Wrong,
-}
-
 // A field's value and where the field ends.
-enum Step {
+enum FieldStep {
     Value(u64, usize),
     Wrong,
 }
@@ -33,116 +28,6 @@ enum Step {
 enum KindRead {
     Kind(LineKind),
     Wrong,
-}
-
-// The forms of a field: a number, a set, or nothing but `-`.
-enum FieldForm {
-    Number,
-    Set,
-    Nothing,
-}
-
-// Which of the six fields after its word a kind has; the others are `-`.
-struct Present {
-    id: bool,
-    rel: bool,
-    to: bool,
-    reads: bool,
-    writes: bool,
-    tests: bool,
-}
-
-// What a hexadecimal digit stands for, or 16 where the byte is none. One branch: whether a digit is a letter is hard to foresee.
-fn digit_of(b: u8) -> u64
-    ensures { λ r. ⌜ r ≡ hexadecimal b ⌝ }
-{
-    if ((0x30 <= b) & (b <= 0x39)) | ((0x61 <= b) & (b <= 0x66)) {
-        return (b % 16 + b / 64 * 9) as u64;
-    }
-    16
-}
-
-// The value of digits in a base; 16 digits in base 16 still fit a word.
-fn digits_value(field: &[u8], base: u64) -> FieldRead
-    requires { ⌜ (base ≤ 16) × (length (now field) ≤ 16) ⌝ }
-    ensures { λ r. ⌜ fieldAnswer r ≡ digitsFrom base 0 (now (field .entry)) ⌝ }
-{
-    let mut value: u64 = 0;
-    let mut i: usize = 0;
-    while i < field.len() {
-        let d = digit_of(field[i]);
-        if base <= d {
-            return FieldRead::Wrong;
-        }
-        value = value * base + d;
-        i += 1;
-    }
-    FieldRead::Value(value)
-}
-
-// At least one digit and at most so many, and no zero in front of others.
-fn digits_of(field: &[u8], base: u64, most: usize) -> FieldRead
-    requires { ⌜ (base ≤ 16) × (most ≤ 16) ⌝ }
-    ensures { λ r. ⌜ fieldAnswer r ≡ digitsIn base most (now (field .entry)) ⌝ }
-{
-    let n = field.len();
-    if n == 0 {
-        return FieldRead::Wrong;
-    }
-    if most < n {
-        return FieldRead::Wrong;
-    }
-    if 1 < n {
-        let d = field[0];
-        if d == 0x30 {
-            return FieldRead::Wrong;
-        }
-    }
-    digits_value(field, base)
-}
-
-fn number_of(field: &[u8]) -> FieldRead
-    ensures { λ r. ⌜ fieldAnswer r ≡ numberOf (now (field .entry)) ⌝ }
-{
-    let r = digits_of(field, 10, 3);
-    match r {
-        FieldRead::Value(v) => {
-            if v <= 255 {
-                FieldRead::Value(v)
-            } else {
-                FieldRead::Wrong
-            }
-        }
-        FieldRead::Wrong => FieldRead::Wrong,
-    }
-}
-
-fn set_of(field: &[u8]) -> FieldRead
-    ensures { λ r. ⌜ fieldAnswer r ≡ setOf (now (field .entry)) ⌝ }
-{
-    digits_of(field, 16, 16)
-}
-
-fn dash_of(field: &[u8]) -> FieldRead
-    ensures { λ r. ⌜ fieldAnswer r ≡ dashOf (now (field .entry)) ⌝ }
-{
-    if field.len() == 1 {
-        let b = field[0];
-        if b == 0x2d {
-            return FieldRead::Value(0);
-        }
-    }
-    FieldRead::Wrong
-}
-
-fn field_of(form: FieldForm, field: &[u8]) -> FieldRead
-    ensures { λ r. ⌜ fieldAnswer r ≡ fieldOf (formOf form) (now (field .entry)) ⌝ }
-{
-    match form {
-        FieldForm::Number => number_of(field),
-        FieldForm::Set => set_of(field),
-        FieldForm::Nothing => dash_of(field),
-    }
 }
 
 // Where the field that begins at a place ends: at the next space, or with the line.
@@ -160,18 +45,18 @@ fn field_end(bytes: &[u8], at: usize) -> usize
 }
 
 // The field after the space at a place, read by its form.
-fn next_field(bytes: &[u8], at: usize, form: FieldForm) -> Step
+fn next_field(bytes: &[u8], at: usize, form: FieldForm) -> FieldStep
     ensures { λ r. ⌜ stepAnswer (now (bytes .entry)) r ≡ stepAt (formOf form) (drop at (now (bytes .entry))) ⌝ }
 {
     if bytes.len() <= at {
-        return Step::Wrong;
+        return FieldStep::Wrong;
     }
     let start = at + 1;
     let end = field_end(bytes, start);
-    let r = field_of(form, &bytes[start..end]);
+    let r = text_digits::field_of(form, &bytes[start..end]);
     match r {
-        FieldRead::Value(v) => Step::Value(v, end),
-        FieldRead::Wrong => Step::Wrong,
+        FieldRead::Value(v) => FieldStep::Value(v, end),
+        FieldRead::Wrong => FieldStep::Wrong,
     }
 }
 
@@ -180,6 +65,9 @@ fn wide(b: u8) -> u32
 {
     b as u32
 }
+
+// How many bytes there are.
+const BYTES: u32 = 256;
 
 // The kind whose word this is; the two bytes of a word make one number.
 fn kind_of(word: &[u8]) -> KindRead
@@ -190,7 +78,7 @@ fn kind_of(word: &[u8]) -> KindRead
     }
     let a = wide(word[0]);
     let b = wide(word[1]);
-    let both = a * 256 + b;
+    let both = a * BYTES + b;
     match both {
         0x726c => KindRead::Kind(LineKind::Rl),
         0x666b => KindRead::Kind(LineKind::Fk),
@@ -212,7 +100,7 @@ fn kind_of(word: &[u8]) -> KindRead
 }
 
 // A number where the kind has the field.
-fn next_number(bytes: &[u8], at: usize, there: bool) -> Step
+fn next_number(bytes: &[u8], at: usize, there: bool) -> FieldStep
     ensures { λ r. ⌜ NumberStep (now (bytes .entry)) at there r ⌝ }
 {
     if there {
@@ -222,7 +110,7 @@ fn next_number(bytes: &[u8], at: usize, there: bool) -> Step
 }
 
 // A set where the kind has the field.
-fn next_set(bytes: &[u8], at: usize, there: bool) -> Step
+fn next_set(bytes: &[u8], at: usize, there: bool) -> FieldStep
     ensures { λ r. ⌜ stepAnswer (now (bytes .entry)) r ≡ stepAt (setIf there) (drop at (now (bytes .entry))) ⌝ }
 {
     if there {
@@ -231,72 +119,35 @@ fn next_set(bytes: &[u8], at: usize, there: bool) -> Step
     next_field(bytes, at, FieldForm::Nothing)
 }
 
-fn having(id: bool, rel: bool, to: bool, reads: bool, writes: bool, tests: bool) -> Present
-    ensures { λ r. ⌜ formsFor r ≡ formsWith id rel to reads writes tests ⌝ }
-{
-    Present {
-        id,
-        rel,
-        to,
-        reads,
-        writes,
-        tests,
-    }
-}
-
-// The fields of a statement: id, rel, to, reads, writes, tests.
-fn statement_fields(s: StatementKind) -> Present
-    ensures { λ r. ⌜ formsFor r ≡ formsOf (St s) ⌝ }
-{
-    match s {
-        StatementKind::Is => having(true, true, false, false, true, false),
-        StatementKind::Ks => having(true, true, false, true, false, false),
-        StatementKind::Ps => having(true, true, false, true, false, true),
-        StatementKind::Ku => having(true, true, false, true, true, false),
-        StatementKind::Pu => having(true, true, false, true, true, true),
-        StatementKind::Kd => having(true, true, false, false, true, false),
-        StatementKind::Pd => having(true, true, false, false, true, true),
-    }
-}
-
-// The fields of a line: id, rel, to, reads, writes, tests.
-fn line_fields(k: LineKind) -> Present
-    ensures { λ r. ⌜ formsFor r ≡ formsOf k ⌝ }
-{
-    match k {
-        LineKind::Rl => having(true, false, false, true, false, false),
-        LineKind::Fk => having(true, true, true, false, false, false),
-        LineKind::Pr => having(true, false, false, false, false, false),
-        LineKind::St(s) => statement_fields(s),
-        LineKind::Lo => having(false, false, false, false, false, false),
-        LineKind::Br => having(false, false, false, false, false, false),
-        LineKind::El => having(false, false, false, false, false, false),
-        LineKind::En => having(false, false, false, false, false, false),
-        LineKind::Li => having(true, true, true, false, false, false),
-    }
-}
-
 // The line of a kind whose six fields stand after its word, from the place where the word ends.
-fn line_behind(bytes: &[u8], at: usize, kind: LineKind) -> LineRead
-    ensures { λ r. ⌜ lineAnswer r ≡ valueOr4 (lineBehind kind (drop at (now (bytes .entry)))) ⌝ }
+fn line_after_word(bytes: &[u8], at: usize, kind: LineKind) -> LineRead
+    ensures { λ r. ⌜ lineAnswer r ≡ valueOr4 (lineAfterWord kind (drop at (now (bytes .entry)))) ⌝ }
 {
-    let f = line_fields(kind);
-    let Step::Value(id, id_end) = next_number(bytes, at, f.id) else {
+    let facts = line_kinds::line_facts(kind);
+    let FieldStep::Value(id, id_end) = next_number(bytes, at, facts & line_kinds::ID != 0) else {
         return LineRead::Wrong;
     };
-    let Step::Value(rel, rel_end) = next_number(bytes, id_end, f.rel) else {
+    let FieldStep::Value(rel, rel_end) = next_number(bytes, id_end, facts & line_kinds::REL != 0)
+    else {
         return LineRead::Wrong;
     };
-    let Step::Value(to, to_end) = next_number(bytes, rel_end, f.to) else {
+    let FieldStep::Value(to, to_end) = next_number(bytes, rel_end, facts & line_kinds::TO != 0)
+    else {
         return LineRead::Wrong;
     };
-    let Step::Value(reads, reads_end) = next_set(bytes, to_end, f.reads) else {
+    let FieldStep::Value(reads, reads_end) = next_set(bytes, to_end, facts & line_kinds::READS != 0)
+    else {
         return LineRead::Wrong;
     };
-    let Step::Value(writes, writes_end) = next_set(bytes, reads_end, f.writes) else {
+    let FieldStep::Value(writes, writes_end) = next_set(
+        bytes,
+        reads_end,
+        facts & line_kinds::WRITES != 0,
+    ) else {
         return LineRead::Wrong;
     };
-    let Step::Value(tests, end) = next_set(bytes, writes_end, f.tests) else {
+    let FieldStep::Value(tests, end) = next_set(bytes, writes_end, facts & line_kinds::TESTS != 0)
+    else {
         return LineRead::Wrong;
     };
     if end < bytes.len() {
@@ -320,7 +171,7 @@ pub fn line_of(bytes: &[u8]) -> LineRead
     let end = field_end(bytes, 0);
     let r = kind_of(&bytes[..end]);
     match r {
-        KindRead::Kind(kind) => line_behind(bytes, end, kind),
+        KindRead::Kind(kind) => line_after_word(bytes, end, kind),
         KindRead::Wrong => LineRead::Wrong,
     }
 }

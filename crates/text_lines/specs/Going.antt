@@ -18,7 +18,7 @@ goneThrough zero text place line = []
 goneThrough (suc steps) text place line =
     elim (lineAt text place line) [
       | AtEnd ↦ []
-      | AtLine span ↦ bytesOf text span ∷ goneThrough steps text (span .next) (span .behind)
+      | AtLine span ↦ bytesOf text span ∷ goneThrough steps text (span .next) (span .after)
     ]
 
 -- what the line that a reader comes to at a place is: the first of what stands there, within the text; those left stand from the next place on
@@ -28,4 +28,4 @@ pub record Came (text : List ℕ) (place line : ℕ) (span : Span) : Type 0 wher
   pub ends : span .end ≤ length text
   pub inside : place < length text
   pub further : place < span .next
-  pub number : line < 18446744073709551615 → span .behind ≡ line + 1
+  pub number : line < 18446744073709551615 → span .after ≡ line + 1

@@ -127,5 +127,5 @@ gone-through (suc steps) text place line h = go (lineAt text place line) refl (g
         → goneThrough (suc steps) text place line ≡ linesIn (drop place text)
     go (AtLine span) e more =
         let here = came text place line e in
-        rw (← e, goneThrough, more (span .next) (span .behind) (omega arith)) (sym (here .lines))
+        rw (← e, goneThrough, more (span .next) (span .after) (omega arith)) (sym (here .lines))
     go AtEnd e more = rw (← e, goneThrough) (sym (ended text place line e))

@@ -22,7 +22,7 @@ spanAt text place line =
       start = place;
       end = end;
       next = cond (ltb end (length text)) (end + 1) end;
-      behind = cond (ltb line 18446744073709551615) (line + 1) line;
+      after = cond (ltb line 18446744073709551615) (line + 1) line;
     }
 
 abbrev pub pickStep : Bool → Step → Step → Step

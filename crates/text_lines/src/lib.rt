@@ -18,7 +18,7 @@ pub struct Span {
     pub start: usize,
     pub end: usize,
     pub next: usize,
-    pub behind: u64,
+    pub after: u64,
 }
 
 // The next line, where there is one.
@@ -42,7 +42,7 @@ fn line_end(text: &[u8], at: usize) -> usize
 }
 
 // The place after a line that ends here.
-fn place_behind(end: usize, size: usize) -> usize
+fn place_after(end: usize, size: usize) -> usize
     ensures { λ r. ⌜ r ≡ cond (ltb end size) (end + 1) end ⌝ }
 {
     if end < size {
@@ -52,7 +52,7 @@ fn place_behind(end: usize, size: usize) -> usize
 }
 
 // The number of the line after one; no text has so many that it ends.
-fn number_behind(line: u64) -> u64
+fn number_after(line: u64) -> u64
     ensures { λ r. ⌜ r ≡ cond (ltb line 18446744073709551615) (line + 1) line ⌝ }
 {
     if line < 18446744073709551615 {
@@ -69,8 +69,8 @@ fn line_span(text: &[u8], place: usize, line: u64) -> Span
     Span {
         start: place,
         end,
-        next: place_behind(end, text.len()),
-        behind: number_behind(line),
+        next: place_after(end, text.len()),
+        after: number_after(line),
     }
 }
 

@@ -1,14 +1,12 @@
 -- What reading a text answers, and the steps of the code that reads it. Believed: `parsedAs`.
-use mathlib.Core.Bool.{cond}
 use mathlib.Core.List.{List, []}
 use mathlib.Core.Option.{Option, none, some}
 use mathlib.Core.Path.{_≡_}
-use Prim.Native.Nat.{ℕ, suc, _+_, _≤_}
-use lib.Dec.{eqb}
+use Prim.Native.Nat.{ℕ, _+_, _≤_}
 use lib.ListN.{length, drop, replicate}
 use Rattle.spec_text.specs.declared.Line.{Line}
 use Rattle.spec_text.specs.declared.Workload.{Workload}
-use Rattle.spec_text.specs.Text.{newline, linesIn, unusedLine}
+use Rattle.spec_text.specs.Text.{linesIn, unusedLine}
 use Rattle.spec_text.specs.Value.{valueOf, noWorkload}
 use Rattle.spec_text.specs.Reading.{Outcome, readLines}
 use Rattle.spec_text.specs.Reading.Outcome.{refused, accepted}
@@ -19,7 +17,6 @@ use Rattle.line_rules.specs.WordsHold.{HoldsWords}
 use Rattle.text_lines.specs.Going.{goneThrough}
 use Rattle.text_read.specs.declared.Parsed.{Parsed}
 use Rattle.text_read.specs.declared.Seen.{Seen}
-use Rattle.text_read.specs.declared.Whole.{Whole}
 
 -- the answer for a text: its workload value, or the refusal's number and line with a value that no text gives
 unfoldable pub parsedAs : Outcome → Parsed
@@ -30,28 +27,14 @@ parsedAs (accepted lines) = record { work = valueOf lines; number = 0; line = 0 
 abbrev pub unusedCells : ℕ → Workload
 unusedCells count = record { count = count; lines = replicate 1616 unusedLine }
 
--- what the tests of the whole text settle: the refusal, or what the lines after the names line give
-abbrev pub wholeGives : List ℕ → Whole → Outcome
-wholeGives text (Whole.Refused number line) = refused number line
-wholeGives text (Whole.Lines place) = readLines [] (linesIn (drop place text))
-
--- a line's number, 0 where there is none
-unfoldable pub lineOr : Option ℕ → ℕ
-lineOr none = 0
-lineOr (some line) = line
-
--- the line of what follows a byte
-unfoldable pub lineBehindByte : ℕ → ℕ → ℕ
-lineBehindByte line b = cond (eqb b newline) (suc line) line
-
 -- the number of the fault of a line's bytes after the lines kept, 0 where there is none
-unfoldable pub numberOf : State → Option Line → ℕ
-numberOf s none = 4
-numberOf s (some l) = checkOf s l
+unfoldable pub faultNumber : State → Option Line → ℕ
+faultNumber s none = 4
+faultNumber s (some l) = checkOf s l
 
 -- what is seen of a line's bytes: a fault's number, or 0 and the line, which is then taken
 pub record Saw (before : List ℕ) (o : Option Line) (after : List ℕ) (r : Seen) : Type 0 where
-  pub number : r .number ≡ numberOf (stateIn before) o
+  pub number : r .number ≡ faultNumber (stateIn before) o
   pub value : r .number ≡ 0 → o ≡ some (r .line)
   pub taken : r .number ≡ 0 → Taken before (r .line) after
 

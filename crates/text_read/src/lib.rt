@@ -4,17 +4,15 @@ use spec_text::LineKind;
 use spec_text::Workload;
 use text_fields::LineRead;
 use text_lines::Step;
+use text_whole::Whole;
 ghost use mathlib.Core.Path.{_≡_};
 ghost use mathlib.Core.List.{[]};
 ghost use mathlib.Core.Option.{some};
-ghost use Prim.Native.Nat.{_≤_, _<_};
-ghost use mathlib.Core.Bool.{_&&_};
-ghost use lib.Dec.{leb};
-ghost use lib.ListN.{length, drop};
-ghost use Rattle.spec_text.specs.Text.{same, linesIn, lineOf, namesLine};
-ghost use Rattle.spec_text.specs.Reading.{isAllowed, otherByte, endsLine, readLines, read};
-ghost use Rattle.text_read.specs.Parse.{parsedAs, unusedCells, wholeGives, lineOr, lineBehindByte, Saw};
+ghost use lib.ListN.{drop};
+ghost use Rattle.spec_text.specs.Text.{linesIn, lineOf};
+ghost use Rattle.spec_text.specs.Reading.{readLines, read};
 ghost use Rattle.spec_text.specs.Reading.Outcome.{refused as Refused};
+ghost use Rattle.text_read.specs.Parse.{parsedAs, unusedCells, Saw};
 
 // What a text gives: number 0 and its workload value, or a refusal's number and line with a value that no text gives (`noWorkload`).
 pub struct Parsed {
@@ -23,103 +21,13 @@ pub struct Parsed {
     pub line: u64,
 }
 
-// What the tests of the whole text give: a refusal's number and line, or the place after the names line.
-enum Whole {
-    Refused(u8, u64),
-    Lines(usize),
-}
-
 // What the bytes of a line give: number 0 and the line, or a fault's number.
 struct Seen {
     number: u8,
     line: Line,
 }
 
-fn between(low: u8, b: u8, high: u8) -> bool
-    ensures { λ r. ⌜ r ≡ leb low b && leb b high ⌝ }
-{
-    if b < low {
-        return false;
-    }
-    b <= high
-}
-
-fn allowed(b: u8) -> bool
-    ensures { λ r. ⌜ r ≡ isAllowed b ⌝ }
-{
-    if b == 0x0a {
-        return true;
-    }
-    if b == 0x20 {
-        return true;
-    }
-    if b == 0x2d {
-        return true;
-    }
-    if between(0x30, b, 0x39) {
-        return true;
-    }
-    between(0x61, b, 0x7a)
-}
-
-// The line of what follows a byte of a line.
-fn line_behind(line: u64, b: u8) -> u64
-    requires { ⌜ line < 65536 ⌝ }
-    ensures { λ r. ⌜ r ≡ lineBehindByte line b ⌝ }
-{
-    if b == 0x0a {
-        return line + 1;
-    }
-    line
-}
-
-// The line of the first byte that no text has, 0 where there is none.
-fn other_byte(text: &[u8]) -> u64
-    requires { ⌜ length (now text) ≤ 32768 ⌝ }
-    ensures { λ r. ⌜ r ≡ lineOr (otherByte 1 (now (text .entry))) ⌝ }
-{
-    let mut line: u64 = 1;
-    let mut i: usize = 0;
-    while i < text.len() {
-        let b = text[i];
-        if !allowed(b) {
-            return line;
-        }
-        line = line_behind(line, b);
-        i += 1;
-    }
-    0
-}
-
-// There is a byte and the last ends a line.
-fn ends_line(text: &[u8]) -> bool
-    ensures { λ r. ⌜ r ≡ endsLine (now (text .entry)) ⌝ }
-{
-    let n = text.len();
-    if n == 0 {
-        return false;
-    }
-    text[n - 1] == 0x0a
-}
-
-fn same_bytes(a: &[u8], b: &[u8]) -> bool
-    ensures { λ r. ⌜ r ≡ same (now (a .entry)) (now (b .entry)) ⌝ }
-{
-    let n = a.len();
-    if n != b.len() {
-        return false;
-    }
-    let mut i: usize = 0;
-    while i < n {
-        if a[i] != b[i] {
-            return false;
-        }
-        i += 1;
-    }
-    true
-}
-
-// A count over cells that all hold the unused line: 0 of no lines, 1617 of what no text gives.
+// A count over cells that all hold the unused line: 0 of no lines, one over the cells of what no text gives.
 fn unused_cells(count: usize) -> Workload
     ensures { λ r. ⌜ r ≡ unusedCells count ⌝ }
 {
@@ -134,7 +42,7 @@ fn unused_cells(count: usize) -> Workload
     };
     Workload {
         count,
-        lines: [e; 1616],
+        lines: [e; spec_text::CELLS],
     }
 }
 
@@ -142,7 +50,7 @@ fn refused(number: u8, line: u64) -> Parsed
     ensures { λ r. ⌜ r ≡ parsedAs (Refused number line) ⌝ }
 {
     Parsed {
-        work: unused_cells(1617),
+        work: unused_cells(spec_text::CELLS + 1),
         number,
         line,
     }
@@ -187,7 +95,7 @@ fn read_lines(text: &[u8], start: usize) -> Parsed
     ensures { λ r. ⌜ r ≡ parsedAs (readLines [] (linesIn (drop start (now (text .entry))))) ⌝ }
 {
     let mut w = unused_cells(0);
-    let mut words = [0u64; 424];
+    let mut words = [0u64; line_state::WORDS];
     line_rules::start(&mut words);
     let mut at = start;
     let mut line: u64 = 2;
@@ -207,7 +115,7 @@ fn read_lines(text: &[u8], start: usize) -> Parsed
         w.lines[n] = l;
         w.count = n + 1;
         at = span.next;
-        line = span.behind;
+        line = span.after;
     }
     if line_rules::depth(&words) != 0 {
         return refused(7, line - 1);
@@ -219,43 +127,11 @@ fn read_lines(text: &[u8], start: usize) -> Parsed
     }
 }
 
-// The first line is the names line.
-fn is_names(line: &[u8]) -> bool
-    ensures { λ r. ⌜ r ≡ same (now (line .entry)) namesLine ⌝ }
-{
-    same_bytes(line, b"kind id rel to reads writes tests")
-}
-
-// Tests the whole text: its bytes, and its first line.
-fn whole_text(text: &[u8]) -> Whole
-    ensures { λ r. ⌜ wholeGives (now (text .entry)) r ≡ read (now (text .entry)) ⌝ }
-{
-    if 32768 < text.len() {
-        return Whole::Refused(1, 0);
-    }
-    let other = other_byte(text);
-    if other != 0 {
-        return Whole::Refused(2, other);
-    }
-    if !ends_line(text) {
-        return Whole::Refused(2, 0);
-    }
-    let Step::Line(span) = text_lines::line_from(text, 0, 1) else {
-        return Whole::Refused(3, 1);
-    };
-    let begin = span.start;
-    let end = span.end;
-    if !is_names(&text[begin..end]) {
-        return Whole::Refused(3, 1);
-    }
-    Whole::Lines(span.next)
-}
-
 // Reads any text.
 pub fn read_text(text: &[u8]) -> Parsed
     ensures { λ r. ⌜ r ≡ parsedAs (read (now (text .entry))) ⌝ }
 {
-    let whole = whole_text(text);
+    let whole = text_whole::whole_text(text);
     match whole {
         Whole::Refused(number, line) => refused(number, line),
         Whole::Lines(place) => read_lines(text, place),

@@ -29,13 +29,13 @@ use Rattle.spec_text.specs.Reading.{
   Block,
   toSecondArm,
   blocksAfter,
-  blocksBehind,
+  blocksAfterLines,
 }
 use Rattle.spec_text.specs.Reading.{openBlocks, beforeStatement, loop, firstArm, secondArm, inBody, noneOpen, innermost, ordered, named, fault, read}
 use Rattle.spec_text.specs.Reading.Outcome.{accepted}
 use Rattle.law_text.specs.ReadingLaws.{Passes, Taken, fault-none, read-taken, read-closed}
 use Rattle.law_text.specs.LineCountLaws.{program-begins, program-joins}
-use Rattle.law_text.specs.ReaderStateLaws.{blocksBehind-append}
+use Rattle.law_text.specs.ReaderStateLaws.{blocksAfterLines-append}
 use Rattle.unfold_laws.specs.Along.{Along, OwnHere}
 use Rattle.unfold_laws.specs.AlongLaws.{Body, Below, body-along}
 use Rattle.unfold_laws.specs.Codes.{codeOf, codesOf}
@@ -188,7 +188,7 @@ taken-body before (l ∷ lines) t end begun =
     step c e other n one h =
         let joins = program-joins before l (rw e other) begun in
         let blocks : openBlocks (program (before ++ (l ∷ []))) ≡ blocksAfter c (length own) (openBlocks own) =
-        ap openBlocks joins ∙ blocksBehind-append 0 [] own l ∙ rw (zero-add (length own), e) refl in
+        ap openBlocks joins ∙ blocksAfterLines-append 0 [] own l ∙ rw (zero-add (length own), e) refl in
         let many : count isStatement (program (before ++ (l ∷ []))) ≡ count isStatement own + n =
         ap (count isStatement) joins ∙ count-append isStatement own (l ∷ []) ∙ ap (λ (m : ℕ). count isStatement own + m) one in
         rw (blocks, many) at h
@@ -225,7 +225,7 @@ taken-behind before (x ∷ front) back t =
 module _ (text : List ℕ) (lines : List Line) (taken : read text ≡ accepted lines) where
   -- the lines after a `pr` line
   body-there : (i : ℕ) → getD (codesOf lines) i 0 ≡ 3 → Body [] 0 (drop (i + 1) lines)
-  unfolding openBlocks blocksBehind
+  unfolding openBlocks blocksAfterLines
   body-there i begins = there (leb (length lines) i) refl
     where
       there : (b : Bool) → leb (length lines) i ≡ b → Body [] 0 (drop (i + 1) lines)

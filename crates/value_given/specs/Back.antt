@@ -18,6 +18,6 @@ pub record Back (w : Workload) : Type 0 where
 pub written-back : (w : Workload) → Given w → Back w
 written-back w g = record { isRead = given-written w g; isValue = sym (given-value g) }
 
--- so it does where the answer is yes
+-- a result of its own: so it does where the answer is yes, and a caller has the text in hand
 pub decided-back : (w : Workload) {r : Bool} → Decided w r → r ≡ true → Back w
 decided-back w d e = written-back w (d .yes e)

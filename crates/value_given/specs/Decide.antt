@@ -1,28 +1,16 @@
 -- The steps of the code that decides S21.
-use mathlib.Core.Bool.{Bool, true, false, _&&_}
+use mathlib.Core.Bool.{true}
 use mathlib.Core.List.{List, [], _∷_, _++_}
 use mathlib.Core.Option.{none}
 use mathlib.Core.Path.{_≡_}
 use Prim.Native.Nat.{ℕ, _≤_}
-use lib.Dec.{eqb}
 use lib.ListN.{length}
 use Rattle.spec_text.specs.declared.Line.{Line}
-use Rattle.spec_text.specs.declared.LineKind.{LineKind}
-use Rattle.spec_text.specs.declared.LineKind.the-variants.{Rl, Fk, Pr, St, Lo, Br, El, En, Li}
 use Rattle.spec_text.specs.Reading.{fault, noneOpen}
 use Rattle.law_text.specs.Written.{lineWritten, written}
 use Rattle.law_text.specs.TextLaws.{lineFits}
 use Rattle.value_laws.specs.Givens.{SoundLines}
 use Rattle.line_rules.specs.WordsHold.{HoldsWords}
-
--- a line `en`
-unfoldable pub isEnd : LineKind → Bool
-isEnd k = elim k [ Rl ↦ false | Fk ↦ false | Pr ↦ false | St s ↦ false | Lo ↦ false | Br ↦ false | El ↦ false | En ↦ true | Li ↦ false ]
-
--- the test of a cell without a line: kind `en`, all values 0
-unfoldable pub isEmpty : Line → Bool
-isEmpty l =
-    isEnd (l .kind) && eqb (l .id) 0 && eqb (l .rel) 0 && eqb (l .to) 0 && eqb (l .reads) 0 && eqb (l .writes) 0 && eqb (l .tests) 0
 
 -- a line taken after others: the bytes that it is written with, or 0 where it does not fit or has a fault
 pub record Stepped (before : List ℕ) (l : Line) (r : ℕ) (after : List ℕ) : Type 0 where

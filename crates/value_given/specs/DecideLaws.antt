@@ -28,7 +28,9 @@ use Rattle.value_length.specs.Size.{sizeOf}
 use Rattle.value_length.specs.LineSizeLaws.{unfit-none, size-told}
 use Rattle.value_given.specs.Decided.{Decided}
 use Rattle.line_rules.specs.WordsHold.{HoldsWords}
-use Rattle.value_given.specs.Decide.{isEnd, isEmpty, Stepped, Measured}
+use Rattle.value_cells.specs.Cells.{isEmpty}
+use Rattle.value_cells.specs.CellLaws.{cells-empty, empty-cells}
+use Rattle.value_given.specs.Decide.{Stepped, Measured}
 
 -- ---- sound lines
 
@@ -76,65 +78,6 @@ size-none = size-of []
 -- one line more
 pub size-more : (lines : List Line) (l : Line) → length (written (lines ++ (l ∷ []))) ≡ length (written lines) + length (lineWritten l)
 size-more lines l = omega (arith, size-of lines, size-of (lines ++ (l ∷ [])), lines-more lines l)
-
--- ---- cells without a line
-
-end-kind : (k : LineKind) → isEnd k ≡ true → k ≡ En
-unfolding isEnd
-end-kind Rl e = absurd (true-false e refl)
-end-kind Fk e = absurd (true-false e refl)
-end-kind Pr e = absurd (true-false e refl)
-end-kind (St s) e = absurd (true-false e refl)
-end-kind Lo e = absurd (true-false e refl)
-end-kind Br e = absurd (true-false e refl)
-end-kind El e = absurd (true-false e refl)
-end-kind En e = refl
-end-kind Li e = absurd (true-false e refl)
-
-all-zero : (k : LineKind) (a b c d e f : ℕ) → k ≡ En → a ≡ 0 → b ≡ 0 → c ≡ 0 → d ≡ 0 → e ≡ 0 → f ≡ 0
-    → record { kind = k; id = a; rel = b; to = c; reads = d; writes = e; tests = f } ≡ unusedLine
-unfolding unusedLine
-all-zero k a b c d e f h ha hb hc hd he hf = rw (h, ha, hb, hc, hd, he, hf)
-
--- the test tells the unused line
-pub empty-line : (l : Line) → isEmpty l ≡ true → l ≡ unusedLine
-unfolding isEmpty
-empty-line l t =
-    let f = and-true _ (eqb (l .tests) 0) t in
-    let e = and-true _ (eqb (l .writes) 0) (f .0) in
-    let d = and-true _ (eqb (l .reads) 0) (e .0) in
-    let c = and-true _ (eqb (l .to) 0) (d .0) in
-    let b = and-true _ (eqb (l .rel) 0) (c .0) in
-    let a = and-true (isEnd (l .kind)) (eqb (l .id) 0) (b .0) in
-    all-zero (l .kind) (l .id) (l .rel) (l .to) (l .reads) (l .writes) (l .tests) (end-kind (l .kind) (a .0))
-    (eqb-true (l .id) 0 (a .1)) (eqb-true (l .rel) 0 (b .1)) (eqb-true (l .to) 0 (c .1)) (eqb-true (l .reads) 0 (d .1))
-    (eqb-true (l .writes) 0 (e .1)) (eqb-true (l .tests) 0 (f .1))
-
-pub line-empty : isEmpty unusedLine ≡ true
-unfolding isEmpty isEnd unusedLine
-line-empty = refl
-
-pub cells-empty : (lines : List Line) → all isEmpty lines ≡ true → lines ≡ replicate (length lines) unusedLine
-cells-empty [] e = refl
-cells-empty (l ∷ lines) e =
-    let both = and-true (isEmpty l) (all isEmpty lines) e in
-    rw (← (cells-empty lines (both .1))) (ap (λ (m : Line). m ∷ lines) (empty-line l (both .0)))
-
-pub empty-cells : (n : ℕ) → all isEmpty (replicate n unusedLine) ≡ true
-empty-cells zero = refl
-empty-cells (suc n) = and-of line-empty (empty-cells n)
-
--- the unused cells of a workload: none is tested from the last on, one fewer from each place on
-pub cells-past : (lines : List Line) (i : ℕ) → length lines ≤ i → all isEmpty (drop i lines) ≡ true
-cells-past lines i h = rw (drop-of-length-le lines h)
-
-pub cells-next : (lines : List Line) (i : ℕ) (d : Line) → i < length lines → isEmpty (getD lines i d) ≡ true
-    → all isEmpty (drop i lines) ≡ all isEmpty (drop (i + 1) lines)
-cells-next lines i d h e = rw (drop-cons lines i d h, e, add-one i)
-
-pub cells-other : (lines : List Line) (i : ℕ) (d : Line) → i < length lines → isEmpty (getD lines i d) ≡ false
-    → all isEmpty (drop i lines) ≡ false
-cells-other lines i d h e = rw (drop-cons lines i d h, e)
 
 -- ---- what the answers mean
 

@@ -1,61 +1,13 @@
 // S21 decided: whether some accepted text gives a workload value.
 use spec_text::Line;
-use spec_text::LineKind;
 use spec_text::Workload;
 use value_length::LineSize;
 ghost use mathlib.Core.Path.{_≡_};
 ghost use Prim.Native.Nat.{_≤_};
-ghost use lib.ListN.{length, drop};
-ghost use Rattle.spec_base.specs.Basic.{all};
+ghost use lib.ListN.{length};
 ghost use Rattle.spec_text.specs.Value.{linesOf};
 ghost use Rattle.value_given.specs.Decided.{Decided};
-ghost use Rattle.value_given.specs.Decide.{isEnd, isEmpty, Stepped, Measured};
-
-fn is_end(kind: LineKind) -> bool
-    ensures { λ r. ⌜ r ≡ isEnd kind ⌝ }
-{
-    match kind {
-        LineKind::Rl => false,
-        LineKind::Fk => false,
-        LineKind::Pr => false,
-        LineKind::St(_) => false,
-        LineKind::Lo => false,
-        LineKind::Br => false,
-        LineKind::El => false,
-        LineKind::En => true,
-        LineKind::Li => false,
-    }
-}
-
-// The cell holds the unused line.
-fn is_empty(l: Line) -> bool
-    ensures { λ r. ⌜ r ≡ isEmpty l ⌝ }
-{
-    let kind = l.kind;
-    is_end(kind)
-        & (l.id == 0)
-        & (l.rel == 0)
-        & (l.to == 0)
-        & (l.reads == 0)
-        & (l.writes == 0)
-        & (l.tests == 0)
-}
-
-// The cells after the lines are empty.
-fn rest_empty(w: Workload) -> bool
-    requires { ⌜ length (w .lines) ≡ 1616 ⌝ }
-    ensures { λ r. ⌜ r ≡ all isEmpty (drop (w .count) (w .lines)) ⌝ }
-{
-    let mut i = w.count;
-    while i < 1616 {
-        let l = w.lines[i];
-        if !is_empty(l) {
-            return false;
-        }
-        i += 1;
-    }
-    true
-}
+ghost use Rattle.value_given.specs.Decide.{Stepped, Measured};
 
 // Takes the line, if it fits and passes its tests: the bytes that it is written with, else 0.
 fn step(words: &mut [u64], l: Line) -> u64
@@ -78,13 +30,13 @@ fn step(words: &mut [u64], l: Line) -> u64
 }
 
 // The bytes of the lines' text, or 0 where a line does not fit or has a fault, or a block is open at the end. The names line and its
-// line end are 34 bytes, and reading keeps its state in 424 words.
+// line end are 34 bytes.
 fn text_size(w: Workload) -> u64
     requires { ⌜ (length (w .lines) ≡ 1616) × (w .count ≤ 1616) ⌝ }
     ensures { λ r. ⌜ Measured (linesOf w) r ⌝ }
 {
     let count = w.count;
-    let mut words = [0u64; 424];
+    let mut words = [0u64; line_state::WORDS];
     line_rules::start(&mut words);
     let mut size: u64 = 34;
     let mut i: usize = 0;
@@ -108,15 +60,15 @@ pub fn is_given(w: Workload) -> bool
     ensures { λ r. ⌜ Decided w r ⌝ }
 {
     let count = w.count;
-    if 1616 < count {
+    if spec_text::CELLS < count {
         return false;
     }
-    if !rest_empty(w) {
+    if !value_cells::rest_empty(w) {
         return false;
     }
     let size = text_size(w);
     if size == 0 {
         return false;
     }
-    size <= 32768
+    size <= spec_text::TEXT_BYTES as u64
 }

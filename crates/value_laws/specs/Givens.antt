@@ -19,7 +19,7 @@ use Rattle.law_text.specs.Written.{fieldsWritten, written}
 use Rattle.law_text.specs.TextLaws.{lineFits, line-fits}
 use Rattle.law_text.specs.ReadingLaws.{Taken, read-accepted, read-taken, read-closed}
 use Rattle.law_text.specs.ValueLaws.{given-read, given-fits, given-cells, given-others, cells-value}
-use Rattle.text_fields.specs.Unique.{lineText, line-ended, text-of-line, line-read}
+use Rattle.value_laws.specs.Unique.{lineText, line-ended, text-of-line, line-read}
 use Rattle.value_laws.specs.Printable.{printable, word-printable, fields-printable}
 use Rattle.value_laws.specs.Texts.{text-written, written-read}
 

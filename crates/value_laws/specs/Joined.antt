@@ -63,26 +63,26 @@ joined-lines (l ∷ lines) h =
     line-first l (joined lines) (both .0) ∙ ap (λ (r : List (List ℕ)). l ∷ r) (joined-lines lines (both .1))
 
 -- R2: a text of joined lines ends with a line end
-ends-behind : (l rest : List ℕ) → endsLine rest ≡ true → endsLine (l ++ rest) ≡ true
+ends-after : (l rest : List ℕ) → endsLine rest ≡ true → endsLine (l ++ rest) ≡ true
 unfolding endsLine
-ends-behind [] rest h = h
-ends-behind (b ∷ []) [] h = absurd (true-false h refl)
-ends-behind (b ∷ []) (c ∷ rest) h = h
-ends-behind (b ∷ c ∷ l) rest h = ends-behind (c ∷ l) rest h
+ends-after [] rest h = h
+ends-after (b ∷ []) [] h = absurd (true-false h refl)
+ends-after (b ∷ []) (c ∷ rest) h = h
+ends-after (b ∷ c ∷ l) rest h = ends-after (c ∷ l) rest h
 
 pub joined-ends : (l : List ℕ) (lines : List (List ℕ)) → endsLine (joined (l ∷ lines)) ≡ true
 unfolding joined endsLine
-joined-ends l [] = ends-behind l (newline ∷ []) refl
-joined-ends l (m ∷ lines) = ends-behind l (newline ∷ joined (m ∷ lines)) (ends-behind (newline ∷ []) (joined (m ∷ lines)) (joined-ends m lines))
+joined-ends l [] = ends-after l (newline ∷ []) refl
+joined-ends l (m ∷ lines) = ends-after l (newline ∷ joined (m ∷ lines)) (ends-after (newline ∷ []) (joined (m ∷ lines)) (joined-ends m lines))
 
 -- R2: a text of joined lines has no other byte
-none-behind : (n : ℕ) (l rest : List ℕ) → all printable l ≡ true → ((m : ℕ) → otherByte m rest ≡ none) → otherByte n (l ++ rest) ≡ none
+none-after : (n : ℕ) (l rest : List ℕ) → all printable l ≡ true → ((m : ℕ) → otherByte m rest ≡ none) → otherByte n (l ++ rest) ≡ none
 unfolding otherByte printable
-none-behind n [] rest h r = r n
-none-behind n (b ∷ l) rest h r =
+none-after n [] rest h r = r n
+none-after n (b ∷ l) rest h r =
     let both = and-true (isAllowed b && not (eqb b newline)) (all printable l) h in
     let one = and-true (isAllowed b) (not (eqb b newline)) (both .0) in
-    go (isAllowed b) (one .0) (λ m. none-behind m l rest (both .1) r)
+    go (isAllowed b) (one .0) (λ m. none-after m l rest (both .1) r)
   where
     go : (t : Bool) → t ≡ true → ((m : ℕ) → otherByte m (l ++ rest) ≡ none)
         → _≡_ {A = Option ℕ} (elim t [ true ↦ otherByte (cond (eqb b newline) (suc n) n) (l ++ rest) | false ↦ Option.some n ]) none
@@ -94,4 +94,4 @@ unfolding joined otherByte isAllowed
 joined-allowed [] n h = refl
 joined-allowed (l ∷ lines) n h =
     let both = and-true (all printable l) (all (all printable) lines) h in
-    none-behind n l (newline ∷ joined lines) (both .0) (λ m. joined-allowed lines (suc m) (both .1))
+    none-after n l (newline ∷ joined lines) (both .0) (λ m. joined-allowed lines (suc m) (both .1))

@@ -2,3 +2,4 @@ pub mod Printable
 pub mod Joined
 pub mod Texts
 pub mod Givens
+pub mod Unique

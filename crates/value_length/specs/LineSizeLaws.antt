@@ -16,8 +16,7 @@ use Rattle.spec_text.specs.Text.{Form, newline, formsOf, wordOf}
 use Rattle.spec_text.specs.Text.Form.{number, set}
 use Rattle.spec_text.specs.Text.{digit, digitsOf}
 use Rattle.law_text.specs.Written.{fieldWritten, fieldsWritten, lineWritten}
-use Rattle.law_text.specs.TextLaws.{fits, allFit, lineFits, valuesIn}
-use Rattle.text_fields.specs.FieldLaws.{word-two}
+use Rattle.law_text.specs.TextLaws.{fits, allFit, lineFits, valuesIn, word-two}
 use Rattle.line_kinds.specs.Kinds.{lineFacts, lacksFact, hasId, hasRel, hasTo, hasReads, hasWrites, hasTests, numberIf, setIf, formsWith}
 use Rattle.line_kinds.specs.KindLaws.{forms-told}
 use Rattle.value_length.specs.Size.{valueFits, sizeOf}

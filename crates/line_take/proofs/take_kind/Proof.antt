@@ -1,72 +1,69 @@
 -- Each arm makes the state that `takeAs` names for its kind, and the kind at hand is that kind (took-kind).
-use Rattle.line_take.specs.TakeLaws.{took-kind}
+use Rattle.line_take.specs.TakeLaws.{took-kind, took-link}
 use Rattle.line_state.specs.StateSteps.{takeAs}
 use Rattle.line_take.specs.Stores.{lineBy}
-use borrow.Author.Needs.{needs}
+use native.Mathlib.Omega.{arith}
 use Rattle.line_take.proofs.take_kind.Statement.{statement}
 use Rattle.line_take.proofs.take_kind.Tie as tie
 use Rattle.line_take.proofs.take_kind.Reads as reads
 use Rattle.line_take.proofs.take_kind.Lts as lts
 
 enum-told : tie.Need-enum-told
-enum-told c = search needs
+enum-told c = c .match .keys1
 
 take-relation-requires : tie.Need-take-relation-requires
-take-relation-requires c κs = search needs
+take-relation-requires c κs = c .before .before .before .before .pre
 
 enum-told-2 : tie.Need-enum-told-2
-enum-told-2 c = search needs
+enum-told-2 c = c .match .keys2
 
 take-key-requires : tie.Need-take-key-requires
-take-key-requires c κs = search needs
+take-key-requires c κs = c .before .before .before .before .pre
 
 enum-told-3 : tie.Need-enum-told-3
-enum-told-3 c = search needs
+enum-told-3 c = c .match .keys3
 
 take-program-requires : tie.Need-take-program-requires
-take-program-requires c κs = search needs
+take-program-requires c κs = c .before .before .before .before .pre
 
 enum-known-kind : tie.Need-enum-known-kind
-enum-known-kind c = search needs
-
-parental-requires : tie.Need-parental-requires
-parental-requires c κs = search needs
+enum-known-kind c = c .match .keys4
 
 take-statement-requires : tie.Need-take-statement-requires
-take-statement-requires c κs = search needs
+take-statement-requires c κs = c .before .before .before .before .before .pre
 
 enum-told-4 : tie.Need-enum-told-4
-enum-told-4 c = search needs
+enum-told-4 c = c .match .keys5
 
 take-opening-requires : tie.Need-take-opening-requires
-take-opening-requires c κs = search needs
+take-opening-requires c κs = c .before .before .before .before .pre
 
 enum-told-5 : tie.Need-enum-told-5
-enum-told-5 c = search needs
+enum-told-5 c = c .match .keys6
 
 take-opening-requires-2 : tie.Need-take-opening-requires-2
-take-opening-requires-2 c κs = search needs
+take-opening-requires-2 c κs = c .before .before .before .before .pre
 
 enum-told-6 : tie.Need-enum-told-6
-enum-told-6 c = search needs
+enum-told-6 c = c .match .keys7
 
 take-second-requires : tie.Need-take-second-requires
-take-second-requires c κs = search needs
+take-second-requires c κs = c .before .before .before .before .pre
 
 enum-told-7 : tie.Need-enum-told-7
-enum-told-7 c = search needs
+enum-told-7 c = c .match .keys8
 
 take-closing-requires : tie.Need-take-closing-requires
-take-closing-requires c κs = search needs
+take-closing-requires c κs = c .before .before .before .before .pre
 
 enum-told-8 : tie.Need-enum-told-8
-enum-told-8 c = search needs
+enum-told-8 c = c .match .keys9
 
-take-link-requires : tie.Need-take-link-requires
-take-link-requires c κs = search needs
+count-line-requires : tie.Need-count-line-requires
+count-line-requires c κs = (omega arith, c .before .before .before .before .pre)
 
 same-length : tie.Need-same-length
-same-length c = search needs
+same-length c = c .before .words .given
 
 returns : tie.Need-returns
 unfolding takeAs
@@ -76,7 +73,7 @@ returns c =
     (c .before .before .before .before .enum-told .given .1) (c .before .before .take-relation .ensures)
 
 same-length-2 : tie.Need-same-length-2
-same-length-2 c = search needs
+same-length-2 c = c .before .words2 .given
 
 returns-2 : tie.Need-returns-2
 unfolding takeAs
@@ -86,7 +83,7 @@ returns-2 c =
     (c .before .before .before .before .enum-told2 .given .1) (c .before .before .take-key .ensures)
 
 same-length-3 : tie.Need-same-length-3
-same-length-3 c = search needs
+same-length-3 c = c .before .words3 .given
 
 returns-3 : tie.Need-returns-3
 unfolding takeAs
@@ -96,18 +93,17 @@ returns-3 c =
     (c .before .before .before .before .enum-told3 .given .1) (c .before .before .take-program .ensures)
 
 same-length-4 : tie.Need-same-length-4
-same-length-4 c = search needs
+same-length-4 c = c .before .words4 .given
 
 returns-4 : tie.Need-returns-4
 unfolding takeAs
 returns-4 c =
-    let a = c .before .before .before .before .before .before .before .before .before .args in
+    let a = c .before .before .before .before .before .before .before .before .args in
     took-kind (lineBy (a .kind) (a .reads) (a .rel) (a .to))
-    (c .before .before .before .before .before .before .kind .given .1)
-    (rw (c .before .before .before .parental .ensures) at (c .before .before .take-statement .ensures))
+    (c .before .before .before .before .before .kind .given .1) (c .before .before .take-statement .ensures)
 
 same-length-5 : tie.Need-same-length-5
-same-length-5 c = search needs
+same-length-5 c = c .before .words5 .given
 
 returns-5 : tie.Need-returns-5
 unfolding takeAs
@@ -117,7 +113,7 @@ returns-5 c =
     (c .before .before .before .before .enum-told4 .given .1) (c .before .before .take-opening .ensures)
 
 same-length-6 : tie.Need-same-length-6
-same-length-6 c = search needs
+same-length-6 c = c .before .words6 .given
 
 returns-6 : tie.Need-returns-6
 unfolding takeAs
@@ -127,7 +123,7 @@ returns-6 c =
     (c .before .before .before .before .enum-told5 .given .1) (c .before .before .take-opening2 .ensures)
 
 same-length-7 : tie.Need-same-length-7
-same-length-7 c = search needs
+same-length-7 c = c .before .words7 .given
 
 returns-7 : tie.Need-returns-7
 unfolding takeAs
@@ -137,7 +133,7 @@ returns-7 c =
     (c .before .before .before .before .enum-told6 .given .1) (c .before .before .take-second .ensures)
 
 same-length-8 : tie.Need-same-length-8
-same-length-8 c = search needs
+same-length-8 c = c .before .words8 .given
 
 returns-8 : tie.Need-returns-8
 unfolding takeAs
@@ -147,14 +143,15 @@ returns-8 c =
     (c .before .before .before .before .enum-told7 .given .1) (c .before .before .take-closing .ensures)
 
 same-length-9 : tie.Need-same-length-9
-same-length-9 c = search needs
+same-length-9 c = c .before .words9 .given
 
 returns-9 : tie.Need-returns-9
 unfolding takeAs
 returns-9 c =
-    let a = c .before .before .before .before .before .before .before .args in
+    let start = c .before .before .before .before .before .before .before in
+    let a = start .args in
     took-kind (lineBy (a .kind) (a .reads) (a .rel) (a .to))
-    (c .before .before .before .before .enum-told8 .given .1) (c .before .before .take-link .ensures)
+    (c .before .before .before .before .enum-told8 .given .1) (took-link (start .pre) (c .before .before .count-line .ensures))
 
 pub take-kind-spec : {M : Type 1} → statement M
 take-kind-spec =
@@ -167,7 +164,6 @@ take-kind-spec =
     enum-told-3
     take-program-requires
     enum-known-kind
-    parental-requires
     take-statement-requires
     enum-told-4
     take-opening-requires
@@ -178,7 +174,7 @@ take-kind-spec =
     enum-told-7
     take-closing-requires
     enum-told-8
-    take-link-requires
+    count-line-requires
     same-length
     returns
     same-length-2

@@ -6,14 +6,14 @@ use Rattle.line_take.proofs.take_relation.Tie as tie
 use Rattle.line_take.proofs.take_relation.Reads as reads
 use Rattle.line_take.proofs.take_relation.Lts as lts
 use Rattle.line_take.proofs.count_line.Reads as count-line-reads
-use Rattle.line_take.proofs.put.Reads as put-reads
+use Rattle.line_take.proofs.put_cell.Reads as put-cell-reads
 use Rattle.word_list.proofs.word_at.Reads as word-at-reads
 
 word-at-requires : tie.Need-word-at-requires
 word-at-requires c κs = search needs
 
-put-requires : tie.Need-put-requires
-put-requires c κs = search needs
+put-cell-requires : tie.Need-put-cell-requires
+put-cell-requires c κs = search needs
 
 count-line-requires : tie.Need-count-line-requires
 count-line-requires c κs = search needs
@@ -27,8 +27,8 @@ returns c =
     let stored = counted .before .before .before .before in
     let at = stored .before .before in
     let entry = at .before .before .before in
-    took-relation (entry .args .reads) (entry .pre) (at .word-at .ensures) (stored .put .ensures) (counted .count-line .ensures)
+    took-relation (entry .args .reads) (entry .pre) (at .word-at .ensures) (stored .put-cell .ensures) (counted .count-line .ensures)
 
 pub take-relation-spec : {M : Type 1} → statement M
 take-relation-spec =
-    tie.close (tie.spec word-at-requires put-requires count-line-requires same-length returns)
+    tie.close (tie.spec word-at-requires put-cell-requires count-line-requires same-length returns)

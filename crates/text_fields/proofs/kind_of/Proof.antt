@@ -8,7 +8,7 @@ use Rattle.spec_text.specs.Text.{wordOf, kindOf}
 use Rattle.spec_text.specs.declared.LineKind.the-variants.{Rl, Fk, Pr, St, Lo, Br, El, En, Li}
 use Rattle.spec_text.specs.declared.LineKind.{LineKind}
 use Rattle.spec_text.specs.declared.StatementKind.the-variants.{Is, Ks, Ps, Ku, Pu, Kd, Pd}
-use Rattle.text_fields.specs.KindLaws.{twoBytes, kind-is, kind-other, kind-length}
+use Rattle.text_fields.specs.WordLaws.{twoBytes, kind-is, kind-other, kind-length}
 use Rattle.text_fields.proofs.kind_of.Statement.{statement}
 use Rattle.text_fields.proofs.kind_of.Tie as tie
 

@@ -4,7 +4,7 @@ use native.Mathlib.Omega.{arith}
 use lib.Seq.{length-take-le}
 use borrow.Author.Needs.{needs}
 use Rattle.text_fields.specs.AnswerLaws.{answers}
-use Rattle.text_fields.specs.Step.{kindAnswer}
+use Rattle.text_fields.specs.FieldStep.{kindAnswer}
 use Rattle.text_fields.specs.Field.{fieldLength}
 use Rattle.text_fields.specs.FieldLaws.{length-field, line-none, line-some}
 use Rattle.text_fields.proofs.line_of.Statement.{statement}
@@ -24,8 +24,8 @@ kind-of-requires c κs = search needs
 enum-known-r : tie.Need-enum-known-r
 enum-known-r c = search needs
 
-line-behind-requires : tie.Need-line-behind-requires
-line-behind-requires c κs = search needs
+line-after-word-requires : tie.Need-line-after-word-requires
+line-after-word-requires c κs = search needs
 
 enum-told : tie.Need-enum-told
 enum-told c = search needs
@@ -35,7 +35,7 @@ returns c = let bytes = c .before .before .before .before .before .before .befor
     let ends : c .before .before .before .before .before .before .field-end .result ≡ fieldLength bytes =
     omega (arith, c .before .before .before .before .before .before .field-end .ensures)
     in
-    c .line-behind .ensures
+    c .line-after-word .ensures
     ∙ rw ends
     (answers
     (line-some bytes
@@ -56,7 +56,7 @@ line-of-spec =
     slice-aggregate-kind-of
     kind-of-requires
     enum-known-r
-    line-behind-requires
+    line-after-word-requires
     enum-told
     returns
     returns-2)

@@ -10,16 +10,16 @@ use Rattle.text_lines.proofs.line_span.Lts as lts
 line-end-requires : tie.Need-line-end-requires
 line-end-requires c κs = search needs
 
-place-behind-requires : tie.Need-place-behind-requires
-place-behind-requires c κs = search needs
+place-after-requires : tie.Need-place-after-requires
+place-after-requires c κs = search needs
 
-number-behind-requires : tie.Need-number-behind-requires
-number-behind-requires c κs = search needs
+number-after-requires : tie.Need-number-after-requires
+number-after-requires c κs = search needs
 
 returns : tie.Need-returns
 unfolding spanAt
-returns c = rw (c .number-behind .ensures, c .before .place-behind .ensures, c .before .before .line-end .ensures)
+returns c = rw (c .number-after .ensures, c .before .place-after .ensures, c .before .before .line-end .ensures)
 
 pub line-span-spec : {M : Type 1} → statement M
 line-span-spec =
-    tie.close (tie.spec line-end-requires place-behind-requires number-behind-requires returns)
+    tie.close (tie.spec line-end-requires place-after-requires number-after-requires returns)

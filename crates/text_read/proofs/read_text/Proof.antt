@@ -1,7 +1,9 @@
 -- What the tests of the whole text settle is what reading it gives: the refusal, or what its lines after the names line give.
 use mathlib.Core.Path.{sym, ap, _∙_}
 use borrow.Author.Needs.{needs}
-use Rattle.text_read.specs.Parse.{parsedAs, wholeGives}
+use Rattle.text_whole.specs.Whole.{wholeGives}
+use Rattle.text_whole.specs.WholeLaws.{whole-read}
+use Rattle.text_read.specs.Parse.{parsedAs}
 use Rattle.text_read.proofs.read_text.Statement.{statement}
 use Rattle.text_read.proofs.read_text.Tie as tie
 
@@ -22,17 +24,17 @@ read-lines-requires c κs = search needs
 
 returns : tie.Need-returns
 returns c =
+    let text = c .before .before .before .before .before .before .args .text .now in
     c .refused .ensures
     ∙ ap parsedAs
-    (ap (wholeGives (c .before .before .before .before .before .before .args .text .now)) (sym (c .before .before .whole .given .1))
-    ∙ c .before .before .before .before .whole-text .ensures)
+    (ap (wholeGives text) (sym (c .before .before .whole .given .1) ∙ c .before .before .before .before .whole-text .ensures) ∙ whole-read text)
 
 returns-2 : tie.Need-returns-2
 returns-2 c =
+    let text = c .before .before .before .before .before .before .args .text .now in
     c .read-lines .ensures
     ∙ ap parsedAs
-    (ap (wholeGives (c .before .before .before .before .before .before .args .text .now)) (sym (c .before .before .whole2 .given .1))
-    ∙ c .before .before .before .before .whole-text .ensures)
+    (ap (wholeGives text) (sym (c .before .before .whole2 .given .1) ∙ c .before .before .before .before .whole-text .ensures) ∙ whole-read text)
 
 pub read-text-spec : {M : Type 1} → statement M
 read-text-spec =

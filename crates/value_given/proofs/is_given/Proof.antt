@@ -5,6 +5,7 @@ use lib.ListN.{length-map}
 use Rattle.spec_text.proofs.Line.{the-field}
 use Rattle.spec_text.specs.declared.Workload.{Workload}
 use mathlib.Core.Path.{subst}
+use borrow.Author.Needs.{needs}
 use borrow.Author.Tests.{not-true, not-false}
 use Rattle.value_given.specs.Decide.{Measured}
 use Rattle.value_given.specs.DecideLaws.{refused, rest-refused, lines-refused, size-decides}
@@ -22,7 +23,7 @@ returns : tie.Need-returns
 returns c = refused (c .before .args .w) (λ s. let few = s .fits in omega arith)
 
 rest-empty-requires : tie.Need-rest-empty-requires
-rest-empty-requires c κs = cells-told (c .before .args .w) (c .before .good .0 .1 .1 .1 .0 .1 .0 .1)
+rest-empty-requires c κs = search needs
 
 returns-2 : tie.Need-returns-2
 returns-2 c = rest-refused (c .before .before .before .args .w) (sym (c .before .rest-empty .ensures) ∙ not-true _ (c .if2 .taken))
