@@ -10,7 +10,7 @@ use Rattle.unfold_laws.specs.declared.Counted.{Counted}
 use Rattle.unfold_laws.specs.declared.Totals.{Totals}
 use Rattle.unfold_laws.specs.Cap.{plus, cap, Alike, cap-small}
 use Rattle.unfold_laws.specs.CodesLaws.{length-codes}
-use Rattle.unfold_laws.specs.Pieces.{countedBehind, lineTotals, totalsBefore}
+use Rattle.unfold_laws.specs.Pieces.{countedAfter, lineTotals, totalsBefore}
 use Rattle.unfold_laws.specs.PiecesLaws.{total-count, total-statements}
 use Rattle.unfold_count.specs.Counted.{RunCounted, Small, Totalled, AllCounted}
 
@@ -23,7 +23,7 @@ pub line-program : (codes : List ℕ) (i : ℕ) (t : Totals) (c : Counted) (a b 
     → RunCounted (length codes - (i + 1)) codes (i + 1) c
     → Small (plus (t .count) (c .count)) a → Small (plus (t .statements) (c .statements)) b
     → Totalled (lineTotals codes i t) (record { count = a; statements = b })
-unfolding lineTotals countedBehind
+unfolding lineTotals countedAfter
 line-program codes i t c a b h p q s =
     record { same = sym (simp (eq-eqb (getD codes i 0) 3 h, ← p .counting .same, ← q .same, ← s .same)); few = q .few; short = s .few }
 

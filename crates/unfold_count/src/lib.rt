@@ -34,7 +34,7 @@ fn product(a: u64, b: u64) -> u64
 }
 
 // The place after a closing line, where there is one.
-pub fn behind(lines: usize, e: usize) -> usize
+pub fn line_after(lines: usize, e: usize) -> usize
     ensures { λ r. ⌜ r ≡ after lines e ⌝ }
 {
     if e < lines {
@@ -62,7 +62,7 @@ fn count_loop(lines: usize, body: Counted) -> Counted
     let s = body.statements;
     let count = sum(1, sum(n, product(n, n)));
     let statements = sum(s, sum(product(s, n), product(n, s)));
-    let end = behind(lines, body.end);
+    let end = line_after(lines, body.end);
     Counted {
         count: count,
         statements: statements,
@@ -76,7 +76,7 @@ fn count_arms(lines: usize, one: Counted, two: Counted) -> Counted
 {
     let count = sum(one.count, two.count);
     let statements = sum(one.statements, two.statements);
-    let end = behind(lines, two.end);
+    let end = line_after(lines, two.end);
     Counted {
         count: count,
         statements: statements,
@@ -136,7 +136,7 @@ fn count_block(codes: &[u8], at: usize, left: usize) -> Counted
     if codes[at] == 1 {
         return count_loop(codes.len(), body);
     }
-    let two = count_run(codes, behind(codes.len(), body.end), left);
+    let two = count_run(codes, line_after(codes.len(), body.end), left);
     count_arms(codes.len(), body, two)
 }
 

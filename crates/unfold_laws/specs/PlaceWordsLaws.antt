@@ -63,9 +63,9 @@ module _ (mark : Statement → ℕ) where
   shown-apart i t (p ∷ before) path h = rw (h (p .path), shown-apart i t before path h) (or-zero-l 0)
 
   -- nothing of a block is seen apart from it
-  pub behind-apart : (i t : ℕ) (before inner : List Occurrence) (path : List Around) → Apart i t path
+  pub after-apart : (i t : ℕ) (before inner : List Occurrence) (path : List Around) → Apart i t path
       → shown mark (before ++ map (inside i t) inner) path ≡ shown mark before path
-  behind-apart i t before inner path h =
+  after-apart i t before inner path h =
       shown-append before (map (inside i t) inner) path ∙ rw (shown-apart i t inner path h) (or-zero-r (shown mark before path))
 
 module _ (Word : Statement → ℕ → Type 0) (mark : Statement → ℕ) where

@@ -1,8 +1,8 @@
 // The words of one unfolding of a run, by its number, laid over a lent area.
 
-use unfold_count::behind;
 use unfold_count::count_place;
 use unfold_count::count_run;
+use unfold_count::line_after;
 ghost use mathlib.Core.List.{[], _∷_};
 ghost use mathlib.Core.Path.{_≡_};
 ghost use Prim.Native.Nat.{_+_, _*_, _<_};
@@ -51,7 +51,7 @@ fn lay_word(word: u64, out: &mut [u64]) -> usize
 
 // Lays the words of unfolding number k of the run at a place over an area, as far as it reaches; answers how many found room.
 // The leftmost choice changes slowest: a block takes the quotient by what the run after it counts, that run the remainder.
-// Behind a statement its mark is seen too; what is seen inside a block is not seen after it.
+// After a statement its mark is seen too; what is seen inside a block is not seen after it.
 pub fn write_run(
     codes: &[u8],
     words: &[u16],
@@ -151,7 +151,7 @@ fn write_block(
         words,
         marks,
         seen,
-        behind(codes.len(), body.end),
+        line_after(codes.len(), body.end),
         left,
         k - n,
         out,
