@@ -9,7 +9,7 @@ use lib.Dec.{ltb}
 use borrow.Author.Tests.{lt-ltb, le-ltb}
 use Rattle.law_base.specs.BoolLaws.{or-left, or-right, or-of}
 use Rattle.unfold_laws.specs.declared.UnfoldingTable.{UnfoldingTable}
-use Rattle.unfold_laws.specs.declared.Totals.{Totals}
+use Rattle.unfold_laws.specs.declared.UnfoldingTotals.{UnfoldingTotals}
 use Rattle.unfold_laws.specs.Pieces.{totalsBefore}
 use Rattle.unfold.specs.PieceTable.{table}
 use Rattle.unfold.specs.PieceTableLaws.{from-nothing}
@@ -19,7 +19,7 @@ use Rattle.unfold.specs.Written.{Rowed, AllFit}
 use Rattle.unfold.specs.UnfoldTold.{refusedWith}
 use Rattle.unfold.specs.UnfoldSteps.{tableTold, overMany, tooShort, piecesOver, Ready, Tabled}
 
-module _ (codes words marks before : List ℕ) (t : Totals) (all : AllCounted codes t) where
+module _ (codes words marks before : List ℕ) (t : UnfoldingTotals) (all : AllCounted codes t) where
   h : Totalled (totalsBefore codes (length codes)) t
   h = all .totalled
 
@@ -53,7 +53,7 @@ module _ (codes words marks before : List ℕ) (t : Totals) (all : AllCounted co
       all-fit =
           record {
             cells = ready .few under;
-            places = omega (arith, ready .short under, ap (λ (x : Totals). x .statements) (h .same));
+            places = omega (arith, ready .short under, ap (λ (x : UnfoldingTotals). x .statements) (h .same));
           }
 
       pub all-told : (f : UnfoldingTable) (r : Unfolded) (area : List ℕ) → Rowed (piecesOver codes words marks) (table []) before f area

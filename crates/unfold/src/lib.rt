@@ -3,11 +3,12 @@
 use spec_text::Workload;
 use unfold_count::count_all;
 use unfold_count::count_run;
+use unfold_laws::PROGRAM;
 use unfold_laws::UnfoldingTable;
-use unfold_tables::id_tables;
-use unfold_tables::place_tables;
 use unfold_write::write_run;
 use value_given::is_given;
+use value_tables::id_tables;
+use value_tables::place_tables;
 ghost use mathlib.Core.List.{[]};
 ghost use mathlib.Core.Path.{_≡_};
 ghost use Prim.Native.Nat.{_+_, _-_, _<_};
@@ -94,7 +95,7 @@ fn write_line(
     ensures { λ r. ⌜ Lined (linePieces (now (codes .entry)) (now (words .entry)) (now (marks .entry)) i program) t
         (now (area .entry)) r (now (area .exit)) ⌝ }
 {
-    if codes[i] != 3 {
+    if codes[i] != PROGRAM {
         return t;
     }
     let left = codes.len() - (i + 1);
@@ -119,7 +120,7 @@ fn next_program(codes: &[u8], i: usize, program: u8) -> u8
     requires { ⌜ (i < length (now codes)) × (program < 255) ⌝ }
     ensures { λ r. ⌜ r ≡ linePrograms (now (codes .entry)) i program ⌝ }
 {
-    if codes[i] == 3 {
+    if codes[i] == PROGRAM {
         return program + 1;
     }
     program

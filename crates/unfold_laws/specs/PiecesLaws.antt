@@ -19,7 +19,7 @@ use Rattle.spec_text.specs.declared.LineKind.the-variants.{Rl, Fk, Pr, St, Lo, 
 use Rattle.spec_graph.specs.Program.{Statement, Run, Program, Link, runOf, linksOf, programsOf}
 use Rattle.spec_graph.specs.Unfolding.{Execution, Node, occurrences, unfoldings, nodesOfProgram, nodesFrom, nodesOf}
 use Rattle.spec_report.specs.State.{statementsIn}
-use Rattle.unfold_laws.specs.declared.Totals.{Totals}
+use Rattle.unfold_laws.specs.declared.UnfoldingTotals.{UnfoldingTotals}
 use Rattle.unfold_laws.specs.Pairs.{sumOf}
 use Rattle.unfold_laws.specs.Cap.{cap, plus, Alike, alike-refl, stopped, plus-alike, cap-small, cap-add}
 use Rattle.unfold_laws.specs.Choosing.{countRun, statementsRun}
@@ -228,7 +228,7 @@ module _ (lines : List Line) where
   nodes-whole = nodes-parts (length lines) (omega arith) ∙ rw drop-length (append-nil (nodesBefore lines (length lines)))
 
   -- a line's part in the totals
-  new-count : (i : ℕ) (t : Totals) → Alike (lineTotals (codesOf lines) i t .count) (t .count + length (newNodes lines i))
+  new-count : (i : ℕ) (t : UnfoldingTotals) → Alike (lineTotals (codesOf lines) i t .count) (t .count + length (newNodes lines i))
   unfolding lineTotals newNodes countedAfter programAfter
   new-count i t = go (eqb (getD (codesOf lines) i 0) 3)
     where
@@ -251,7 +251,7 @@ module _ (lines : List Line) where
       go true = plus-alike (alike-refl (t .count)) (stopped counts)
       go false = rw add-zero (alike-refl (t .count))
 
-  new-statements : (i : ℕ) (t : Totals) → Alike (lineTotals (codesOf lines) i t .statements) (t .statements + statementsIn (newNodes lines i))
+  new-statements : (i : ℕ) (t : UnfoldingTotals) → Alike (lineTotals (codesOf lines) i t .statements) (t .statements + statementsIn (newNodes lines i))
   unfolding lineTotals newNodes countedAfter programAfter statementsIn
   new-statements i t = go (eqb (getD (codesOf lines) i 0) 3)
     where

@@ -19,6 +19,7 @@ use Rattle.spec_graph.specs.Program.{Statement, Item, Run, runOf, behind, state
 use Rattle.spec_graph.specs.Program.Item.{statement, loop, branch}
 use Rattle.spec_graph.specs.Unfolding.{Around, Occurrence, inside}
 use Rattle.spec_graph.specs.Edge.{leads}
+use Rattle.unfold_laws.specs.WordCode.{packed}
 use Rattle.unfold_laws.specs.declared.Counted.{Counted}
 use Rattle.unfold_laws.specs.Cap.{cap-small}
 use Rattle.unfold_laws.specs.Choosing.{countRun, countItem, choose, chooseItem}
@@ -117,10 +118,10 @@ module _ (Word : Statement → ℕ → Type 0) (mark : Statement → ℕ) where
 
   -- a statement's place
   statement-written : (s : Statement) (i k seen all : ℕ) (before : List Occurrence) (own : ℕ) → Word s own → Sees seen before i all
-      → PlaceWords Word mark seen before (chooseItem (statement s) i k) ((own + all * 2048) ∷ [])
+      → PlaceWords Word mark seen before (chooseItem (statement s) i k) (packed own all ∷ [])
   unfolding choose PlaceWords Later
   statement-written s i k seen all before own w h =
-      (record { own = own; fits = w; whole = ap (λ (x : ℕ). own + x * 2048) (sym (h [] _)) }, _)
+      (record { own = own; fits = w; whole = ap (packed own) (sym (h [] _)) }, _)
 
   -- a loop over a body whose words are written, a branch of two arms whose words are written
   loop-written : (r : Run) (i k seen all : ℕ) (before : List Occurrence) (body : ℕ → List ℕ) → Sees seen before i all
@@ -184,7 +185,7 @@ module _ (codes words marks : List ℕ) (seen at k : ℕ) where
 
   pub write-statement : (n : ℕ) → at < length codes → getD codes at 0 ≡ 0
       → writeAt (suc n) codes words marks seen at k
-      ≡ (getD words at 0 + seen * 2048) ∷ writeAt n codes words marks (bitOr seen (getD marks at 0)) (at + 1) k
+      ≡ packed (getD words at 0) seen ∷ writeAt n codes words marks (bitOr seen (getD marks at 0)) (at + 1) k
   unfolding writeAt
   write-statement n h c =
       simp (lt-leb (length codes) at h, le-ltb 2 (getD codes at 0) (omega arith), eq-eqb (getD codes at 0) 0 c)

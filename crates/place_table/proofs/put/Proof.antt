@@ -1,5 +1,5 @@
 -- Eight stores one after the other are the eight words put at the place (eight-stores).
-use Rattle.place_table.proofs.Laws.{eight-stores}
+use Rattle.value_tables.specs.Put.{eight-stores}
 use native.Mathlib.Omega.{arith}
 use mathlib.Core.Path.{_≡_, refl, ap, sym, _∙_}
 use Prim.Native.Nat.{ℕ, _+_, _-_, _*_, _≤_, _<_}

@@ -1,6 +1,6 @@
 -- The words read are those of the place's line and the keys those of its links; together they are the eight words of the row (row-words).
 use Rattle.place_table.proofs.PutRowLaws.{row-words}
-use Rattle.place_table.specs.RowWords.{putAt}
+use Rattle.value_tables.specs.Put.{putAt}
 use native.Mathlib.Omega.{arith}
 use mathlib.Core.Path.{_≡_, refl, ap, sym, _∙_}
 use Prim.Native.Nat.{ℕ, _+_, _-_, _*_, _≤_, _<_}
@@ -10,7 +10,7 @@ use Rattle.place_table.proofs.put_place.Statement.{statement}
 use Rattle.place_table.proofs.put_place.Tie as tie
 use Rattle.place_table.proofs.put_place.Reads as reads
 use Rattle.place_table.proofs.put_place.Lts as lts
-use Rattle.place_table.proofs.keys_from.Reads as keys-from-reads
+use Rattle.place_keys.proofs.keys_from.Reads as keys-from-reads
 use Rattle.place_table.proofs.put.Reads as put-reads
 use Rattle.word_list.proofs.word_at.Reads as word-at-reads
 

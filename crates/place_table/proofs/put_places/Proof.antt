@@ -1,7 +1,8 @@
 -- After i places their rows stand from the node's first one on; each turn puts the row of the next place after them (rows-next), up to the last
 -- (rows-end).
 use Rattle.place_table.proofs.PutRowLaws.{rows-start, rows-room, rows-next, rows-same, rows-end}
-use Rattle.place_table.specs.RowWords.{putAt, nodeRows}
+use Rattle.value_tables.specs.Put.{putAt}
+use Rattle.place_table.specs.RowWords.{nodeRows}
 use borrow.Author.Needs.{needs}
 use native.Mathlib.Omega.{arith}
 use mathlib.Core.Path.{_≡_, refl, ap, sym, _∙_}

@@ -31,7 +31,7 @@ use Rattle.unfold_count.proofs.count_place.Reads as count-place-reads
 use Rattle.unfold_count.proofs.count_run.Reads as count-run-reads
 use Rattle.unfold_write.proofs.lay_word.Reads as lay-word-reads
 use Rattle.unfold_write.proofs.mark_at.Reads as mark-at-reads
-use Rattle.unfold_write.proofs.word_at.Reads as word-at-reads
+use Rattle.unfold_write.proofs.place_word.Reads as place-word-reads
 use Rattle.unfold_write.proofs.+write_block+write_run.{statement}
 use Rattle.unfold_write.proofs.+write_block+write_run.Tie.{close}
 
@@ -144,8 +144,8 @@ pub +write-block+write-run-spec : {M : Type 1} → statement M
     (entry .args .k) _ (entry .args .left) (c8 .count-run .result) (c8 .count-run .ensures) _ _ _ (c4 .line-after .ensures) (c6 .if1 .left)
     (c5 .if4 .left) (c .before .before .write-run5 .ensures)))
     λ t. write-run-lts.spec (
-      word-at-reads.Asked,
-      word-at-reads.Learnt,
+      place-word-reads.Asked,
+      place-word-reads.Learnt,
       lay-word-reads.Asked,
       lay-word-reads.Learnt,
       mark-at-reads.Asked,
@@ -199,7 +199,7 @@ pub +write-block+write-run-spec : {M : Type 1} → statement M
     let c15 = c14 .before in
     let entry = c15 .before .before .before .before .before in
     run-statement (entry .args .codes .now) (entry .args .words .now) (entry .args .marks .now) (entry .args .seen) (entry .args .at)
-    (entry .args .k) _ _ _ _ _ (entry .args .left) _ _ (c15 .if1 .left) (c14 .if2 .left) (c10 .if4 .taken) (c9 .word-at .ensures)
+    (entry .args .k) _ _ _ _ _ (entry .args .left) _ _ (c15 .if1 .left) (c14 .if2 .left) (c10 .if4 .taken) (c9 .place-word .ensures)
     (c4 .mark-at .ensures) (c7 .lay-word .ensures) (c .before .before .write-run .ensures))
     (λ c. search needs)
     (λ c κs. search needs)
