@@ -23,7 +23,7 @@ use Rattle.unfold.specs.Stand.{PlacesStand, places-stand}
 use Rattle.spec_report.specs.Refusals.{refusal-some, refusal-none, places-few, taken-given, other-area}
 use Rattle.place_keys.specs.declared.Begun.{Begun}
 use Rattle.place_keys.specs.LineKeys.{begunIn}
-use Rattle.value_tables.specs.Put.{putAt}
+use Rattle.word_rows.specs.Put.{putAt}
 use Rattle.place_table.specs.declared.Rows.{Rows}
 use Rattle.place_table.specs.declared.Rows.the-variants.{Refused, Filled}
 use Rattle.value_tables.specs.Lines.{lineTable}

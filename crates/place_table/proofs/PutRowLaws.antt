@@ -9,7 +9,7 @@ use native.Mathlib.Omega.{arith}
 use lib.ListN.{length, getD, take, drop, length-append, take-append-drop}
 use lib.Seq.{drop-append-add, drop-drop, length-take-le}
 use Rattle.unfold_laws.specs.WordCode.{lineIn, seenIn}
-use Rattle.value_tables.specs.Put.{putAt, putAt-length, putAt-take}
+use Rattle.word_rows.specs.Put.{putAt, putAt-length, putAt-take}
 use Rattle.place_keys.specs.LineKeys.{keysFrom}
 use Rattle.place_table.specs.RowWords.{rowWords, nodeRows, totalOf, allRows}
 

@@ -4,7 +4,7 @@ use mathlib.Core.Path.{_≡_}
 use Prim.Native.Nat.{ℕ, zero, suc, _+_, _*_, _-_, _/_}
 use lib.ListN.{length, getD}
 use Rattle.unfold_laws.specs.WordCode.{lineIn, seenIn}
-use Rattle.value_tables.specs.Put.{putAt}
+use Rattle.word_rows.specs.Put.{putAt}
 use Rattle.place_keys.specs.LineKeys.{begunIn, keysFrom}
 use Rattle.place_table.specs.declared.Rows.{Rows}
 use Rattle.place_table.specs.declared.Rows.the-variants.{Filled}

@@ -15,13 +15,13 @@ use value_tables::TESTS;
 use value_tables::WRITES;
 use value_tables::line_table;
 use word_list::word_at;
-ghost use mathlib.Core.List.{[], _∷_};
+use word_rows::put_row;
 ghost use mathlib.Core.Path.{_≡_};
 ghost use Prim.Native.Nat.{_+_, _*_, _≤_};
 ghost use lib.ListN.{length, getD};
 ghost use Rattle.spec_text.specs.Value.{linesOf};
 ghost use Rattle.value_tables.specs.Lines.{lineTable};
-ghost use Rattle.value_tables.specs.Put.{putAt};
+ghost use Rattle.word_rows.specs.Put.{putAt};
 ghost use Rattle.place_table.specs.RowWords.{rowWords, nodeRows, totalOf, allRows, FilledBy};
 ghost use Rattle.place_table.specs.Rows.{RowsSettled};
 
@@ -44,33 +44,6 @@ fn byte_at(bytes: &[u8], i: usize) -> u8
     0
 }
 
-// Eight words into an area at a place; answers the place after them.
-fn put(
-    area: &mut [u64],
-    at: usize,
-    a: u64,
-    b: u64,
-    c: u64,
-    d: u64,
-    e: u64,
-    f: u64,
-    g: u64,
-    h: u64,
-) -> usize
-    requires { ⌜ at + 8 ≤ length (now area) ⌝ }
-    ensures { λ r. ⌜ (now (area .exit) ≡ putAt (now (area .entry)) at (a ∷ b ∷ c ∷ d ∷ e ∷ f ∷ g ∷ h ∷ [])) × (r ≡ at + 8) ⌝ }
-{
-    area[at] = a;
-    area[at + 1] = b;
-    area[at + 2] = c;
-    area[at + 3] = d;
-    area[at + 4] = e;
-    area[at + 5] = f;
-    area[at + 6] = g;
-    area[at + 7] = h;
-    at + ROW_WORDS
-}
-
 // The row of a place from its word, into the table at a place.
 fn put_place(
     lines: &[u64],
@@ -80,14 +53,14 @@ fn put_place(
     word: u64,
     table: &mut [u64],
     at: usize,
-) -> usize
+)
     requires { ⌜ at + 8 ≤ length (now table) ⌝ }
-    ensures { λ r. ⌜ (now (table .exit) ≡ putAt (now (table .entry)) at (rowWords (now (lines .entry)) first node place word)) × (r ≡ at + 8) ⌝ }
+    ensures { λ _. ⌜ now (table .exit) ≡ putAt (now (table .entry)) at (rowWords (now (lines .entry)) first node place word) ⌝ }
 {
     let line = (word % WORD_LINES) as usize;
     let l = line * LINE_WORDS;
     let keys = keys_from(lines, first, word_at(lines, l + ID), word / WORD_LINES);
-    put(
+    put_row(
         table,
         at,
         node,
@@ -98,7 +71,7 @@ fn put_place(
         word_at(lines, l + WRITES),
         word_at(lines, l + TESTS),
         keys,
-    )
+    );
 }
 
 // The rows of a node, whose places' words stand from `start` on, into the table after those of the nodes before.

@@ -1,6 +1,7 @@
 // The unfoldings of a workload, written into a lent area: as statement ids, or as words that tell each place's line and what is seen there.
 
 use spec_text::Workload;
+use unfold_bounds::totals_refused;
 use unfold_count::count_all;
 use unfold_count::count_run;
 use unfold_laws::PROGRAM;
@@ -188,15 +189,9 @@ fn unfold_tables(codes: &[u8], words: &[u16], marks: &[u32], area: &mut [u64]) -
     ensures { λ r. ⌜ Tabled (now (codes .entry)) (now (words .entry)) (now (marks .entry)) (now (area .entry)) r (now (area .exit)) ⌝ }
 {
     let t = count_all(codes);
-    if t.count > 64 {
-        return refused(22);
-    }
-    if t.statements > 512 {
-        return refused(22);
-    }
-    let room = area.len() as u64;
-    if room < t.statements {
-        return refused(20);
+    let number = totals_refused(t, area.len() as u64);
+    if number != 0 {
+        return refused(number);
     }
     let f = write_all(codes, words, marks, area);
     told(f)

@@ -1,5 +1,6 @@
 // What a run of lines counts: its unfoldings, the statements in them, and where it ends.
 
+use unfold_bounds::line_after;
 use unfold_laws::BRANCH;
 use unfold_laws::Counted;
 use unfold_laws::LOOP;
@@ -10,7 +11,7 @@ ghost use mathlib.Core.Path.{_≡_};
 ghost use Prim.Native.Nat.{_≤_, _<_};
 ghost use lib.ListN.{length};
 ghost use Rattle.unfold_laws.specs.Cap.{plus, times};
-ghost use Rattle.unfold_laws.specs.Codes.{after, nothingAt, loopCounted, branchCounted, nextCounted, itemAt, countAt};
+ghost use Rattle.unfold_laws.specs.Codes.{nothingAt, loopCounted, branchCounted, nextCounted, itemAt, countAt};
 ghost use Rattle.unfold_laws.specs.Pieces.{lineTotals};
 ghost use Rattle.unfold_count.specs.Counted.{Counting, RunCounted, PlaceCounted, Small, Totalled, AllCounted};
 
@@ -35,16 +36,6 @@ fn product(a: u64, b: u64) -> u64
         return 513;
     }
     x
-}
-
-// The place after a closing line, where there is one.
-pub fn line_after(lines: usize, e: usize) -> usize
-    ensures { λ r. ⌜ r ≡ after lines e ⌝ }
-{
-    if e < lines {
-        return e + 1;
-    }
-    e
 }
 
 fn nothing(at: usize) -> Counted

@@ -1,8 +1,8 @@
 // The words of one unfolding of a run, by its number, laid over a lent area.
 
+use unfold_bounds::line_after;
 use unfold_count::count_place;
 use unfold_count::count_run;
-use unfold_count::line_after;
 use unfold_laws::BRANCH;
 use unfold_laws::LOOP;
 use unfold_laws::STATEMENT;

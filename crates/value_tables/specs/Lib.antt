@@ -1,4 +1,3 @@
 pub mod Lines
 pub mod LineLaws
-pub mod Put
 pub mod Tables

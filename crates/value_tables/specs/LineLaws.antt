@@ -22,7 +22,7 @@ use Rattle.edge_kinds.specs.Kinds.{kindNumber}
 use Rattle.edge_kinds.specs.KindLaws.{number-small, kindOf-number}
 use Rattle.unfold_laws.specs.Codes.{codeOf, markIn, bitIn}
 use Rattle.value_tables.specs.Lines.{lineNumber, codeBy, markBy, setIn, lineWords, lineTable}
-use Rattle.value_tables.specs.Put.{putAt, putAt-length, putAt-take}
+use Rattle.word_rows.specs.Put.{putAt, rowPut, row-put, putAt-length, putAt-take}
 
 -- ---- what a line's number tells
 
@@ -120,14 +120,15 @@ line-words l n facts en ef a b c ea eb ec = rw (ea, eb, ec, en, ef) refl
 
 -- one line more
 pub line-next : (lines : List Line) (area : List ℕ) (i : ℕ) (d : Line) → i < length lines → length area ≡ 12928 → length lines ≡ 1616
-    → (words after : List ℕ) → words ≡ lineWords (getD lines i d) → after ≡ putAt area (i * 8) words
+    → (words after : List ℕ) → words ≡ lineWords (getD lines i d) → after ≡ rowPut area (i * 8) words
     → take (i * 8) area ≡ lineTable (take i lines)
     → (length after ≡ 12928) × (take ((i + 1) * 8) after ≡ lineTable (take (i + 1) lines))
 line-next lines area i d inside cells most words after w put h =
     let many = ap length w ∙ eight (getD lines i d) in
+    let there = put ∙ row-put area (i * 8) words (omega arith) in
     let k : (i + 1) * 8 ≡ i * 8 + length words = omega arith in (
-      ap length put ∙ putAt-length area (i * 8) words (omega arith) ∙ cells,
-      ap₂ (λ (n : ℕ) (t : List ℕ). take n t) k put
+      ap length there ∙ putAt-length area (i * 8) words (omega arith) ∙ cells,
+      ap₂ (λ (n : ℕ) (t : List ℕ). take n t) k there
           ∙ putAt-take area (i * 8) words (omega arith)
           ∙ ap₂ (λ (s t : List ℕ). s ++ t) h w
           ∙ sym (lineTable-more (take i lines) (getD lines i d))

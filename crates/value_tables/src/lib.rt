@@ -8,6 +8,7 @@ use line_kinds::line_facts;
 use spec_text::CELLS;
 use spec_text::LineKind;
 use spec_text::Workload;
+use word_rows::put_row;
 ghost use mathlib.Core.Path.{_≡_};
 ghost use Prim.Native.Nat.{_*_};
 ghost use lib.ListN.{length, take};
@@ -26,7 +27,8 @@ const BR: u64 = 10;
 
 const NO_ITEM: u64 = 11;
 
-// The words of a line: so many, and the place of each among them; a link's child is its `rel`, its parent its `to`. The last word is 0.
+// The words of a line: so many, the first the number of its kind, then in this order at these places, and a last one, 0. A link's child is its
+// `rel`, its parent its `to`.
 pub const LINE_WORDS: usize = 8;
 
 pub const ID: usize = 1;
@@ -40,8 +42,6 @@ pub const READS: usize = 4;
 pub const WRITES: usize = 5;
 
 pub const TESTS: usize = 6;
-
-const LAST: usize = 7;
 
 // The words of all lines.
 pub const LINE_TABLE: usize = 12928;
@@ -175,15 +175,18 @@ pub fn line_table(w: Workload) -> [u64; LINE_TABLE]
         let l = w.lines[i];
         let kind = l.kind;
         let facts = line_facts(kind);
-        let at = i * LINE_WORDS;
-        words[at] = line_number(kind);
-        words[at + ID] = l.id as u64;
-        words[at + REL] = l.rel as u64;
-        words[at + TO] = l.to as u64;
-        words[at + READS] = set_in(facts, line_kinds::READS, l.reads);
-        words[at + WRITES] = set_in(facts, line_kinds::WRITES, l.writes);
-        words[at + TESTS] = set_in(facts, line_kinds::TESTS, l.tests);
-        words[at + LAST] = 0;
+        put_row(
+            &mut words,
+            i * LINE_WORDS,
+            line_number(kind),
+            l.id as u64,
+            l.rel as u64,
+            l.to as u64,
+            set_in(facts, line_kinds::READS, l.reads),
+            set_in(facts, line_kinds::WRITES, l.writes),
+            set_in(facts, line_kinds::TESTS, l.tests),
+            0,
+        );
         i += 1;
     }
     words

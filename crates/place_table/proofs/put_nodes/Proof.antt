@@ -1,7 +1,7 @@
 -- After j nodes their rows stand from the table's start on and `at` is how many they are; the next node's rows follow them (total-next,
 -- all-next), and they have room since those of all nodes do (all-room).
 use Rattle.place_table.proofs.PutRowLaws.{all-start, total-none, total-next, all-room, all-next, all-same, all-end}
-use Rattle.value_tables.specs.Put.{putAt}
+use Rattle.word_rows.specs.Put.{putAt}
 use Rattle.place_table.specs.RowWords.{allRows, totalOf}
 use borrow.Author.Needs.{needs}
 use native.Mathlib.Omega.{arith}

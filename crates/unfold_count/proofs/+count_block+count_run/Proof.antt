@@ -15,7 +15,7 @@ use Rattle.unfold_count.proofs.+count_block+count_run.Lts-count_block a
 use Rattle.unfold_count.proofs.count_run.Reads as count-run
 use Rattle.unfold_count.proofs.count_run.Kinds as count-run-kinds
 use Rattle.unfold_count.proofs.+count_block+count_run.Lts-count_run as count-run-lts
-use Rattle.unfold_count.proofs.line_after.Reads as line-after-reads
+use Rattle.unfold_bounds.proofs.line_after.Reads as line-after-reads
 use Rattle.unfold_count.proofs.count_arms.Reads as count-arms-reads
 use Rattle.unfold_count.proofs.count_loop.Reads as count-loop-reads
 use Rattle.unfold_count.proofs.count_next.Reads as count-next-reads

@@ -9,7 +9,7 @@ use Rattle.unfold_count.proofs.count_arms.Statement.{statement}
 use Rattle.unfold_count.proofs.count_arms.Tie as tie
 use Rattle.unfold_count.proofs.count_arms.Reads as reads
 use Rattle.unfold_count.proofs.count_arms.Lts as lts
-use Rattle.unfold_count.proofs.line_after.Reads as line-after-reads
+use Rattle.unfold_bounds.proofs.line_after.Reads as line-after-reads
 use Rattle.unfold_count.proofs.sum.Reads as sum-reads
 
 sum-requires : tie.Need-sum-requires

@@ -9,7 +9,7 @@ use Rattle.unfold_count.proofs.count_loop.Statement.{statement}
 use Rattle.unfold_count.proofs.count_loop.Tie as tie
 use Rattle.unfold_count.proofs.count_loop.Reads as reads
 use Rattle.unfold_count.proofs.count_loop.Lts as lts
-use Rattle.unfold_count.proofs.line_after.Reads as line-after-reads
+use Rattle.unfold_bounds.proofs.line_after.Reads as line-after-reads
 use Rattle.unfold_count.proofs.product.Reads as product-reads
 use Rattle.unfold_count.proofs.sum.Reads as sum-reads
 

@@ -26,7 +26,7 @@ use Rattle.unfold_write.proofs.+write_block+write_run.Lts-write_block a
 use Rattle.unfold_write.proofs.write_run.Reads as write-run
 use Rattle.unfold_write.proofs.write_run.Kinds as write-run-kinds
 use Rattle.unfold_write.proofs.+write_block+write_run.Lts-write_run as write-run-lts
-use Rattle.unfold_count.proofs.line_after.Reads as line-after-reads
+use Rattle.unfold_bounds.proofs.line_after.Reads as line-after-reads
 use Rattle.unfold_count.proofs.count_place.Reads as count-place-reads
 use Rattle.unfold_count.proofs.count_run.Reads as count-run-reads
 use Rattle.unfold_write.proofs.lay_word.Reads as lay-word-reads

@@ -1,13 +1,12 @@
--- The first i lines stand as eight words each: each turn stores one line more (eight-stores, line-next), and after the last turn all stand
+-- The first i lines stand as eight words each: each turn puts one line more (line-next), and after the last turn all stand
 -- (lines-stored, and cells-stored where the value counts more lines than it has cells).
 use native.Mathlib.Omega.{arith}
 use borrow.Author.Needs.{needs}
 use mathlib.Core.List.{flatMap}
 use mathlib.Core.Path.{_≡_, refl}
-use Prim.Native.Nat.{_+_, _*_, _-_, _≤_}
+use Prim.Native.Nat.{_*_, _-_, _≤_}
 use lib.ListN.{length, take}
 use Rattle.value_tables.specs.Lines.{lineTable}
-use Rattle.value_tables.specs.Put.{eight-stores}
 use Rattle.value_tables.specs.LineLaws.{line-words, line-next, lines-stored, cells-stored}
 use Rattle.value_tables.proofs.CellLaws.{cells-known}
 use Rattle.value_tables.proofs.line_table.Statement.{statement}
@@ -32,20 +31,20 @@ returns c =
 
 loop-again : tie.Need-loop-again Inv-loop μ-loop
 loop-again c =
-    let writes = c .before in
+    let tests = c .before .before in
+    let writes = tests .before in
     let reads = writes .before in
     let number = reads .before .before .before .before in
-    let facts = number .before in
+    let facts = number .before .before in
     let stay = facts .before .before in
     let turn = stay .before .before in
     let w = turn .before .args .t1 in
     let i = turn .loop .i in
     let most = cells-known w (turn .before .good .0 .1 .1 .1 .0 .1 .0 .1) in
     let words = line-words _ _ _ (number .line-number .ensures) (facts .line-facts .ensures) _ _ _ (reads .set-in .ensures)
-    (writes .set-in2 .ensures) (c .set-in3 .ensures) in
-    let room : i * 8 + 8 ≤ length (turn .loop .words) = omega (arith, turn .loop .inv .1, stay .if1 .left) in
+    (writes .set-in2 .ensures) (tests .set-in3 .ensures) in
     let next = line-next (w .lines) (turn .loop .words) i _ (omega (arith, most, stay .if1 .left)) (turn .loop .inv .1) most _ _ words
-    (eight-stores (turn .loop .words) (i * 8) _ _ _ _ _ _ _ _ room) (turn .loop .inv .2) in
+    (c .before .put-row .ensures) (turn .loop .inv .2) in
     (search needs, next .0, next .1)
 
 returns-2 : tie.Need-returns-2 Inv-loop μ-loop
@@ -65,36 +64,15 @@ line-table-spec =
     (λ c. search needs)
     (λ c κs. search needs)
     (λ c. search needs)
-    (λ c κs. search needs)
-    (λ c. search needs)
-    (λ c. search needs)
-    (λ c. search needs)
-    (λ c. search needs)
-    (λ c. search needs)
-    (λ c. search needs)
-    (λ c. search needs)
-    (λ c. search needs)
-    (λ c. search needs)
-    (λ c. search needs)
-    (λ c. search needs)
-    (λ c. search needs)
-    (λ c. search needs)
     (λ c. search needs)
     (λ c κs. search needs)
     (λ c. search needs)
     (λ c. search needs)
     (λ c. search needs)
     (λ c κs. search needs)
-    (λ c. search needs)
-    (λ c. search needs)
-    (λ c. search needs)
     (λ c κs. search needs)
-    (λ c. search needs)
-    (λ c. search needs)
-    (λ c. search needs)
-    (λ c. search needs)
-    (λ c. search needs)
-    (λ c. search needs)
+    (λ c κs. search needs)
+    (λ c κs. search needs)
     (λ c. search needs)
     (λ c. search needs)
     loop-again

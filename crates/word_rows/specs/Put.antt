@@ -1,13 +1,28 @@
 -- Words put into an area at a place; the rest is as it was.
+use mathlib.Core.Bool.{cond}
 use mathlib.Core.List.{List, [], _∷_, _++_, append-assoc}
 use mathlib.Core.Path.{_≡_, sym, ap, _∙_}
-use Prim.Native.Nat.{ℕ, suc, _+_, _≤_}
+use Prim.Native.Nat.{ℕ, suc, _+_, _≤_, _<_}
 use native.Mathlib.Omega.{arith}
+use lib.Dec.{leb}
 use lib.ListN.{length, set, take, drop, length-append, length-drop}
 use lib.Seq.{sets-eq, take-at, length-take-le}
+use borrow.Author.Tests.{le-leb, lt-leb}
 
 unfoldable pub putAt : List ℕ → ℕ → List ℕ → List ℕ
 putAt area at words = take at area ++ (words ++ drop (at + length words) area)
+
+-- a row of eight words, where there is room for it
+unfoldable pub rowPut : List ℕ → ℕ → List ℕ → List ℕ
+rowPut area at words = cond (leb (at + 8) (length area)) (putAt area at words) area
+
+pub row-put : (area : List ℕ) (at : ℕ) (words : List ℕ) → at + 8 ≤ length area → rowPut area at words ≡ putAt area at words
+unfolding rowPut
+row-put area at words h = simp (le-leb (at + 8) (length area) h)
+
+pub row-none : (area : List ℕ) (at : ℕ) (words : List ℕ) → length area < at + 8 → area ≡ rowPut area at words
+unfolding rowPut
+row-none area at words h = sym (simp (lt-leb (at + 8) (length area) h))
 
 -- words put inside an area do not change its length
 pub putAt-length : (area : List ℕ) (at : ℕ) (words : List ℕ) → at + length words ≤ length area → length (putAt area at words) ≡ length area
