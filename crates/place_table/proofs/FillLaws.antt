@@ -21,11 +21,13 @@ use Rattle.unfold.specs.UnfoldTold.{cells, nodesTold}
 use Rattle.unfold.specs.UnfoldSettled.{PlacesSettled}
 use Rattle.unfold.specs.Stand.{PlacesStand, places-stand}
 use Rattle.spec_report.specs.Refusals.{refusal-some, refusal-none, places-few, taken-given, other-area}
-use Rattle.place_table.specs.declared.Begun.{Begun}
+use Rattle.place_keys.specs.declared.Begun.{Begun}
+use Rattle.place_keys.specs.LineKeys.{begunIn}
+use Rattle.word_rows.specs.Put.{putAt}
 use Rattle.place_table.specs.declared.Rows.{Rows}
 use Rattle.place_table.specs.declared.Rows.the-variants.{Refused, Filled}
-use Rattle.place_table.specs.Lines.{lineTable}
-use Rattle.place_table.specs.RowWords.{putAt, totalOf, allRows, begunBefore, begunIn, rowsTold, FilledBy}
+use Rattle.value_tables.specs.Lines.{lineTable}
+use Rattle.place_table.specs.RowWords.{totalOf, allRows, rowsTold, FilledBy}
 use Rattle.place_table.specs.Rows.{rowsSaid, RowsSettled}
 use Rattle.place_table.specs.Rows.RowsSettled.{refused, filled}
 use Rattle.place_table.proofs.PutRowLaws.{all-length}
@@ -40,11 +42,11 @@ pub lines-part : (w : Workload) (words : List ℕ) → length words ≡ 12928 �
 lines-part w words many fits = omega (arith, length-take (w .count * 8) words)
 
 pub filled-by : (w : Workload) (words : List ℕ) → take (w .count * 8) words ≡ lineTable (linesOf w) → (programs lengths places : List ℕ) (n : ℕ)
-    (before : List ℕ) (b : Begun) → b ≡ begunBefore (take (w .count * 8) words) (length (take (w .count * 8) words) / 8)
+    (before : List ℕ) (b : Begun) → b ≡ begunIn (take (w .count * 8) words)
     → (total : ℕ) → total ≡ totalOf lengths n → (after : List ℕ)
     → after ≡ putAt before 0 (allRows (take (w .count * 8) words) (b .firsts) programs lengths places n)
     → FilledBy (lineTable (linesOf w)) programs lengths places n before (Filled (b .programs) n total) after
-unfolding rowsTold begunIn
+unfolding rowsTold
 filled-by w words e programs lengths places n before b h total t after s =
     subst
     (λ (l : List ℕ). FilledBy l programs lengths places n before (Filled (b .programs) n total) after)

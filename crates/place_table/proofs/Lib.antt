@@ -1,5 +1,4 @@
 pub mod Laws
-pub mod LineTableLaws
 pub mod PutRowLaws
 pub mod PlaceRowLaws
 pub mod NodeLaws

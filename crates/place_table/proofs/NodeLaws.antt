@@ -21,7 +21,7 @@ use Rattle.unfold_laws.specs.Seen.{StandsFor, NodeWords, WordsFor}
 use Rattle.place_laws.specs.Placed.{placesFrom-length}
 use Rattle.place_laws.specs.Ids.{on-line-id}
 use Rattle.place_laws.specs.Guarded.{IdsSmall}
-use Rattle.place_table.specs.Lines.{lineTable}
+use Rattle.value_tables.specs.Lines.{lineTable}
 use Rattle.place_table.specs.RowWords.{rowWords, nodeRows, totalOf, allRows}
 use Rattle.place_table.proofs.PlaceRowLaws.{row-of-place}
 

@@ -1,5 +1,4 @@
 -- The row made of a place's word is the row of the place.
-use mathlib.Core.Bool.{cond}
 use mathlib.Core.List.{List, [], _∷_, _++_, flatMap}
 use mathlib.Core.Option.{some}
 use mathlib.Core.Path.{_≡_, refl, sym, ap, _∙_}
@@ -13,58 +12,21 @@ use Rattle.law_base.specs.ListLaws.{getElem?-lt, some-injective}
 use Rattle.spec_text.specs.declared.Line.{Line}
 use Rattle.spec_text.specs.declared.LineKind.{LineKind}
 use Rattle.spec_text.specs.declared.LineKind.the-variants.{Rl, Fk, Pr, St, Lo, Br, El, En, Li}
-use Rattle.spec_text.specs.declared.StatementKind.{StatementKind}
-use Rattle.spec_text.specs.declared.StatementKind.the-variants.{Is, Ks, Ps, Ku, Pu, Kd, Pd}
 use Rattle.spec_graph.specs.Program.{Statement, Link, statementOf, linksOf}
 use Rattle.spec_graph.specs.Unfolding.{Occurrence}
-use Rattle.spec_graph.specs.Edge.{hasReads, hasWrites, hasTests, R, W, T, Place, at}
+use Rattle.spec_graph.specs.Edge.{R, W, T, Place, at}
 use Rattle.place_row.specs.RowTable.{kindNumber, rowOf, wordsOf}
 use Rattle.unfold_laws.specs.Seen.{StandsFor, seenAt}
 use Rattle.place_laws.specs.Ids.{FromLine, statement-line}
 use Rattle.place_laws.specs.Guarded.{IdsSmall}
 use Rattle.place_laws.specs.Keys.{withLink, keysOf, keys-of-place}
-use Rattle.place_table.specs.Lines.{lineNumber, readsBy, writesBy, testsBy, lineWords, lineTable}
-use Rattle.place_table.specs.RowWords.{linkOf, linkAt, keyAt, keysFrom, rowWords}
-use Rattle.place_table.proofs.LineTableLaws.{lineTable-length}
-
--- ---- cells of the table of lines
-
-eight : (l : Line) → length (lineWords l) ≡ 8
-unfolding lineWords
-eight l = refl
-
--- word k of line i
-pub cell-at : (lines : List Line) (i k : ℕ) (e : Line) → i < length lines → k < 8
-    → getD (lineTable lines) (i * 8 + k) 0 ≡ getD (lineWords (getD lines i e)) k 0
-unfolding lineTable flatMap
-cell-at [] i k e h b = absurd (omega arith)
-cell-at (l ∷ lines) zero k e h b =
-    let z : 0 * 8 + k ≡ k = omega arith in
-    let m = eight l in
-    ap (λ (j : ℕ). getD (lineWords l ++ lineTable lines) j 0) z ∙ List·getD-append (lineWords l) (lineTable lines) 0 k (omega arith)
-cell-at (l ∷ lines) (suc i) k e h b =
-    let m = eight l in
-    let z : suc i * 8 + k ≡ length (lineWords l) + (i * 8 + k) = omega arith in
-    ap (λ (j : ℕ). getD (lineWords l ++ lineTable lines) j 0) z
-    ∙ getD-append-add (lineWords l) (lineTable lines) (i * 8 + k) 0
-    ∙ cell-at lines i k e (omega arith) b
-
--- its first word
-pub number-at : (lines : List Line) (i : ℕ) (e : Line) → i < length lines → getD (lineTable lines) (i * 8) 0 ≡ lineNumber (getD lines i e .kind)
-unfolding lineWords
-number-at lines i e h = ap (λ (j : ℕ). getD (lineTable lines) j 0) (sym (add-zero (i * 8))) ∙ cell-at lines i 0 e h (omega arith)
+use Rattle.unfold_laws.specs.WordCode.{lineIn}
+use Rattle.value_tables.specs.Lines.{lineNumber, lineWords, lineTable}
+use Rattle.value_tables.specs.LineLaws.{lineTable-length, cell-at, number-at, kind-not, sets-told}
+use Rattle.place_keys.specs.LineKeys.{linkOf, linkAt, keyAt, keysFrom}
+use Rattle.place_table.specs.RowWords.{rowWords}
 
 -- ---- the keys from the lines
-
--- a statement's line is no `pr` and no `li`
-pub kind-not : (k : StatementKind) → (kindNumber k ≡ 7 → ⊥) × (kindNumber k ≡ 8 → ⊥)
-kind-not Is = (λ e. omega arith, λ e. omega arith)
-kind-not Ks = (λ e. omega arith, λ e. omega arith)
-kind-not Ps = (λ e. omega arith, λ e. omega arith)
-kind-not Ku = (λ e. omega arith, λ e. omega arith)
-kind-not Pu = (λ e. omega arith, λ e. omega arith)
-kind-not Kd = (λ e. omega arith, λ e. omega arith)
-kind-not Pd = (λ e. omega arith, λ e. omega arith)
 
 module _ (lines : List Line) (child seen : ℕ) where
   abbrev table : List ℕ
@@ -75,7 +37,7 @@ module _ (lines : List Line) (child seen : ℕ) where
       → linkAt table i ≡ linkOf (l .id) (l .rel) (l .to)
       → ((word : ℕ) → keysFrom n table (i + 1) child seen word ≡ keysOf child seen (linksOf rest) word)
       → keysFrom (suc n) table i child seen word ≡ keysOf child seen (linksOf (l ∷ rest)) word
-  unfolding keysFrom keyAt linksOf keysOf lineNumber
+  unfolding keysFrom keyAt linksOf keysOf
   step n i l rest word first link again = go (l .kind) first
     where
       found : LineKind → List Link
@@ -103,12 +65,12 @@ module _ (lines : List Line) (child seen : ℕ) where
           (again (withLink child seen (linkOf (l .id) (l .rel) (l .to)) word))
       go Pr e = rw (eq-eqb (getD table (i * 8) 0) 7 e) refl
       go (St k) e = other (kindNumber k) e (kind-not k .0) (kind-not k .1)
-      go Rl e = other 9 e (λ x. omega arith) (λ x. omega arith)
-      go Fk e = other 9 e (λ x. omega arith) (λ x. omega arith)
+      go Rl e = other 11 e (λ x. omega arith) (λ x. omega arith)
+      go Fk e = other 11 e (λ x. omega arith) (λ x. omega arith)
       go Lo e = other 9 e (λ x. omega arith) (λ x. omega arith)
-      go Br e = other 9 e (λ x. omega arith) (λ x. omega arith)
-      go El e = other 9 e (λ x. omega arith) (λ x. omega arith)
-      go En e = other 9 e (λ x. omega arith) (λ x. omega arith)
+      go Br e = other 10 e (λ x. omega arith) (λ x. omega arith)
+      go El e = other 11 e (λ x. omega arith) (λ x. omega arith)
+      go En e = other 11 e (λ x. omega arith) (λ x. omega arith)
 
   link-cells : (i : ℕ) (e : Line) → i < length lines → linkAt table i ≡ linkOf (getD lines i e .id) (getD lines i e .rel) (getD lines i e .to)
   unfolding linkAt lineWords
@@ -132,38 +94,6 @@ module _ (lines : List Line) (child seen : ℕ) where
           (λ w. again w ∙ ap (λ (k : ℕ). keysOf child seen (linksOf (drop k lines)) w) (sym m))
           ∙ ap (λ (t : List Line). keysOf child seen (linksOf t) word) (sym (drop-cons lines i d inside))
 
--- ---- the sets of a statement by the number of its kind
-
-reads-kind : (k : StatementKind) (x : ℕ) → readsBy (kindNumber k) x ≡ cond (hasReads k) x 0
-unfolding readsBy
-reads-kind Is x = refl
-reads-kind Ks x = refl
-reads-kind Ps x = refl
-reads-kind Ku x = refl
-reads-kind Pu x = refl
-reads-kind Kd x = refl
-reads-kind Pd x = refl
-
-writes-kind : (k : StatementKind) (x : ℕ) → writesBy (kindNumber k) x ≡ cond (hasWrites k) x 0
-unfolding writesBy
-writes-kind Is x = refl
-writes-kind Ks x = refl
-writes-kind Ps x = refl
-writes-kind Ku x = refl
-writes-kind Pu x = refl
-writes-kind Kd x = refl
-writes-kind Pd x = refl
-
-tests-kind : (k : StatementKind) (x : ℕ) → testsBy (kindNumber k) x ≡ cond (hasTests k) x 0
-unfolding testsBy
-tests-kind Is x = refl
-tests-kind Ks x = refl
-tests-kind Ps x = refl
-tests-kind Ku x = refl
-tests-kind Pu x = refl
-tests-kind Kd x = refl
-tests-kind Pd x = refl
-
 -- what stands at a place is the default where the list has none
 pub element-default : {A : Type 0} (l : List A) (i : ℕ) {x : A} → getElem? l i ≡ some x → (d : A) → getD l i d ≡ x
 element-default [] i e d = let z : _≡_ {A = ℕ} 0 1 = cc in absurd (omega arith)
@@ -186,7 +116,7 @@ module _ (lines : List Line) (first : ℕ) (s : Place) (word : ℕ) where
 
   -- the words of a statement's line
   cells : (x : Statement) (i : ℕ) → FromLine lines i x → Cells x i
-  unfolding lineWords lineNumber statementOf R W T
+  unfolding lineWords statementOf R W T
   cells x i f =
       let inside = getElem?-lt lines i (f .at) in
       let here = element-default lines i (f .at) (f .line) in
@@ -194,9 +124,9 @@ module _ (lines : List Line) (first : ℕ) (s : Place) (word : ℕ) where
         number = number-at lines i (f .line) inside ∙ rw (here, f .kind) refl;
         id = cell-at lines i 1 (f .line) inside (omega arith) ∙ rw here refl;
         relation = cell-at lines i 2 (f .line) inside (omega arith) ∙ rw here refl;
-        reads = cell-at lines i 4 (f .line) inside (omega arith) ∙ rw (here, f .kind) (reads-kind (f .sort) (f .line .reads));
-        writes = cell-at lines i 5 (f .line) inside (omega arith) ∙ rw (here, f .kind) (writes-kind (f .sort) (f .line .writes));
-        tests = cell-at lines i 6 (f .line) inside (omega arith) ∙ rw (here, f .kind) (tests-kind (f .sort) (f .line .tests));
+        reads = cell-at lines i 4 (f .line) inside (omega arith) ∙ rw (here, f .kind) (sets-told (f .sort) .reads (f .line .reads));
+        writes = cell-at lines i 5 (f .line) inside (omega arith) ∙ rw (here, f .kind) (sets-told (f .sort) .writes (f .line .writes));
+        tests = cell-at lines i 6 (f .line) inside (omega arith) ∙ rw (here, f .kind) (sets-told (f .sort) .tests (f .line .tests));
       })
 
   -- E0, E3: the row made of the word that stands for a place
@@ -205,7 +135,7 @@ module _ (lines : List Line) (first : ℕ) (s : Place) (word : ℕ) where
       → rowWords (lineTable lines) first (s .number) (s .place) word ≡ wordsOf (rowOf s)
   unfolding rowWords wordsOf rowOf
   row-of-place w small inside links =
-      let c = cells (at s) (word % 2048) (statement-line lines (word % 2048) (at s) (w .line)) in
+      let c = cells (at s) (lineIn word) (statement-line lines (lineIn word) (at s) (w .line)) in
       let fuel : length (lineTable lines) / 8 - first + first ≡ length lines = omega (arith, lineTable-length lines) in
       let keys = keys-lines lines (at s .id) (seenAt before (s .occurrence)) (length (lineTable lines) / 8 - first) first fuel 0 in
       rw (c .number, c .id, c .relation, c .reads, c .writes, c .tests, w .seen, keys, ← links, keys-of-place s small) refl

@@ -25,11 +25,11 @@ use Rattle.law_text.specs.ReadingLaws.{line-passes}
 use Rattle.law_text.specs.LineCountLaws.{bounded-true}
 use Rattle.spec_graph.specs.Program.{Program, runOf, linksOf, programsOf}
 use Rattle.spec_graph.specs.Unfolding.{Node, unfoldings, nodesOfProgram, nodesFrom, nodesOf}
-use Rattle.place_table.specs.declared.Begun.{Begun}
-use Rattle.place_table.specs.Lines.{lineNumber, lineTable}
-use Rattle.place_table.specs.RowWords.{begunWith, begunLine, begunBefore, begunIn}
-use Rattle.place_table.proofs.LineTableLaws.{lineTable-length}
-use Rattle.place_table.proofs.PlaceRowLaws.{number-at, element-default, kind-not}
+use Rattle.value_tables.specs.Lines.{lineNumber, lineTable}
+use Rattle.value_tables.specs.LineLaws.{lineTable-length, number-at, kind-not}
+use Rattle.place_keys.specs.declared.Begun.{Begun}
+use Rattle.place_keys.specs.LineKeys.{begunWith, begunLine, begunBefore, begunIn}
+use Rattle.place_table.proofs.PlaceRowLaws.{element-default}
 use Rattle.place_table.proofs.NodeLaws.{take-more}
 
 -- the lines after each `pr`, counted from the first line's number
@@ -39,7 +39,6 @@ firstsOf i (l ∷ lines) = cond (eqb (lineNumber (l .kind)) 7) (suc i ∷ firsts
 
 -- a `pr` line, or another
 pr-cases : (c : LineKind) → (c ≡ Pr) ⊎ (eqb (lineNumber c) 7 ≡ false)
-unfolding lineNumber
 pr-cases Pr = inl refl
 pr-cases (St k) = inr (ne-eqb (lineNumber (St k)) 7 (kind-not k .0))
 pr-cases Rl = inr refl
@@ -51,7 +50,7 @@ pr-cases En = inr refl
 pr-cases Li = inr refl
 
 firsts-pr : (i : ℕ) (l : Line) (lines : List Line) → l .kind ≡ Pr → firstsOf i (l ∷ lines) ≡ suc i ∷ firstsOf (suc i) lines
-unfolding firstsOf lineNumber
+unfolding firstsOf
 firsts-pr i l lines e = rw e refl
 
 firsts-other : (i : ℕ) (l : Line) (lines : List Line) → eqb (lineNumber (l .kind)) 7 ≡ false → firstsOf i (l ∷ lines) ≡ firstsOf (suc i) lines
@@ -66,7 +65,7 @@ unfolding programsOf
 programs-pr l lines e = rw (e, programsOf) refl
 
 programs-other : (l : Line) (lines : List Line) → eqb (lineNumber (l .kind)) 7 ≡ false → programsOf (l ∷ lines) ≡ programsOf lines
-unfolding programsOf lineNumber
+unfolding programsOf
 programs-other l lines h = go (l .kind) h
   where
     found : LineKind → List Program

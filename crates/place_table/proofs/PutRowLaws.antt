@@ -8,8 +8,10 @@ use native.Mathlib.Numerals.{add-one}
 use native.Mathlib.Omega.{arith}
 use lib.ListN.{length, getD, take, drop, length-append, take-append-drop}
 use lib.Seq.{drop-append-add, drop-drop, length-take-le}
-use Rattle.place_table.specs.RowWords.{putAt, keysFrom, rowWords, nodeRows, totalOf, allRows}
-use Rattle.place_table.proofs.LineTableLaws.{putAt-length, putAt-take}
+use Rattle.unfold_laws.specs.WordCode.{lineIn, seenIn}
+use Rattle.word_rows.specs.Put.{putAt, putAt-length, putAt-take}
+use Rattle.place_keys.specs.LineKeys.{keysFrom}
+use Rattle.place_table.specs.RowWords.{rowWords, nodeRows, totalOf, allRows}
 
 -- no words put
 pub put-none : (area : List ℕ) (at : ℕ) → area ≡ putAt area at []
@@ -40,10 +42,10 @@ put-more area at xs ys k e h =
     ∙ ap (λ (m : ℕ). take at area ++ (xs ++ ys ++ drop m area)) size
 
 -- the row of a place from its words
-pub row-words : (lines : List ℕ) (first node place word : ℕ) (child keys n r a b c : ℕ) → child ≡ getD lines (word % 2048 * 8 + 1) 0
-    → keys ≡ keysFrom (length lines / 8 - first) lines first child (word / 2048) 0 → n ≡ getD lines (word % 2048 * 8) 0
-    → r ≡ getD lines (word % 2048 * 8 + 2) 0 → a ≡ getD lines (word % 2048 * 8 + 4) 0 → b ≡ getD lines (word % 2048 * 8 + 5) 0
-    → c ≡ getD lines (word % 2048 * 8 + 6) 0
+pub row-words : (lines : List ℕ) (first node place word : ℕ) (child keys n r a b c : ℕ) → child ≡ getD lines (lineIn word * 8 + 1) 0
+    → keys ≡ keysFrom (length lines / 8 - first) lines first child (seenIn word) 0 → n ≡ getD lines (lineIn word * 8) 0
+    → r ≡ getD lines (lineIn word * 8 + 2) 0 → a ≡ getD lines (lineIn word * 8 + 4) 0 → b ≡ getD lines (lineIn word * 8 + 5) 0
+    → c ≡ getD lines (lineIn word * 8 + 6) 0
     → node ∷ place ∷ n ∷ r ∷ a ∷ b ∷ c ∷ keys ∷ [] ≡ rowWords lines first node place word
 unfolding rowWords
 row-words lines first node place word child keys n r a b c e1 e2 e3 e4 e5 e6 e7 = rw (e2, e1, e3, e4, e5, e6, e7) refl

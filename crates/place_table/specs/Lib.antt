@@ -1,4 +1,3 @@
-pub mod Lines
 pub mod RowWords
 pub mod Rows
 pub mod Whole

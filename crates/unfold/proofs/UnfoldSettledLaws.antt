@@ -35,10 +35,10 @@ use Rattle.unfold.specs.UnfoldSteps.{tableTold, overMany, tooShort, piec
 use Rattle.unfold.specs.UnfoldSettled.{Settled, PlacesSettled}
 use Rattle.unfold.specs.OwnLaws.{own-along}
 use Rattle.unfold.specs.Stand.{few-nodes}
-use Rattle.unfold_tables.specs.declared.IdTables.{IdTables}
-use Rattle.unfold_tables.specs.declared.PlaceTables.{PlaceTables}
-use Rattle.unfold_tables.specs.Tables.{idTables, placeTables}
-use Rattle.unfold_tables.proofs.CellLaws.{number-at}
+use Rattle.value_tables.specs.declared.IdTables.{IdTables}
+use Rattle.value_tables.specs.declared.PlaceTables.{PlaceTables}
+use Rattle.value_tables.specs.Tables.{idTables, placeTables}
+use Rattle.value_tables.proofs.CellLaws.{number-at}
 
 -- the promise, whatever stands in the area where nothing is refused
 record SettledAs (Full : List ℕ → Type 0) (w : Workload) (before : List ℕ) (r : Unfolded) (area : List ℕ) : Type 0 where

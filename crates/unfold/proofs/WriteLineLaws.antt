@@ -14,7 +14,7 @@ use borrow.Rule.Slice.PartMut.{putMid}
 use Rattle.unfold_laws.specs.declared.Counted.{Counted}
 use Rattle.unfold_laws.specs.declared.UnfoldingTable.{UnfoldingTable}
 use Rattle.unfold_laws.specs.CodesLaws.{count-positive}
-use Rattle.unfold_laws.specs.Pieces.{Piece, flat, tabulate, row, countedBehind, linePrograms, linePieces, programsBefore, piecesBefore}
+use Rattle.unfold_laws.specs.Pieces.{Piece, flat, tabulate, row, countedAfter, linePrograms, linePieces, programsBefore, piecesBefore}
 use Rattle.unfold.specs.PieceTable.{addAll, table}
 use Rattle.unfold.specs.PieceTableLaws.{addAll-append, flat-append, from-nothing}
 use Rattle.unfold_count.specs.Counted.{RunCounted}
@@ -31,7 +31,7 @@ lined-none codes words marks i program t before h =
 pub line-rows : (codes words marks : List ℕ) (i program : ℕ) (c : Counted) → getD codes i 0 ≡ 3
     → RunCounted (length codes - (i + 1)) codes (i + 1) c
     → linePieces codes words marks i program ≡ tabulate (row program codes words marks (i + 1) (length codes - (i + 1))) 0 (c .count - 0)
-unfolding linePieces countedBehind
+unfolding linePieces countedAfter
 line-rows codes words marks i program c h p = rw (eq-eqb (getD codes i 0) 3 h, ← p .counting .same, sub-zero)
 
 module _ (rows same : List Piece) (e : rows ≡ same) (t : UnfoldingTable) (area : List ℕ) (h : LineFits rows t area) where
@@ -75,7 +75,7 @@ length-tabulate f k (suc m) = ap suc (length-tabulate f (k + 1) m)
 
 -- no more programs than pieces
 programs-few : (codes words marks : List ℕ) (i : ℕ) → programsBefore codes i ≤ length (piecesBefore codes words marks i)
-unfolding programsBefore piecesBefore linePrograms linePieces countedBehind
+unfolding programsBefore piecesBefore linePrograms linePieces countedAfter
 programs-few codes words marks zero = omega arith
 programs-few codes words marks (suc i) = rw length-append (go (eqb (getD codes i 0) 3) (programs-few codes words marks i))
   where
@@ -86,8 +86,8 @@ programs-few codes words marks (suc i) = rw length-append (go (eqb (getD codes i
     f = row n codes words marks (i + 1) (length codes - (i + 1))
 
     go : (t : Bool) → n ≤ length (piecesBefore codes words marks i)
-        → cond t (n + 1) n ≤ length (piecesBefore codes words marks i) + length (cond t (tabulate f 0 (countedBehind codes i .count)) [])
-    go true h = omega (arith, length-tabulate f 0 (countedBehind codes i .count), count-positive (length codes - (i + 1)) codes (i + 1))
+        → cond t (n + 1) n ≤ length (piecesBefore codes words marks i) + length (cond t (tabulate f 0 (countedAfter codes i .count)) [])
+    go true h = omega (arith, length-tabulate f 0 (countedAfter codes i .count), count-positive (length codes - (i + 1)) codes (i + 1))
     go false h = omega arith
 
 -- pieces before a place stand in front of those before a later one

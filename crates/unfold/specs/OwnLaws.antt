@@ -217,10 +217,10 @@ taken-body before (l ∷ lines) t end begun =
     go Rl e h = absurd (begun-not before isRelation begun (rw (e, ordered) at (passes .order)) program-not)
     go Fk e h = absurd (begun-not before (λ b. isRelation b || isKey b) begun (rw (e, ordered) at (passes .order)) program-nor)
 
-taken-behind : (before front back : List Line) → Taken before (front ++ back) → Taken (before ++ front) back
-taken-behind before [] back t = rw append-nil t
-taken-behind before (x ∷ front) back t =
-    subst (λ (b : List Line). Taken b back) (append-assoc before (x ∷ []) front) (taken-behind (before ++ (x ∷ [])) front back (t .2))
+taken-after : (before front back : List Line) → Taken before (front ++ back) → Taken (before ++ front) back
+taken-after before [] back t = rw append-nil t
+taken-after before (x ∷ front) back t =
+    subst (λ (b : List Line). Taken b back) (append-assoc before (x ∷ []) front) (taken-after (before ++ (x ∷ [])) front back (t .2))
 
 module _ (text : List ℕ) (lines : List Line) (taken : read text ≡ accepted lines) where
   -- the lines after a `pr` line
@@ -240,7 +240,7 @@ module _ (text : List ℕ) (lines : List Line) (taken : read text ≡ accepted l
           let front = take i lines in
           let whole : front ++ (l ∷ back) ≡ lines = ap (λ (r : List Line). front ++ r) (sym (f .1)) ∙ take-append-drop i lines in
           let split : (front ++ (l ∷ [])) ++ back ≡ lines = append-assoc front (l ∷ []) back ∙ whole in
-          let t = taken-behind [] (front ++ (l ∷ [])) back (rw split (read-taken text lines taken)) in
+          let t = taken-after [] (front ++ (l ∷ [])) back (rw split (read-taken text lines taken)) in
           let begun : any isProgram (front ++ (l ∷ [])) ≡ true =
           any-append isProgram front (l ∷ []) ∙ or-right (any isProgram front) (or-left false pr) in
           rw (add-one i) (rw (program-begins front l pr) at (taken-body (front ++ (l ∷ [])) back t (rw split (read-closed text lines taken)) begun))

@@ -21,7 +21,7 @@ use Rattle.unfold_laws.specs.Places.{placeWords}
 use Rattle.unfold_laws.specs.PiecesLaws.{all-pieces, flat-length}
 use Rattle.unfold_laws.specs.PlacesLaws.{OwnWord, own-tables, flat-own, words-for}
 use Rattle.unfold_laws.specs.Seen.{markOf, WordsFor}
-use Rattle.unfold_tables.proofs.CellLaws.{number-at}
+use Rattle.value_tables.proofs.CellLaws.{number-at}
 use Rattle.unfold.specs.OwnLaws.{own-along}
 
 -- words that stand for all places of the nodes stand from an area's start on, and past them it is as it was

@@ -1,13 +1,15 @@
 // The unfoldings of a workload, written into a lent area: as statement ids, or as words that tell each place's line and what is seen there.
 
 use spec_text::Workload;
+use unfold_bounds::totals_refused;
 use unfold_count::count_all;
 use unfold_count::count_run;
+use unfold_laws::PROGRAM;
 use unfold_laws::UnfoldingTable;
-use unfold_tables::id_tables;
-use unfold_tables::place_tables;
 use unfold_write::write_run;
 use value_given::is_given;
+use value_tables::id_tables;
+use value_tables::place_tables;
 ghost use mathlib.Core.List.{[]};
 ghost use mathlib.Core.Path.{_≡_};
 ghost use Prim.Native.Nat.{_+_, _-_, _<_};
@@ -94,7 +96,7 @@ fn write_line(
     ensures { λ r. ⌜ Lined (linePieces (now (codes .entry)) (now (words .entry)) (now (marks .entry)) i program) t
         (now (area .entry)) r (now (area .exit)) ⌝ }
 {
-    if codes[i] != 3 {
+    if codes[i] != PROGRAM {
         return t;
     }
     let left = codes.len() - (i + 1);
@@ -119,7 +121,7 @@ fn next_program(codes: &[u8], i: usize, program: u8) -> u8
     requires { ⌜ (i < length (now codes)) × (program < 255) ⌝ }
     ensures { λ r. ⌜ r ≡ linePrograms (now (codes .entry)) i program ⌝ }
 {
-    if codes[i] == 3 {
+    if codes[i] == PROGRAM {
         return program + 1;
     }
     program
@@ -187,15 +189,9 @@ fn unfold_tables(codes: &[u8], words: &[u16], marks: &[u32], area: &mut [u64]) -
     ensures { λ r. ⌜ Tabled (now (codes .entry)) (now (words .entry)) (now (marks .entry)) (now (area .entry)) r (now (area .exit)) ⌝ }
 {
     let t = count_all(codes);
-    if t.count > 64 {
-        return refused(22);
-    }
-    if t.statements > 512 {
-        return refused(22);
-    }
-    let room = area.len() as u64;
-    if room < t.statements {
-        return refused(20);
+    let number = totals_refused(t, area.len() as u64);
+    if number != 0 {
+        return refused(number);
     }
     let f = write_all(codes, words, marks, area);
     told(f)

@@ -7,23 +7,23 @@ use native.Mathlib.Omega.{arith}
 use lib.ListN.{length, getD}
 use borrow.Author.Tests.{eq-eqb, ne-eqb}
 use Rattle.unfold_laws.specs.declared.Counted.{Counted}
-use Rattle.unfold_laws.specs.declared.Totals.{Totals}
+use Rattle.unfold_laws.specs.declared.UnfoldingTotals.{UnfoldingTotals}
 use Rattle.unfold_laws.specs.Cap.{plus, cap, Alike, cap-small}
 use Rattle.unfold_laws.specs.CodesLaws.{length-codes}
-use Rattle.unfold_laws.specs.Pieces.{countedBehind, lineTotals, totalsBefore}
+use Rattle.unfold_laws.specs.Pieces.{countedAfter, lineTotals, totalsBefore}
 use Rattle.unfold_laws.specs.PiecesLaws.{total-count, total-statements}
 use Rattle.unfold_count.specs.Counted.{RunCounted, Small, Totalled, AllCounted}
 
-pub line-none : (codes : List ℕ) (i : ℕ) (t : Totals) → (getD codes i 0 ≡ 3 → ⊥) → t .count ≤ 513 → t .statements ≤ 513
+pub line-none : (codes : List ℕ) (i : ℕ) (t : UnfoldingTotals) → (getD codes i 0 ≡ 3 → ⊥) → t .count ≤ 513 → t .statements ≤ 513
     → Totalled (lineTotals codes i t) t
 unfolding lineTotals
 line-none codes i t h few short = record { same = sym (simp (ne-eqb (getD codes i 0) 3 h)); few = few; short = short }
 
-pub line-program : (codes : List ℕ) (i : ℕ) (t : Totals) (c : Counted) (a b : ℕ) → getD codes i 0 ≡ 3
+pub line-program : (codes : List ℕ) (i : ℕ) (t : UnfoldingTotals) (c : Counted) (a b : ℕ) → getD codes i 0 ≡ 3
     → RunCounted (length codes - (i + 1)) codes (i + 1) c
     → Small (plus (t .count) (c .count)) a → Small (plus (t .statements) (c .statements)) b
     → Totalled (lineTotals codes i t) (record { count = a; statements = b })
-unfolding lineTotals countedBehind
+unfolding lineTotals countedAfter
 line-program codes i t c a b h p q s =
     record { same = sym (simp (eq-eqb (getD codes i 0) 3 h, ← p .counting .same, ← q .same, ← s .same)); few = q .few; short = s .few }
 
@@ -31,7 +31,7 @@ pub lines-none : (codes : List ℕ) → Totalled (totalsBefore codes 0) (record 
 unfolding totalsBefore
 lines-none codes = record { same = refl; few = omega arith; short = omega arith }
 
-pub lines-next : (codes : List ℕ) (i : ℕ) (t r : Totals) → Totalled (totalsBefore codes i) t → Totalled (lineTotals codes i t) r
+pub lines-next : (codes : List ℕ) (i : ℕ) (t r : UnfoldingTotals) → Totalled (totalsBefore codes i) t → Totalled (lineTotals codes i t) r
     → Totalled (totalsBefore codes (i + 1)) r
 unfolding totalsBefore
 lines-next codes i t r h k = record { same = k .same ∙ rw (h .same, add-one); few = k .few; short = k .short }
@@ -40,7 +40,7 @@ lines-next codes i t r h k = record { same = k .same ∙ rw (h .same, add-one); 
 exact : (x n : ℕ) → x ≤ 513 → Alike x n → x ≡ cap n
 exact x n h a = sym (cap-small h) ∙ a .same
 
-pub lines-all : (codes : List ℕ) (i : ℕ) (t : Totals) → i ≤ length codes → length codes ≤ i → Totalled (totalsBefore codes i) t → AllCounted codes t
+pub lines-all : (codes : List ℕ) (i : ℕ) (t : UnfoldingTotals) → i ≤ length codes → length codes ≤ i → Totalled (totalsBefore codes i) t → AllCounted codes t
 lines-all codes i t p q h =
     let e : length codes ≡ i = omega arith in
     let all : Totalled (totalsBefore codes (length codes)) t = rw e h in

@@ -24,14 +24,6 @@ use Rattle.unfold_laws.specs.CodesLaws.{
 use Rattle.unfold_laws.specs.declared.Counted.{Counted}
 use Rattle.unfold_count.specs.Counted.{Small, Counting, RunCounted, PlaceCounted, placeAt}
 
-pub after-inside : (lines e : ℕ) → e < lines → e + 1 ≡ after lines e
-unfolding after
-after-inside lines e h = simp (lt-ltb e lines h)
-
-pub after-past : (lines e : ℕ) → lines ≤ e → e ≡ after lines e
-unfolding after
-after-past lines e h = simp (le-ltb e lines h)
-
 pub stops-large : (x : ℕ) → 513 < x → Small (cap x) 513
 stops-large x h = record { same = sym (cap-large (omega arith)); few = omega arith }
 

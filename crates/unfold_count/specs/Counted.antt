@@ -11,7 +11,7 @@ use Rattle.spec_graph.specs.Program.Run.{next}
 use Rattle.spec_graph.specs.Unfolding.{nodesOf}
 use Rattle.spec_report.specs.State.{statementsIn}
 use Rattle.unfold_laws.specs.declared.Counted.{Counted}
-use Rattle.unfold_laws.specs.declared.Totals.{Totals}
+use Rattle.unfold_laws.specs.declared.UnfoldingTotals.{UnfoldingTotals}
 use Rattle.unfold_laws.specs.Cap.{cap}
 use Rattle.unfold_laws.specs.Codes.{codesOf, nothingAt, itemAt, countAt}
 use Rattle.unfold_laws.specs.CodesLaws.{Counts, CountsPlace}
@@ -46,13 +46,13 @@ pub record Small (number r : ℕ) : Type 0 where
   pub few : r ≤ 513
 
 -- totals equal those of the definition, and are small
-pub record Totalled (totals r : Totals) : Type 0 where
+pub record Totalled (totals r : UnfoldingTotals) : Type 0 where
   pub same : r ≡ totals
   pub few : r .count ≤ 513
   pub short : r .statements ≤ 513
 
 -- all lines; over the lines of a workload: its nodes and the statements in them, stopped at 513
-pub record AllCounted (codes : List ℕ) (r : Totals) : Type 0 where
+pub record AllCounted (codes : List ℕ) (r : UnfoldingTotals) : Type 0 where
   pub totalled : Totalled (totalsBefore codes (length codes)) r
   pub nodes : (lines : List Line) → codes ≡ codesOf lines → r .count ≡ cap (length (nodesOf lines))
   pub statements : (lines : List Line) → codes ≡ codesOf lines → r .statements ≡ cap (statementsIn (nodesOf lines))

@@ -1,12 +1,17 @@
 // What a run of lines counts: its unfoldings, the statements in them, and where it ends.
 
+use unfold_bounds::line_after;
+use unfold_laws::BRANCH;
 use unfold_laws::Counted;
-use unfold_laws::Totals;
+use unfold_laws::LOOP;
+use unfold_laws::PROGRAM;
+use unfold_laws::STATEMENT;
+use unfold_laws::UnfoldingTotals;
 ghost use mathlib.Core.Path.{_≡_};
 ghost use Prim.Native.Nat.{_≤_, _<_};
 ghost use lib.ListN.{length};
 ghost use Rattle.unfold_laws.specs.Cap.{plus, times};
-ghost use Rattle.unfold_laws.specs.Codes.{after, nothingAt, loopCounted, branchCounted, nextCounted, itemAt, countAt};
+ghost use Rattle.unfold_laws.specs.Codes.{nothingAt, loopCounted, branchCounted, nextCounted, itemAt, countAt};
 ghost use Rattle.unfold_laws.specs.Pieces.{lineTotals};
 ghost use Rattle.unfold_count.specs.Counted.{Counting, RunCounted, PlaceCounted, Small, Totalled, AllCounted};
 
@@ -33,16 +38,6 @@ fn product(a: u64, b: u64) -> u64
     x
 }
 
-// The place after a closing line, where there is one.
-pub fn behind(lines: usize, e: usize) -> usize
-    ensures { λ r. ⌜ r ≡ after lines e ⌝ }
-{
-    if e < lines {
-        return e + 1;
-    }
-    e
-}
-
 fn nothing(at: usize) -> Counted
     ensures { λ r. ⌜ r ≡ nothingAt at ⌝ }
 {
@@ -62,7 +57,7 @@ fn count_loop(lines: usize, body: Counted) -> Counted
     let s = body.statements;
     let count = sum(1, sum(n, product(n, n)));
     let statements = sum(s, sum(product(s, n), product(n, s)));
-    let end = behind(lines, body.end);
+    let end = line_after(lines, body.end);
     Counted {
         count: count,
         statements: statements,
@@ -76,7 +71,7 @@ fn count_arms(lines: usize, one: Counted, two: Counted) -> Counted
 {
     let count = sum(one.count, two.count);
     let statements = sum(one.statements, two.statements);
-    let end = behind(lines, two.end);
+    let end = line_after(lines, two.end);
     Counted {
         count: count,
         statements: statements,
@@ -112,7 +107,7 @@ pub fn count_run(codes: &[u8], at: usize, left: usize) -> Counted
     if codes.len() <= at {
         return nothing(at);
     }
-    if codes[at] > 2 {
+    if codes[at] > BRANCH {
         return nothing(at);
     }
     let x = count_block(codes, at, left - 1);
@@ -125,7 +120,7 @@ fn count_block(codes: &[u8], at: usize, left: usize) -> Counted
     requires { ⌜ at < length (now codes) ⌝ }
     ensures { λ r. ⌜ Counting (itemAt (countAt left (now (codes .entry))) (now (codes .entry)) at) r ⌝ }
 {
-    if codes[at] == 0 {
+    if codes[at] == STATEMENT {
         return Counted {
             count: 1,
             statements: 1,
@@ -133,10 +128,10 @@ fn count_block(codes: &[u8], at: usize, left: usize) -> Counted
         };
     }
     let body = count_run(codes, at + 1, left);
-    if codes[at] == 1 {
+    if codes[at] == LOOP {
         return count_loop(codes.len(), body);
     }
-    let two = count_run(codes, behind(codes.len(), body.end), left);
+    let two = count_run(codes, line_after(codes.len(), body.end), left);
     count_arms(codes.len(), body, two)
 }
 
@@ -151,27 +146,27 @@ pub fn count_place(codes: &[u8], at: usize, left: usize) -> Counted
 }
 
 // A line's part in the totals: only a `pr` line has one.
-fn count_line(codes: &[u8], i: usize, t: Totals) -> Totals
+fn count_line(codes: &[u8], i: usize, t: UnfoldingTotals) -> UnfoldingTotals
     requires { ⌜ (i < length (now codes)) × (t .count ≤ 513) × (t .statements ≤ 513) ⌝ }
     ensures { λ r. ⌜ Totalled (lineTotals (now (codes .entry)) i t) r ⌝ }
 {
-    if codes[i] != 3 {
+    if codes[i] != PROGRAM {
         return t;
     }
     let c = count_run(codes, i + 1, codes.len() - (i + 1));
     let count = sum(t.count, c.count);
     let statements = sum(t.statements, c.statements);
-    Totals {
+    UnfoldingTotals {
         count: count,
         statements: statements,
     }
 }
 
 // The unfoldings of all programs and the statements in them, each stopped at 513.
-pub fn count_all(codes: &[u8]) -> Totals
+pub fn count_all(codes: &[u8]) -> UnfoldingTotals
     ensures { λ r. ⌜ AllCounted (now (codes .entry)) r ⌝ }
 {
-    let mut t = Totals {
+    let mut t = UnfoldingTotals {
         count: 0,
         statements: 0,
     };

@@ -211,13 +211,6 @@ mutual
   chosen-item (loop r) k h = loop-chosen r k h (λ j p. chosen r j p)
   chosen-item (branch a b) k h = branch-chosen a b k h (λ j p. chosen a j p) (λ j p. chosen b j p)
 
--- U1 to U3 by number: unfolding number k has the occurrences that `choose` gives
-pub unfolding-number : (r : Run) (i k : ℕ) → k < countRun r
-    → getElem? (map (λ e. occurrences e i) (unfoldings r)) k ≡ some (choose r i k)
-unfolding-number r i k h =
-    let c = chosen r k h in
-    getElem?-map-some (λ e. occurrences e i) (unfoldings r) k (c .member) ∙ ap {B = Option (List Occurrence)} some (c .places i)
-
 -- one block more around occurrences changes not their number
 length-inside : (i t : ℕ) (l : List Occurrence) → length (map (inside i t) l) ≡ length l
 length-inside i t l = length-map l (inside i t)

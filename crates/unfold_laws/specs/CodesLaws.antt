@@ -249,17 +249,17 @@ module _ (lines : List Line) where
       let one = runOf n (drop (at + 1) lines) in
       let two = runOf n (tail (one .rest)) in
       let first = countAt n codes (at + 1) in
-      let behind-first = after (length lines) (first .end) in
-      let second : Counts lines two (countAt n codes behind-first) =
-      rw (onward (at + 1) .leaves, tail-drop lines (first .end)) (onward behind-first) in
-      let item : itemAt (countAt n codes) codes at ≡ branchCounted (length lines) first (countAt n codes behind-first) =
+      let after-first = after (length lines) (first .end) in
+      let second : Counts lines two (countAt n codes after-first) =
+      rw (onward (at + 1) .leaves, tail-drop lines (first .end)) (onward after-first) in
+      let item : itemAt (countAt n codes) codes at ≡ branchCounted (length lines) first (countAt n codes after-first) =
       item-branch codes at (countAt n codes) (λ (z : getD codes at 0 ≡ 0). omega arith) (λ (z : getD codes at 0 ≡ 1). omega arith) ∙ rw
       length-codes in
       record {
         item = branch (one .run) (two .run);
         rest = tail (two .rest);
         read = rw run (run-branch n l (drop (at + 1) lines) e);
-        counted = rw item (counts-branch lines one two first (countAt n codes behind-first) (onward (at + 1)) second);
+        counted = rw item (counts-branch lines one two first (countAt n codes after-first) (onward (at + 1)) second);
       }
   line-begins n at l Pr e d c h onward = absurd (omega arith)
   line-begins n at l Rl e d c h onward = absurd (omega arith)

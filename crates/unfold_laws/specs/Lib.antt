@@ -8,6 +8,7 @@ pub mod Writing
 pub mod WritingLaws
 pub mod Pieces
 pub mod PiecesLaws
+pub mod WordCode
 pub mod Seen
 pub mod Places
 pub mod Along

@@ -5,7 +5,7 @@ use Prim.Native.Nat.{ℕ, zero, suc, _+_, _-_}
 use lib.Dec.{eqb}
 use lib.ListN.{length, getD}
 use Rattle.unfold_laws.specs.declared.Counted.{Counted}
-use Rattle.unfold_laws.specs.declared.Totals.{Totals}
+use Rattle.unfold_laws.specs.declared.UnfoldingTotals.{UnfoldingTotals}
 use Rattle.unfold_laws.specs.Cap.{plus}
 use Rattle.unfold_laws.specs.Codes.{countAt}
 use Rattle.unfold_laws.specs.Writing.{writeAt}
@@ -30,14 +30,14 @@ unfoldable pub row : ℕ → List ℕ → List ℕ → List ℕ → ℕ → ℕ 
 row program codes words marks at left k = record { program = program; words = writeAt left codes words marks 0 at k }
 
 -- what is counted after a `pr` line
-unfoldable pub countedBehind : List ℕ → ℕ → Counted
-countedBehind codes i = countAt (length codes - (i + 1)) codes (i + 1)
+unfoldable pub countedAfter : List ℕ → ℕ → Counted
+countedAfter codes i = countAt (length codes - (i + 1)) codes (i + 1)
 
 -- a line's part in the totals, in the number of programs, in the pieces: only a `pr` line has one
-unfoldable pub lineTotals : List ℕ → ℕ → Totals → Totals
+unfoldable pub lineTotals : List ℕ → ℕ → UnfoldingTotals → UnfoldingTotals
 lineTotals codes i t =
     cond (eqb (getD codes i 0) 3)
-    (record { count = plus (t .count) (countedBehind codes i .count); statements = plus (t .statements) (countedBehind codes i .statements) })
+    (record { count = plus (t .count) (countedAfter codes i .count); statements = plus (t .statements) (countedAfter codes i .statements) })
     t
 
 unfoldable pub linePrograms : List ℕ → ℕ → ℕ → ℕ
@@ -46,11 +46,11 @@ linePrograms codes i n = cond (eqb (getD codes i 0) 3) (n + 1) n
 unfoldable pub linePieces : List ℕ → List ℕ → List ℕ → ℕ → ℕ → List Piece
 linePieces codes words marks i program =
     cond (eqb (getD codes i 0) 3)
-    (tabulate (row program codes words marks (i + 1) (length codes - (i + 1))) 0 (countedBehind codes i .count))
+    (tabulate (row program codes words marks (i + 1) (length codes - (i + 1))) 0 (countedAfter codes i .count))
     []
 
 -- the same of all lines before a place
-unfoldable pub totalsBefore : List ℕ → ℕ → Totals
+unfoldable pub totalsBefore : List ℕ → ℕ → UnfoldingTotals
 totalsBefore codes zero = record { count = 0; statements = 0 }
 totalsBefore codes (suc i) = lineTotals codes i (totalsBefore codes i)
 

@@ -19,7 +19,7 @@ use Rattle.spec_text.specs.declared.LineKind.the-variants.{Rl, Fk, Pr, St, Lo, 
 use Rattle.spec_graph.specs.Program.{Statement, Run, Program, Link, runOf, linksOf, programsOf}
 use Rattle.spec_graph.specs.Unfolding.{Execution, Node, occurrences, unfoldings, nodesOfProgram, nodesFrom, nodesOf}
 use Rattle.spec_report.specs.State.{statementsIn}
-use Rattle.unfold_laws.specs.declared.Totals.{Totals}
+use Rattle.unfold_laws.specs.declared.UnfoldingTotals.{UnfoldingTotals}
 use Rattle.unfold_laws.specs.Pairs.{sumOf}
 use Rattle.unfold_laws.specs.Cap.{cap, plus, Alike, alike-refl, stopped, plus-alike, cap-small, cap-add}
 use Rattle.unfold_laws.specs.Choosing.{countRun, statementsRun}
@@ -35,7 +35,7 @@ use Rattle.unfold_laws.specs.Pieces.{
   flat,
   tabulate,
   row,
-  countedBehind,
+  countedAfter,
   lineTotals,
   linePrograms,
   linePieces,
@@ -141,17 +141,17 @@ statements-append [] r = sym (zero-add (statementsIn r))
 statements-append (n ∷ l) r = omega (arith, statements-append l r)
 
 -- the nodes of the programs from a place on
-unfoldable nodesBehind : List Line → ℕ → List Node
-nodesBehind lines i = nodesFrom (programsBefore (codesOf lines) i) (programsOf (drop i lines))
+unfoldable nodesAfter : List Line → ℕ → List Node
+nodesAfter lines i = nodesFrom (programsBefore (codesOf lines) i) (programsOf (drop i lines))
 
 -- the program after a `pr` line
-unfoldable programBehind : List Line → ℕ → Program
-programBehind lines i =
+unfoldable programAfter : List Line → ℕ → Program
+programAfter lines i =
     record { body = runOf (length (codesOf lines) - (i + 1)) (drop (i + 1) lines) .run; links = linksOf (drop (suc i) lines) }
 
 -- the nodes that a line begins: those of its program at a `pr` line, else none
 unfoldable newNodes : List Line → ℕ → List Node
-newNodes lines i = cond (eqb (getD (codesOf lines) i 0) 3) (nodesOfProgram (programsBefore (codesOf lines) i) (programBehind lines i)) []
+newNodes lines i = cond (eqb (getD (codesOf lines) i 0) 3) (nodesOfProgram (programsBefore (codesOf lines) i) (programAfter lines i)) []
 
 -- the nodes that the lines before a place begin
 unfoldable nodesBefore : List Line → ℕ → List Node
@@ -175,9 +175,9 @@ programs-none l lines El e n = rw (e, programsOf)
 programs-none l lines En e n = rw (e, programsOf)
 programs-none l lines Li e n = rw (e, programsOf)
 
-new-behind : (lines : List Line) (i : ℕ) → i < length lines → nodesBehind lines i ≡ newNodes lines i ++ nodesBehind lines (suc i)
-unfolding nodesBehind nodesFrom programsBefore linePrograms newNodes programBehind codeOf
-new-behind lines i h = go (l .kind) refl
+new-after : (lines : List Line) (i : ℕ) → i < length lines → nodesAfter lines i ≡ newNodes lines i ++ nodesAfter lines (suc i)
+unfolding nodesAfter nodesFrom programsBefore linePrograms newNodes programAfter codeOf
+new-after lines i h = go (l .kind) refl
   where
     l : Line
     l = first-line lines i h .0
@@ -191,12 +191,12 @@ new-behind lines i h = go (l .kind) refl
     body-same : runOf (length (drop (suc i) lines)) (drop (suc i) lines) ≡ runOf (length (codesOf lines) - (i + 1)) (drop (i + 1) lines)
     body-same = rw (add-one, length-drop, length-codes)
 
-    other : (k : LineKind) → l .kind ≡ k → (codeOf k ≡ 3 → ⊥) → nodesBehind lines i ≡ newNodes lines i ++ nodesBehind lines (suc i)
+    other : (k : LineKind) → l .kind ≡ k → (codeOf k ≡ 3 → ⊥) → nodesAfter lines i ≡ newNodes lines i ++ nodesAfter lines (suc i)
     other k e n =
         let none : eqb (getD (codesOf lines) i 0) 3 ≡ false = ne-eqb (getD (codesOf lines) i 0) 3 (λ z. n (ap codeOf (sym e) ∙ sym c ∙ z)) in
         rw d (rw (programs-none l (drop (suc i) lines) k e n, none, programsBefore))
 
-    go : (k : LineKind) → l .kind ≡ k → nodesBehind lines i ≡ newNodes lines i ++ nodesBehind lines (suc i)
+    go : (k : LineKind) → l .kind ≡ k → nodesAfter lines i ≡ newNodes lines i ++ nodesAfter lines (suc i)
     go Pr e =
         rw d (rw (
           programs-there l (drop (suc i) lines) e,
@@ -215,28 +215,28 @@ new-behind lines i h = go (l .kind) refl
     go Li e = other Li e (λ z. omega arith)
 
 module _ (lines : List Line) where
-  nodes-parts : (i : ℕ) → i ≤ length lines → nodesOf lines ≡ nodesBefore lines i ++ nodesBehind lines i
-  unfolding nodesBefore nodesBehind programsBefore nodesOf
+  nodes-parts : (i : ℕ) → i ≤ length lines → nodesOf lines ≡ nodesBefore lines i ++ nodesAfter lines i
+  unfolding nodesBefore nodesAfter programsBefore nodesOf
   nodes-parts zero h = refl
   nodes-parts (suc i) h =
-      nodes-parts i (omega arith) ∙ rw (new-behind lines i (omega arith))
-      (sym (append-assoc (nodesBefore lines i) (newNodes lines i) (nodesBehind lines (suc i))))
+      nodes-parts i (omega arith) ∙ rw (new-after lines i (omega arith))
+      (sym (append-assoc (nodesBefore lines i) (newNodes lines i) (nodesAfter lines (suc i))))
 
   -- the nodes are those that all lines begin
   nodes-whole : nodesOf lines ≡ nodesBefore lines (length lines)
-  unfolding nodesBehind programsOf nodesFrom
+  unfolding nodesAfter programsOf nodesFrom
   nodes-whole = nodes-parts (length lines) (omega arith) ∙ rw drop-length (append-nil (nodesBefore lines (length lines)))
 
   -- a line's part in the totals
-  new-count : (i : ℕ) (t : Totals) → Alike (lineTotals (codesOf lines) i t .count) (t .count + length (newNodes lines i))
-  unfolding lineTotals newNodes countedBehind programBehind
+  new-count : (i : ℕ) (t : UnfoldingTotals) → Alike (lineTotals (codesOf lines) i t .count) (t .count + length (newNodes lines i))
+  unfolding lineTotals newNodes countedAfter programAfter
   new-count i t = go (eqb (getD (codesOf lines) i 0) 3)
     where
       left : ℕ
       left = length (codesOf lines) - (i + 1)
 
       program : List Node
-      program = nodesOfProgram (programsBefore (codesOf lines) i) (programBehind lines i)
+      program = nodesOfProgram (programsBefore (codesOf lines) i) (programAfter lines i)
 
       counts : countAt left (codesOf lines) (i + 1) .count ≡ cap (length program)
       counts = counts-run lines left (i + 1) .counts
@@ -251,15 +251,15 @@ module _ (lines : List Line) where
       go true = plus-alike (alike-refl (t .count)) (stopped counts)
       go false = rw add-zero (alike-refl (t .count))
 
-  new-statements : (i : ℕ) (t : Totals) → Alike (lineTotals (codesOf lines) i t .statements) (t .statements + statementsIn (newNodes lines i))
-  unfolding lineTotals newNodes countedBehind programBehind statementsIn
+  new-statements : (i : ℕ) (t : UnfoldingTotals) → Alike (lineTotals (codesOf lines) i t .statements) (t .statements + statementsIn (newNodes lines i))
+  unfolding lineTotals newNodes countedAfter programAfter statementsIn
   new-statements i t = go (eqb (getD (codesOf lines) i 0) 3)
     where
       left : ℕ
       left = length (codesOf lines) - (i + 1)
 
       program : List Node
-      program = nodesOfProgram (programsBefore (codesOf lines) i) (programBehind lines i)
+      program = nodesOfProgram (programsBefore (codesOf lines) i) (programAfter lines i)
 
       states : countAt left (codesOf lines) (i + 1) .statements ≡ cap (statementsIn program)
       states = counts-run lines left (i + 1) .states
@@ -314,7 +314,7 @@ module _ (P : ℕ → List Line → Type 0) (Word : ℕ → Statement → ℕ �
     (fit : (number : ℕ) → Tables (P number) (Word number) mark lines words marks) (along : AlongPrograms P lines) where
   new-pieces : (i : ℕ) → length (newNodes lines i) ≤ 512
       → PiecesFor Word mark (newNodes lines i) (linePieces (codesOf lines) words marks i (programsBefore (codesOf lines) i))
-  unfolding newNodes linePieces countedBehind programBehind PiecesFor
+  unfolding newNodes linePieces countedAfter programAfter PiecesFor
   new-pieces i = go (eqb (getD (codesOf lines) i 0) 3) refl
     where
       number : ℕ
@@ -327,7 +327,7 @@ module _ (P : ℕ → List Line → Type 0) (Word : ℕ → Statement → ℕ �
       links = linksOf (drop (suc i) lines)
 
       program : List Node
-      program = nodesOfProgram number (programBehind lines i)
+      program = nodesOfProgram number (programAfter lines i)
 
       rows : List Piece
       rows = tabulate (row number (codesOf lines) words marks (i + 1) left) 0 (countAt left (codesOf lines) (i + 1) .count)

@@ -2,7 +2,7 @@
 use mathlib.Core.Bool.{Bool, true, false, cond, _||_}
 use mathlib.Core.List.{List, [], _∷_, _++_, map, append-assoc, append-nil, map-append}
 use mathlib.Core.Path.{_≡_, refl, sym, ap, _∙_}
-use Prim.Native.Nat.{ℕ, suc, _+_, _*_}
+use Prim.Native.Nat.{ℕ, suc}
 use native.Mathlib.Omega.{arith}
 use lib.Bits.{bitOr, or-zero-l, or-zero-r}
 use lib.ListN.{length}
@@ -12,6 +12,7 @@ use Rattle.law_base.specs.SetLaws.{has-equal, has-bitOr}
 use Rattle.spec_graph.specs.Program.{Statement}
 use Rattle.spec_graph.specs.Unfolding.{Around, Occurrence, inside}
 use Rattle.spec_graph.specs.Edge.{leads}
+use Rattle.unfold_laws.specs.WordCode.{packed}
 use Rattle.unfold_laws.specs.PlaceWords.{shown, PlaceWords, Later}
 
 pub or-assoc : (x y z : ℕ) → bitOr (bitOr x y) z ≡ bitOr x (bitOr y z)
@@ -63,9 +64,9 @@ module _ (mark : Statement → ℕ) where
   shown-apart i t (p ∷ before) path h = rw (h (p .path), shown-apart i t before path h) (or-zero-l 0)
 
   -- nothing of a block is seen apart from it
-  pub behind-apart : (i t : ℕ) (before inner : List Occurrence) (path : List Around) → Apart i t path
+  pub after-apart : (i t : ℕ) (before inner : List Occurrence) (path : List Around) → Apart i t path
       → shown mark (before ++ map (inside i t) inner) path ≡ shown mark before path
-  behind-apart i t before inner path h =
+  after-apart i t before inner path h =
       shown-append before (map (inside i t) inner) path ∙ rw (shown-apart i t inner path h) (or-zero-r (shown mark before path))
 
 module _ (Word : Statement → ℕ → Type 0) (mark : Statement → ℕ) where
@@ -97,7 +98,7 @@ module _ (Word : Statement → ℕ → Type 0) (mark : Statement → ℕ) where
     inside-from first [] (w ∷ words) h = absurd h
     inside-from first (o ∷ places) [] h = absurd h
     inside-from first (o ∷ places) (w ∷ words) h = (
-      record { own = h .0 .own; fits = h .0 .fits; whole = h .0 .whole ∙ ap (λ (x : ℕ). h .0 .own + x * 2048) (sym seen-there) },
+      record { own = h .0 .own; fits = h .0 .fits; whole = h .0 .whole ∙ ap (packed (h .0 .own)) (sym seen-there) },
       rw (← further) (inside-from (first ++ (o ∷ [])) places words (h .1)),
     )
       where

@@ -16,6 +16,7 @@ use Rattle.spec_text.specs.declared.StatementKind.{StatementKind}
 use Rattle.spec_graph.specs.Program.{Statement, statementOf}
 use Rattle.spec_graph.specs.Unfolding.{Around, Occurrence, Node}
 use Rattle.spec_graph.specs.Edge.{leads}
+use Rattle.unfold_laws.specs.WordCode.{packed, lineIn, seenIn, unpacked}
 use Rattle.unfold_laws.specs.Codes.{codeOf, idsOf, markIn, bitIn, marksOf}
 use Rattle.unfold_laws.specs.Seen.{markOf, seenAt, statementIn, statementOn, NodeWords, WordsFor}
 use Rattle.unfold_laws.specs.PlaceWords.{shown, PlaceWords}
@@ -128,14 +129,17 @@ place-words lines before [] (w ∷ words) h = absurd h
 place-words lines before (o ∷ places) [] h = absurd h
 place-words lines before (o ∷ places) (w ∷ words) h = (
   record {
-    line = ap (statementOn lines) (omega (arith, whole, h .0 .fits .small)) ∙ h .0 .fits .there;
-    seen = omega (arith, whole, h .0 .fits .small);
+    line = ap (statementOn lines) (ap lineIn whole ∙ parts .0) ∙ h .0 .fits .there;
+    seen = ap seenIn whole ∙ parts .1;
   },
   place-words lines (before ++ (o ∷ [])) places words (h .1),
 )
   where
-    whole : w ≡ h .0 .own + seenAt before o * 2048
+    whole : w ≡ packed (h .0 .own) (seenAt before o)
     whole = h .0 .whole ∙ rw (shown-seen before o, or-zero-l)
+
+    parts : (lineIn (packed (h .0 .own) (seenAt before o)) ≡ h .0 .own) × (seenIn (packed (h .0 .own) (seenAt before o)) ≡ seenAt before o)
+    parts = unpacked (h .0 .own) (seenAt before o) (h .0 .fits .small)
 
 -- a statement's own line in a program is its word
 pub record OwnWord (lines : List Line) (number : ℕ) (s : Statement) (own : ℕ) : Type 0 where
@@ -177,8 +181,8 @@ own-words lines number before (o ∷ places) [] h = absurd h
 own-words lines number before (o ∷ places) (w ∷ words) h =
     ap₂ (λ (x : ℕ) (l : List ℕ). x ∷ l) word (own-words lines number (before ++ (o ∷ [])) places words (h .1))
   where
-    word : w ≡ ownLine lines number (o .statement .id) + seenAt before o * 2048
-    word = h .0 .whole ∙ rw (shown-seen before o, or-zero-l (seenAt before o)) (ap (λ (x : ℕ). x + seenAt before o * 2048) (h .0 .fits .same))
+    word : w ≡ packed (ownLine lines number (o .statement .id)) (seenAt before o)
+    word = h .0 .whole ∙ rw (shown-seen before o, or-zero-l (seenAt before o)) (ap (λ (x : ℕ). packed x (seenAt before o)) (h .0 .fits .same))
 
 pub flat-own : (lines : List Line) (nodes : List Node) (pieces : List Piece) → PiecesFor (OwnWord lines) markOf nodes pieces
     → flat pieces ≡ placeWords lines nodes

@@ -4,7 +4,7 @@ use mathlib.Core.Bool.{cond, _&&_}
 use mathlib.Core.List.{List, [], _∷_, _++_}
 use mathlib.Core.Option.{Option, none, some}
 use mathlib.Core.Path.{_≡_}
-use Prim.Native.Nat.{ℕ, _^_, _/_, _%_}
+use Prim.Native.Nat.{ℕ, _^_}
 use lib.Bits.{bitOr}
 use lib.Dec.{ltb}
 use lib.ListN.{length, getElem?, take, drop}
@@ -14,6 +14,7 @@ use Rattle.spec_text.specs.declared.LineKind.the-variants.{Rl, Fk, Pr, St, Lo, 
 use Rattle.spec_graph.specs.Program.{Statement, statementOf}
 use Rattle.spec_graph.specs.Unfolding.{Occurrence, Node}
 use Rattle.spec_graph.specs.Edge.{shields, leads}
+use Rattle.unfold_laws.specs.WordCode.{lineIn, seenIn}
 
 -- E3: the mark of a statement: the bit of its id where its kind shields; the ids of an accepted workload are below 32
 unfoldable pub markOf : Statement → ℕ
@@ -43,8 +44,8 @@ statementOn lines i = elim (getElem? lines i) [ none ↦ none | some l ↦ state
 -- a word stands for a place, with the occurrences before it: its line holds the place's statement, and it has what is seen there.
 -- This is a law of the words that are written (`placeWords`), for those who use a line only for what its statement says.
 pub record StandsFor (lines : List Line) (before : List Occurrence) (o : Occurrence) (word : ℕ) : Type 0 where
-  pub line : statementOn lines (word % 2048) ≡ some (o .statement)
-  pub seen : word / 2048 ≡ seenAt before o
+  pub line : statementOn lines (lineIn word) ≡ some (o .statement)
+  pub seen : seenIn word ≡ seenAt before o
 
 -- one word for each of these places, which have the occurrences `before` before them
 unfoldable pub NodeWords : List Line → List Occurrence → List Occurrence → List ℕ → Type 0

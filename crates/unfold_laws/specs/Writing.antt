@@ -1,13 +1,14 @@
 -- The words of unfolding number k of a run of lines, over the numbers of the lines and two tables: each line's word and each line's mark.
--- A statement's place gets its line's word and, from 2048 on, what is seen there: the marks of the statements before it in its run and in the
+-- A statement's place gets its line's word and what is seen there: the marks of the statements before it in its run and in the
 -- runs around.
 use mathlib.Core.Bool.{cond}
 use mathlib.Core.List.{List, [], _∷_, _++_}
-use Prim.Native.Nat.{ℕ, zero, suc, _+_, _*_, _-_, _/_, _%_}
+use Prim.Native.Nat.{ℕ, zero, suc, _+_, _-_, _/_, _%_}
 use lib.Bits.{bitOr}
 use lib.Dec.{eqb, leb, ltb}
 use lib.ListN.{length, getD}
 use Rattle.unfold_laws.specs.declared.Counted.{Counted}
+use Rattle.unfold_laws.specs.WordCode.{packed}
 use Rattle.unfold_laws.specs.Codes.{after, itemAt, countAt}
 
 -- a loop's: no turn, one turn of each, two turns of each
@@ -35,5 +36,5 @@ writeAt (suc n) codes words marks seen at k =
     cond (leb (length codes) at) []
     (cond (ltb 2 (getD codes at 0)) []
     (cond (eqb (getD codes at 0) 0)
-    ((getD words at 0 + seen * 2048) ∷ writeAt n codes words marks (bitOr seen (getD marks at 0)) (at + 1) k)
+    (packed (getD words at 0) seen ∷ writeAt n codes words marks (bitOr seen (getD marks at 0)) (at + 1) k)
     (writeBlock (writeAt n codes words marks seen) (countAt n codes) codes at (k / c) ++ writeAt n codes words marks seen more (k % c))))

@@ -19,6 +19,7 @@ use Rattle.spec_graph.specs.Program.{Statement, Item, Run, runOf, behind, state
 use Rattle.spec_graph.specs.Program.Item.{statement, loop, branch}
 use Rattle.spec_graph.specs.Unfolding.{Around, Occurrence, inside}
 use Rattle.spec_graph.specs.Edge.{leads}
+use Rattle.unfold_laws.specs.WordCode.{packed}
 use Rattle.unfold_laws.specs.declared.Counted.{Counted}
 use Rattle.unfold_laws.specs.Cap.{cap-small}
 use Rattle.unfold_laws.specs.Choosing.{countRun, countItem, choose, chooseItem}
@@ -45,7 +46,7 @@ use Rattle.unfold_laws.specs.PlaceWordsLaws.{
   later-less,
   shown-append,
   shown-apart,
-  behind-apart,
+  after-apart,
   words-append,
   words-inside,
 }
@@ -79,9 +80,9 @@ module _ (Word : Statement → ℕ → Type 0) (mark : Statement → ℕ) where
   unfolding Later
   sees-turn seen all i t before h path = h (around i t ∷ path) (omega arith)
 
-  sees-behind : (seen all i m : ℕ) (before new : List Occurrence) → Sees seen before i all
+  sees-after : (seen all i m : ℕ) (before new : List Occurrence) → Sees seen before i all
       → ((path : List Around) → Later (suc i) path → shown mark new path ≡ m) → Sees seen (before ++ new) (suc i) (bitOr all m)
-  sees-behind seen all i m before new h g path later =
+  sees-after seen all i m before new h g path later =
       ap (bitOr seen) (shown-append mark before new path)
       ∙ rw (g path later, ← h path (later-less i path later)) (sym (or-assoc seen (shown mark before path) m))
 
@@ -103,7 +104,7 @@ module _ (Word : Statement → ℕ → Type 0) (mark : Statement → ℕ) where
       go true t = refl
       go false true = shown-apart mark i 0 (choose r 0 (k - 1)) path (apart-later i 0 path h)
       go false false =
-          behind-apart mark i 1 (map (inside i 0) (choose r 0 ((k - 1 - countRun r) / countRun r)))
+          after-apart mark i 1 (map (inside i 0) (choose r 0 ((k - 1 - countRun r) / countRun r)))
           (choose r 0 ((k - 1 - countRun r) % countRun r)) path (apart-later i 1 path h)
           ∙ shown-apart mark i 0 (choose r 0 ((k - 1 - countRun r) / countRun r)) path (apart-later i 0 path h)
 
@@ -117,10 +118,10 @@ module _ (Word : Statement → ℕ → Type 0) (mark : Statement → ℕ) where
 
   -- a statement's place
   statement-written : (s : Statement) (i k seen all : ℕ) (before : List Occurrence) (own : ℕ) → Word s own → Sees seen before i all
-      → PlaceWords Word mark seen before (chooseItem (statement s) i k) ((own + all * 2048) ∷ [])
+      → PlaceWords Word mark seen before (chooseItem (statement s) i k) (packed own all ∷ [])
   unfolding choose PlaceWords Later
   statement-written s i k seen all before own w h =
-      (record { own = own; fits = w; whole = ap (λ (x : ℕ). own + x * 2048) (sym (h [] _)) }, _)
+      (record { own = own; fits = w; whole = ap (packed own) (sym (h [] _)) }, _)
 
   -- a loop over a body whose words are written, a branch of two arms whose words are written
   loop-written : (r : Run) (i k seen all : ℕ) (before : List Occurrence) (body : ℕ → List ℕ) → Sees seen before i all
@@ -136,7 +137,7 @@ module _ (Word : Statement → ℕ → Type 0) (mark : Statement → ℕ) where
           → PlaceWords Word mark seen (before ++ map (inside i 0) (choose r 0 m)) (map (inside i 1) (choose r 0 j)) (body j)
       two m j p =
           words-inside Word mark seen all i 1 (before ++ map (inside i 0) (choose r 0 m))
-          (λ path. ap (bitOr seen) (behind-apart mark i 0 before (choose r 0 m) (around i 1 ∷ path)
+          (λ path. ap (bitOr seen) (after-apart mark i 0 before (choose r 0 m) (around i 1 ∷ path)
           (apart-turn i 0 1 path (λ (z : 0 ≡ 1). omega arith))) ∙ sees-turn seen all i 1 before h path)
           (choose r 0 j) (body j) (g j p)
 
@@ -184,7 +185,7 @@ module _ (codes words marks : List ℕ) (seen at k : ℕ) where
 
   pub write-statement : (n : ℕ) → at < length codes → getD codes at 0 ≡ 0
       → writeAt (suc n) codes words marks seen at k
-      ≡ (getD words at 0 + seen * 2048) ∷ writeAt n codes words marks (bitOr seen (getD marks at 0)) (at + 1) k
+      ≡ packed (getD words at 0) seen ∷ writeAt n codes words marks (bitOr seen (getD marks at 0)) (at + 1) k
   unfolding writeAt
   write-statement n h c =
       simp (lt-leb (length codes) at h, le-ltb 2 (getD codes at 0) (omega arith), eq-eqb (getD codes at 0) 0 c)
@@ -276,7 +277,7 @@ module _ (P : List Line → Type 0) (Word : Statement → ℕ → Type 0) (mark 
       let first = statement-written Word mark s i (k / countRun r) seen all before (getD words at 0) word sees in
       let then = onward (at + 1) (suc i) k seen (bitOr all (getD marks at 0)) (before ++ chooseItem (statement s) i (k / countRun r)) along
       (omega (arith, one-mul (countRun r))) (omega (arith, one-mul (countRun r)))
-      (sees-behind Word mark seen all i (getD marks at 0) before (chooseItem (statement s) i (k / countRun r)) sees
+      (sees-after Word mark seen all i (getD marks at 0) before (chooseItem (statement s) i (k / countRun r)) sees
       (λ path later. statement-seen Word mark s i (k / countRun r) path ∙ sym marked)) in
       rw (write-statement codes words marks all at k n p c, run, same)
       (words-append Word mark seen before (chooseItem (statement s) i (k / countRun r)) (choose r (suc i) k) _ _ first then)
@@ -305,7 +306,7 @@ module _ (P : List Line → Type 0) (Word : Statement → ℕ → Type 0) (mark 
       let first = item (k / countRun r) (left-small (countItem x) (countRun r) (run-counts r) whole) (div-lt-iff-lt-mul (run-counts r) .1 inside) in
       let then = onward more (suc i) (k % countRun r) seen all (before ++ chooseItem x i (k / countRun r)) (rw (← d) along) r-small
       (rw same (mod-lt k (run-counts r)))
-      (rw or-zero-r at (sees-behind Word mark seen all i 0 before (chooseItem x i (k / countRun r)) sees (unseen (k / countRun r)))) in
+      (rw or-zero-r at (sees-after Word mark seen all i 0 before (chooseItem x i (k / countRun r)) sees (unseen (k / countRun r)))) in
       rw (write-block codes words marks all at k n p c b, c-exact, run)
       (words-append Word mark seen before (chooseItem x i (k / countRun r)) (choose r (suc i) (k % countRun r)) _ _ first (rw same at then))
 

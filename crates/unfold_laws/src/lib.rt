@@ -8,7 +8,7 @@ pub struct Counted {
 }
 
 // The unfoldings of the programs so far, and the statements in them.
-pub struct Totals {
+pub struct UnfoldingTotals {
     pub count: u64,
     pub statements: u64,
 }
@@ -21,3 +21,17 @@ pub struct UnfoldingTable {
     pub start: [u64; 64],
     pub length: [u64; 64],
 }
+
+// The codes of lines: a statement, `lo`, `br`, `pr`, and every other kind.
+pub const STATEMENT: u8 = 0;
+
+pub const LOOP: u8 = 1;
+
+pub const BRANCH: u8 = 2;
+
+pub const PROGRAM: u8 = 3;
+
+pub const NO_ITEM: u8 = 4;
+
+// The word of a place is the number of its line, which is below this, and this times what is seen there.
+pub const WORD_LINES: u64 = 2048;

@@ -14,6 +14,7 @@ use Rattle.unfold_laws.specs.Along.{OwnHere}
 use Rattle.unfold_laws.specs.PlacesLaws.{IdWord, noMark, AnyLines, any-along, id-tables, id-words, LineWord, place-tables, place-words}
 use Rattle.unfold_laws.specs.PlacesLaws.{OwnWord, own-tables, own-words}
 use Rattle.unfold_laws.specs.Seen.{markOf}
+use Rattle.unfold_laws.specs.WordCode.{packed}
 use Rattle.unfold_laws.specs.Writing.{writeLoop, writeBranch, writeBlock, writeAt}
 use Rattle.unfold_laws.specs.WritingLaws.{written-whole, write-past, write-stop, write-statement, write-block, write-loop, write-branch}
 use Rattle.unfold_count.specs.Counted.{PlaceCounted, RunCounted, placeAt}
@@ -61,7 +62,7 @@ module _ (codes words marks : List ℕ) (seen at k : ℕ) (before : List ℕ) wh
 
   module _ (m : ℕ) (mid : List ℕ) (n : ℕ) (end : List ℕ) where
     pub run-statement : (left word mark : ℕ) → (left ≡ 0 → ⊥) → at < length codes → getD codes at 0 ≡ 0
-        → word ≡ getD words at 0 + seen * 2048 → mark ≡ getD marks at 0
+        → word ≡ packed (getD words at 0) seen → mark ≡ getD marks at 0
         → Laid (word ∷ []) before m mid
         → RunLaid (left - 1) codes words marks (bitOr seen mark) (at + 1) k (take (length mid - m) (drop m mid)) n end
         → RunLaid left codes words marks seen at k before (m + n) (putMid m (length mid - m) mid end)

@@ -1,31 +1,36 @@
 // The words of one unfolding of a run, by its number, laid over a lent area.
 
-use unfold_count::behind;
+use unfold_bounds::line_after;
 use unfold_count::count_place;
 use unfold_count::count_run;
+use unfold_laws::BRANCH;
+use unfold_laws::LOOP;
+use unfold_laws::STATEMENT;
+use unfold_laws::WORD_LINES;
 ghost use mathlib.Core.List.{[], _∷_};
 ghost use mathlib.Core.Path.{_≡_};
-ghost use Prim.Native.Nat.{_+_, _*_, _<_};
+ghost use Prim.Native.Nat.{_<_};
 ghost use lib.ListN.{length, getD};
 ghost use Rattle.unfold_laws.specs.Codes.{countAt};
+ghost use Rattle.unfold_laws.specs.WordCode.{packed};
 ghost use Rattle.unfold_laws.specs.Writing.{writeBlock, writeAt};
 ghost use Rattle.unfold_write.specs.Laid.{Laid, RunLaid};
 
 // A line's word with what is seen there.
-fn word_with(word: u16, seen: u32) -> u64
-    ensures { λ r. ⌜ r ≡ word + seen * 2048 ⌝ }
+fn packed_word(word: u16, seen: u32) -> u64
+    ensures { λ r. ⌜ r ≡ packed word seen ⌝ }
 {
-    word as u64 + seen as u64 * 2048
+    word as u64 + seen as u64 * WORD_LINES
 }
 
 // The word at a place; a line that the table lacks has the word 0.
-fn word_at(words: &[u16], at: usize, seen: u32) -> u64
-    ensures { λ r. ⌜ r ≡ getD (now (words .entry)) at 0 + seen * 2048 ⌝ }
+fn place_word(words: &[u16], at: usize, seen: u32) -> u64
+    ensures { λ r. ⌜ r ≡ packed (getD (now (words .entry)) at 0) seen ⌝ }
 {
     if words.len() <= at {
-        return word_with(0, seen);
+        return packed_word(0, seen);
     }
-    word_with(words[at], seen)
+    packed_word(words[at], seen)
 }
 
 // The mark at a place; a line that the table lacks has none.
@@ -51,7 +56,7 @@ fn lay_word(word: u64, out: &mut [u64]) -> usize
 
 // Lays the words of unfolding number k of the run at a place over an area, as far as it reaches; answers how many found room.
 // The leftmost choice changes slowest: a block takes the quotient by what the run after it counts, that run the remainder.
-// Behind a statement its mark is seen too; what is seen inside a block is not seen after it.
+// After a statement its mark is seen too; what is seen inside a block is not seen after it.
 pub fn write_run(
     codes: &[u8],
     words: &[u16],
@@ -71,11 +76,11 @@ pub fn write_run(
     if codes.len() <= at {
         return 0;
     }
-    if codes[at] > 2 {
+    if codes[at] > BRANCH {
         return 0;
     }
-    if codes[at] == 0 {
-        let one = lay_word(word_at(words, at, seen), out);
+    if codes[at] == STATEMENT {
+        let one = lay_word(place_word(words, at, seen), out);
         return one
             + write_run(
                 codes,
@@ -122,7 +127,7 @@ fn write_block(
 {
     let body = count_run(codes, at + 1, left);
     let n = body.count;
-    if codes[at] == 1 {
+    if codes[at] == LOOP {
         if k == 0 {
             return 0;
         }
@@ -151,7 +156,7 @@ fn write_block(
         words,
         marks,
         seen,
-        behind(codes.len(), body.end),
+        line_after(codes.len(), body.end),
         left,
         k - n,
         out,

@@ -1,4 +1,4 @@
--- The first words that `lines_in` gives are the workload's lines, so programs and rows are taken from them as `FilledBy` says (filled-by).
+-- The first words that `line_table` gives are the workload's lines, so programs and rows are taken from them as `FilledBy` says (filled-by).
 use Rattle.place_table.proofs.FillLaws.{lines-part, filled-by}
 use native.Mathlib.Omega.{arith}
 use mathlib.Core.Path.{_≡_, refl, ap, sym, _∙_}
@@ -9,15 +9,15 @@ use Rattle.place_table.proofs.fill_table.Statement.{statement}
 use Rattle.place_table.proofs.fill_table.Tie as tie
 use Rattle.place_table.proofs.fill_table.Reads as reads
 use Rattle.place_table.proofs.fill_table.Lts as lts
-use Rattle.place_table.proofs.lines_in.Reads as lines-in-reads
-use Rattle.place_table.proofs.programs_in.Reads as programs-in-reads
+use Rattle.value_tables.proofs.line_table.Reads as line-table-reads
+use Rattle.place_keys.proofs.programs_in.Reads as programs-in-reads
 use Rattle.place_table.proofs.put_nodes.Reads as put-nodes-reads
 
 mul-n : tie.Need-mul-n
 mul-n c = search needs
 
-lines-in-requires : tie.Need-lines-in-requires
-lines-in-requires c κs = search needs
+line-table-requires : tie.Need-line-table-requires
+line-table-requires c κs = search needs
 
 array-share-prefix-lines : tie.Need-array-share-prefix-lines
 array-share-prefix-lines c = search needs
@@ -25,7 +25,7 @@ array-share-prefix-lines c = search needs
 slice-aggregate-programs-in : tie.Need-slice-aggregate-programs-in
 slice-aggregate-programs-in c =
     let entry = c .before .before .before .before .before .before .before in
-    lines-part (entry .args .w) _ (c .before .lines-in .ensures .1) (entry .pre .1)
+    lines-part (entry .args .w) _ (c .before .line-table .ensures .1) (entry .pre .1)
 
 programs-in-requires : tie.Need-programs-in-requires
 programs-in-requires c κs = search needs
@@ -37,7 +37,7 @@ slice-aggregate-put-nodes : tie.Need-slice-aggregate-put-nodes
 slice-aggregate-put-nodes c =
     let c4 = c .before .before .before .before in
     let entry = c4 .before .before .before .before .before .before in
-    lines-part (entry .args .w) _ (c4 .lines-in .ensures .1) (entry .pre .1)
+    lines-part (entry .args .w) _ (c4 .line-table .ensures .1) (entry .pre .1)
 
 slice-aggregate-put-nodes-2 : tie.Need-slice-aggregate-put-nodes-2
 slice-aggregate-put-nodes-2 c = search needs
@@ -53,7 +53,7 @@ returns c =
     let c7 = c .before .before .before .before .before .before .before in
     let c9 = c7 .before .before in
     let entry = c9 .before .before .before .before .before .before in
-    filled-by (entry .args .w) _ (c9 .lines-in .ensures .0) _ _ _ _ _ _ (c7 .programs-in .ensures) _
+    filled-by (entry .args .w) _ (c9 .line-table .ensures .0) _ _ _ _ _ _ (c7 .programs-in .ensures) _
     (c .before .before .put-nodes .ensures .1) _ (c .before .before .put-nodes .ensures .0)
 
 pub fill-table-spec : {M : Type 1} → statement M
@@ -61,7 +61,7 @@ fill-table-spec =
     tie.close
     (tie.spec
     mul-n
-    lines-in-requires
+    line-table-requires
     array-share-prefix-lines
     slice-aggregate-programs-in
     programs-in-requires

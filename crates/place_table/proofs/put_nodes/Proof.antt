@@ -1,7 +1,8 @@
 -- After j nodes their rows stand from the table's start on and `at` is how many they are; the next node's rows follow them (total-next,
 -- all-next), and they have room since those of all nodes do (all-room).
 use Rattle.place_table.proofs.PutRowLaws.{all-start, total-none, total-next, all-room, all-next, all-same, all-end}
-use Rattle.place_table.specs.RowWords.{putAt, allRows, totalOf}
+use Rattle.word_rows.specs.Put.{putAt}
+use Rattle.place_table.specs.RowWords.{allRows, totalOf}
 use borrow.Author.Needs.{needs}
 use native.Mathlib.Omega.{arith}
 use mathlib.Core.Path.{_≡_, refl, ap, sym, _∙_}

@@ -1,6 +1,6 @@
 -- The words read are those of the place's line and the keys those of its links; together they are the eight words of the row (row-words).
 use Rattle.place_table.proofs.PutRowLaws.{row-words}
-use Rattle.place_table.specs.RowWords.{putAt}
+use Rattle.word_rows.specs.Put.{putAt, row-put}
 use native.Mathlib.Omega.{arith}
 use mathlib.Core.Path.{_≡_, refl, ap, sym, _∙_}
 use Prim.Native.Nat.{ℕ, _+_, _-_, _*_, _≤_, _<_}
@@ -10,8 +10,8 @@ use Rattle.place_table.proofs.put_place.Statement.{statement}
 use Rattle.place_table.proofs.put_place.Tie as tie
 use Rattle.place_table.proofs.put_place.Reads as reads
 use Rattle.place_table.proofs.put_place.Lts as lts
-use Rattle.place_table.proofs.keys_from.Reads as keys-from-reads
-use Rattle.place_table.proofs.put.Reads as put-reads
+use Rattle.place_keys.proofs.keys_from.Reads as keys-from-reads
+use Rattle.word_rows.proofs.put_row.Reads as put-row-reads
 use Rattle.word_list.proofs.word_at.Reads as word-at-reads
 
 mul-l : tie.Need-mul-l
@@ -53,8 +53,8 @@ add-word-at-5 c = search needs
 word-at-requires-6 : tie.Need-word-at-requires-6
 word-at-requires-6 c κs = search needs
 
-put-requires : tie.Need-put-requires
-put-requires c κs = search needs
+put-row-requires : tie.Need-put-row-requires
+put-row-requires c κs = search needs
 
 same-length : tie.Need-same-length
 same-length c = search needs
@@ -68,12 +68,11 @@ returns c =
     let c7 = c6 .before in
     let c9 = c7 .before .before in
     let c10 = c9 .before in
-    let entry = c10 .before .before .before in (
-      c .before .before .put .ensures .0 ∙ ap (putAt (entry .args .table .now) (entry .args .at))
-          (row-words (entry .args .lines .now) _ _ _ _ _ _ _ _ _ _ _ (c10 .word-at .ensures) (c9 .keys-from .ensures) (c7 .word-at2 .ensures)
-          (c6 .word-at3 .ensures) (c5 .word-at4 .ensures) (c4 .word-at5 .ensures) (c3 .word-at6 .ensures)),
-      c .before .before .put .ensures .1,
-    )
+    let entry = c10 .before .before .before in
+    c .before .before .put-row .ensures ∙ row-put (entry .args .table .now) (entry .args .at) _ (entry .pre)
+    ∙ ap (putAt (entry .args .table .now) (entry .args .at))
+    (row-words (entry .args .lines .now) _ _ _ _ _ _ _ _ _ _ _ (c10 .word-at .ensures) (c9 .keys-from .ensures) (c7 .word-at2 .ensures)
+    (c6 .word-at3 .ensures) (c5 .word-at4 .ensures) (c4 .word-at5 .ensures) (c3 .word-at6 .ensures))
 
 pub put-place-spec : {M : Type 1} → statement M
 put-place-spec =
@@ -92,6 +91,6 @@ put-place-spec =
     word-at-requires-5
     add-word-at-5
     word-at-requires-6
-    put-requires
+    put-row-requires
     same-length
     returns)

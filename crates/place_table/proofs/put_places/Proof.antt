@@ -1,7 +1,8 @@
 -- After i places their rows stand from the node's first one on; each turn puts the row of the next place after them (rows-next), up to the last
 -- (rows-end).
 use Rattle.place_table.proofs.PutRowLaws.{rows-start, rows-room, rows-next, rows-same, rows-end}
-use Rattle.place_table.specs.RowWords.{putAt, nodeRows}
+use Rattle.word_rows.specs.Put.{putAt}
+use Rattle.place_table.specs.RowWords.{nodeRows}
 use borrow.Author.Needs.{needs}
 use native.Mathlib.Omega.{arith}
 use mathlib.Core.Path.{_≡_, refl, ap, sym, _∙_}
@@ -55,7 +56,7 @@ loop-again c =
     let c10 = c6 .before .before .before .before in (
       search needs,
       rows-next _ _ _ _ _ _ _ (c10 .pre) _ _ (c5 .loop-test .taken) (c6 .loop .inv .1) _ (c4 .word-at .ensures) _
-          (c .before .before .put-place .ensures .0),
+          (c .before .before .put-place .ensures),
     )
 
 add-result : tie.Need-add-result Inv-loop μ-loop

@@ -22,7 +22,7 @@ use Rattle.unfold.proofs.unfold.Tie as tie
 use Rattle.unfold.proofs.unfold.Reads as reads
 use Rattle.unfold.proofs.unfold.Lts as lts
 use Rattle.value_given.proofs.is_given.Reads as is-given-reads
-use Rattle.unfold_tables.proofs.id_tables.Reads as id-tables-reads
+use Rattle.value_tables.proofs.id_tables.Reads as id-tables-reads
 use Rattle.unfold.proofs.refused.Reads as refused-reads
 use Rattle.unfold.proofs.unfold_tables.Reads as unfold-tables-reads
 

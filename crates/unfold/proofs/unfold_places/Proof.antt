@@ -24,7 +24,7 @@ use Rattle.unfold.proofs.unfold_places.Tie as tie
 use Rattle.unfold.proofs.unfold_places.Reads as reads
 use Rattle.unfold.proofs.unfold_places.Lts as lts
 use Rattle.value_given.proofs.is_given.Reads as is-given-reads
-use Rattle.unfold_tables.proofs.place_tables.Reads as place-tables-reads
+use Rattle.value_tables.proofs.place_tables.Reads as place-tables-reads
 use Rattle.unfold.proofs.refused.Reads as refused-reads
 use Rattle.unfold.proofs.unfold_tables.Reads as unfold-tables-reads
 

@@ -9,7 +9,7 @@ use Rattle.unfold_count.proofs.count_arms.Statement.{statement}
 use Rattle.unfold_count.proofs.count_arms.Tie as tie
 use Rattle.unfold_count.proofs.count_arms.Reads as reads
 use Rattle.unfold_count.proofs.count_arms.Lts as lts
-use Rattle.unfold_count.proofs.behind.Reads as behind-reads
+use Rattle.unfold_bounds.proofs.line_after.Reads as line-after-reads
 use Rattle.unfold_count.proofs.sum.Reads as sum-reads
 
 sum-requires : tie.Need-sum-requires
@@ -18,12 +18,12 @@ sum-requires c κs = search needs
 sum-requires-2 : tie.Need-sum-requires-2
 sum-requires-2 c κs = search needs
 
-behind-requires : tie.Need-behind-requires
-behind-requires c κs = search needs
+line-after-requires : tie.Need-line-after-requires
+line-after-requires c κs = search needs
 
 returns : tie.Need-returns
 returns c =
-    branch-made _ _ _ _ _ _ (c .before .before .sum .ensures) (c .before .sum2 .ensures) (c .behind .ensures)
+    branch-made _ _ _ _ _ _ (c .before .before .sum .ensures) (c .before .sum2 .ensures) (c .line-after .ensures)
 
 pub count-arms-spec : {M : Type 1} → statement M
-count-arms-spec = tie.close (tie.spec sum-requires sum-requires-2 behind-requires returns)
+count-arms-spec = tie.close (tie.spec sum-requires sum-requires-2 line-after-requires returns)

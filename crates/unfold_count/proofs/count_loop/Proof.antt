@@ -9,7 +9,7 @@ use Rattle.unfold_count.proofs.count_loop.Statement.{statement}
 use Rattle.unfold_count.proofs.count_loop.Tie as tie
 use Rattle.unfold_count.proofs.count_loop.Reads as reads
 use Rattle.unfold_count.proofs.count_loop.Lts as lts
-use Rattle.unfold_count.proofs.behind.Reads as behind-reads
+use Rattle.unfold_bounds.proofs.line_after.Reads as line-after-reads
 use Rattle.unfold_count.proofs.product.Reads as product-reads
 use Rattle.unfold_count.proofs.sum.Reads as sum-reads
 
@@ -34,8 +34,8 @@ sum-requires-3 c κs = search needs
 sum-requires-4 : tie.Need-sum-requires-4
 sum-requires-4 c κs = search needs
 
-behind-requires : tie.Need-behind-requires
-behind-requires c κs = search needs
+line-after-requires : tie.Need-line-after-requires
+line-after-requires c κs = search needs
 
 returns : tie.Need-returns
 returns c =
@@ -45,7 +45,7 @@ returns c =
     let c6 = c5 .before in
     let c7 = c6 .before in
     loop-made _ _ _ _ _ _ _ _ _ _ (c7 .product .ensures) (c6 .sum .ensures) (c5 .sum2 .ensures) (c4 .product2 .ensures)
-    (c3 .product3 .ensures) (c .before .before .sum3 .ensures) (c .before .sum4 .ensures) (c .behind .ensures)
+    (c3 .product3 .ensures) (c .before .before .sum3 .ensures) (c .before .sum4 .ensures) (c .line-after .ensures)
 
 pub count-loop-spec : {M : Type 1} → statement M
 count-loop-spec =
@@ -58,5 +58,5 @@ count-loop-spec =
     product-requires-3
     sum-requires-3
     sum-requires-4
-    behind-requires
+    line-after-requires
     returns)

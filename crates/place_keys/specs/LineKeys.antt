@@ -1,0 +1,43 @@
+-- What the table of lines says, word by word: the programs of its lines, and the keys that their links give a place.
+use mathlib.Core.Bool.{cond}
+use mathlib.Core.List.{List}
+use Prim.Native.Nat.{ℕ, zero, suc, _+_, _*_, _/_}
+use lib.Dec.{eqb}
+use lib.ListN.{length, getD, set, replicate}
+use Rattle.spec_graph.specs.Program.{Link}
+use Rattle.place_laws.specs.Keys.{withLink}
+use Rattle.place_keys.specs.declared.Begun.{Begun}
+
+-- ---- the programs: how many, and the line after each one's `pr`
+
+unfoldable pub begunWith : Begun → ℕ → Begun
+begunWith b first = record { programs = b .programs + 1; firsts = set (b .firsts) (b .programs) first }
+
+unfoldable pub begunLine : List ℕ → ℕ → Begun → Begun
+begunLine lines i b = cond (eqb (getD lines (i * 8) 0) 7) (begunWith b (i + 1)) b
+
+unfoldable pub begunBefore : List ℕ → ℕ → Begun
+begunBefore lines zero = record { programs = 0; firsts = replicate 16 0 }
+begunBefore lines (suc i) = begunLine lines i (begunBefore lines i)
+
+unfoldable pub begunIn : List ℕ → Begun
+begunIn lines = begunBefore lines (length lines / 8)
+
+-- ---- the keys that shield a place
+
+abbrev pub linkOf : ℕ → ℕ → ℕ → Link
+linkOf key child parent = record { key = key; child = child; parent = parent }
+
+-- the link of a line
+unfoldable pub linkAt : List ℕ → ℕ → Link
+linkAt lines i = linkOf (getD lines (i * 8 + 1) 0) (getD lines (i * 8 + 2) 0) (getD lines (i * 8 + 3) 0)
+
+-- a line's part: only a `li` line has one
+unfoldable pub keyAt : List ℕ → ℕ → ℕ → ℕ → ℕ → ℕ
+keyAt lines i child seen word = cond (eqb (getD lines (i * 8) 0) 8) (withLink child seen (linkAt lines i) word) word
+
+-- the lines from i on, at most n of them, up to the next `pr`
+unfoldable pub keysFrom : ℕ → List ℕ → ℕ → ℕ → ℕ → ℕ → ℕ
+keysFrom zero lines i child seen word = word
+keysFrom (suc n) lines i child seen word =
+    cond (eqb (getD lines (i * 8) 0) 7) word (keysFrom n lines (i + 1) child seen (keyAt lines i child seen word))

@@ -1,0 +1,94 @@
+// What the table of lines says beside its rows: where each program's lines begin, and which keys shield a place.
+
+use value_tables::ID;
+use value_tables::LI;
+use value_tables::LINE_WORDS;
+use value_tables::PR;
+use value_tables::REL;
+use value_tables::TO;
+use word_list::has_bit;
+use word_list::word_at;
+ghost use mathlib.Core.Path.{_≡_};
+ghost use Prim.Native.Nat.{_-_, _/_, _≤_, _<_};
+ghost use lib.ListN.{length};
+ghost use Rattle.place_keys.specs.LineKeys.{begunLine, begunIn, keyAt, keysFrom};
+
+// The programs so far, and the line after the `pr` of each.
+pub struct Begun {
+    pub programs: usize,
+    pub firsts: [u64; 16],
+}
+
+// A line's part in the programs: a `pr` line begins one more, whose lines begin after it.
+fn begin_line(lines: &[u64], i: usize, b: Begun) -> Begun
+    requires { ⌜ (i < length (now lines) / 8) × (b .programs ≤ i) × (length (b .firsts) ≡ 16) ⌝ }
+    ensures { λ r. ⌜ r ≡ begunLine (now (lines .entry)) i b ⌝ }
+{
+    if word_at(lines, i * LINE_WORDS) != PR {
+        return b;
+    }
+    let n = b.programs;
+    let mut r = b;
+    r.programs = n + 1;
+    if n > 15 {
+        return r;
+    }
+    r.firsts[n] = (i + 1) as u64;
+    r
+}
+
+// The programs of the lines.
+pub fn programs_in(lines: &[u64]) -> Begun
+    ensures { λ r. ⌜ r ≡ begunIn (now (lines .entry)) ⌝ }
+{
+    let mut b = Begun {
+        programs: 0,
+        firsts: [0u64; 16],
+    };
+    let n = lines.len() / LINE_WORDS;
+    let mut i: usize = 0;
+    while i < n {
+        b = begin_line(lines, i, b);
+        i += 1;
+    }
+    b
+}
+
+// A line's part in the keys of a child: a `li` line of this child adds its key where the parent is seen.
+fn key_at(lines: &[u64], i: usize, child: u64, seen: u64, word: u64) -> u64
+    requires { ⌜ i < length (now lines) / 8 ⌝ }
+    ensures { λ r. ⌜ r ≡ keyAt (now (lines .entry)) i child seen word ⌝ }
+{
+    let at = i * LINE_WORDS;
+    if word_at(lines, at) != LI {
+        return word;
+    }
+    if word_at(lines, at + REL) != child {
+        return word;
+    }
+    if !has_bit(seen, word_at(lines, at + TO)) {
+        return word;
+    }
+    let key = word_at(lines, at + ID);
+    if key > 31 {
+        return word;
+    }
+    word | 1u64 << key
+}
+
+// The keys that shield a place, from the links of its program, which stand from line `first` up to the next `pr`.
+pub fn keys_from(lines: &[u64], first: usize, child: u64, seen: u64) -> u64
+    ensures { λ r. ⌜ r ≡ keysFrom (length (now (lines .entry)) / 8 - first) (now (lines .entry)) first child seen 0 ⌝ }
+{
+    let n = lines.len() / LINE_WORDS;
+    let mut word: u64 = 0;
+    let mut i = first;
+    while i < n {
+        if word_at(lines, i * LINE_WORDS) == PR {
+            return word;
+        }
+        word = key_at(lines, i, child, seen, word);
+        i += 1;
+    }
+    word
+}

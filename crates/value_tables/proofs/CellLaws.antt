@@ -1,0 +1,142 @@
+-- Tables that are filled cell after cell.
+use mathlib.Core.Bool.{Bool, true, false, cond, _&&_}
+use mathlib.Core.List.{List, [], _∷_, map}
+use mathlib.Core.Option.{Option, none, some}
+use mathlib.Core.Path.{_≡_, refl, sym, ap, _∙_}
+use Prim.Native.Nat.{ℕ, zero, suc, _+_, _*_, _%_, _^_, _≤_, _<_}
+use native.Mathlib.Nat.{zero-add, one-mul, mod-eq-of-lt}
+use lib.Bits.{bitAnd}
+use lib.Pow.{pow-lt}
+use native.Mathlib.Numerals.{add-one}
+use native.Mathlib.Omega.{arith}
+use lib.ListN.{length, getD, getElem?, set, take, length-map, length-set}
+use lib.Seq.{take-suc, take-suc-set, take-all}
+use borrow.Author.Tests.{lt-ltb, le-ltb}
+use Rattle.spec_base.specs.Basic.{numbers}
+use Rattle.law_base.specs.ListLaws.{some-injective, length-numbersFrom, getElem?-numbersFrom}
+use Rattle.spec_text.specs.declared.Line.{Line}
+use Rattle.spec_text.specs.declared.Workload.{Workload}
+use Rattle.spec_text.proofs.Workload.{the-type}
+use Rattle.edge_kinds.specs.Kinds.{kindFacts, kindOf}
+use Rattle.edge_kinds.specs.KindLaws.{told, bit-clear, bit-set}
+use Rattle.unfold_laws.specs.Codes.{codeOf, codesOf, idsOf, markIn, bitIn, marksOf}
+use Rattle.spec_text.specs.declared.StatementKind.{StatementKind}
+use Rattle.spec_graph.specs.Edge.{shields}
+use Rattle.value_tables.specs.Lines.{lineNumber, codeBy, markBy}
+use Rattle.value_tables.specs.LineLaws.{code-told, mark-told}
+use Rattle.value_tables.specs.Tables.{idTables, placeTables}
+
+-- a value has as many cells as its form in memory, which is known by its type
+pub cells-known : (w : Workload) → length (the-type .to w .1 .0) ≡ 1616 → length (w .lines) ≡ 1616
+cells-known w h = sym (length-map (w .lines) _) ∙ h
+
+-- cells that are filled from the first on as those of another list
+abbrev pub Filled : List ℕ → List ℕ → ℕ → Type 0
+Filled xs ys i = (length xs ≡ 1616) × (take i xs ≡ take i ys)
+
+pub cell-next : (xs ys : List ℕ) (i v : ℕ) → Filled xs ys i → length ys ≡ 1616 → i < 1616 → v ≡ getD ys i 0 → Filled (set xs i v) ys (i + 1)
+cell-next xs ys i v f q h d =
+    let p = f .0 in (
+      length-set xs i v ∙ p,
+      rw add-one (take-suc-set xs i v (omega arith) ∙ rw (f .1, d) (sym (take-suc ys i 0 (omega arith)))),
+    )
+
+pub cells-all : (xs ys : List ℕ) (i : ℕ) → Filled xs ys i → length ys ≡ 1616 → 1616 ≤ i → xs ≡ ys
+cells-all xs ys i f q h = let p = f .0 in sym (take-all i xs (omega arith)) ∙ f .1 ∙ take-all i ys (omega arith)
+
+-- what a function makes of a list, at a place inside
+map-at : {A : Type 0} (f : A → ℕ) (l : List A) (i : ℕ) (e : A) → i < length l → getD (map f l) i 0 ≡ f (getD l i e)
+map-at f [] i e h = absurd (omega arith)
+map-at f (x ∷ l) zero e h = refl
+map-at f (x ∷ l) (suc i) e h = map-at f l i e (omega arith)
+
+module _ (lines : List Line) (i : ℕ) (e : Line) (inside : i < length lines) where
+  abbrev here : Line
+  here = getD lines i e
+
+  pub code-at : (n code : ℕ) → n ≡ lineNumber (here .kind) → code ≡ codeBy n → code ≡ getD (codesOf lines) i 0
+  unfolding codesOf
+  code-at n code m c = c ∙ ap codeBy m ∙ code-told (here .kind) ∙ sym (map-at (λ l. codeOf (l .kind)) lines i e inside)
+
+  pub id-at : here .id ≡ getD (idsOf lines) i 0
+  unfolding idsOf
+  id-at = sym (map-at (λ l. l .id) lines i e inside)
+
+  pub mark-at : (n mark : ℕ) → n ≡ lineNumber (here .kind) → mark ≡ markBy n (here .id) → mark ≡ getD (marksOf lines) i 0
+  unfolding marksOf
+  mark-at n mark m c =
+      c ∙ ap (λ (x : ℕ). markBy x (here .id)) m ∙ mark-told (here .kind) (here .id)
+      ∙ sym (map-at (λ l. markIn (l .kind) (l .id)) lines i e inside)
+
+getD-there : (l : List ℕ) (i : ℕ) {x : ℕ} → getElem? l i ≡ some x → getD l i 0 ≡ x
+getD-there [] i {x} e = let z : _≡_ {A = Option ℕ} none (some x) = e in let y : _≡_ {A = ℕ} 0 1 = cc in absurd (omega arith)
+getD-there (y ∷ l) zero e = some-injective e
+getD-there (y ∷ l) (suc i) e = getD-there l i e
+
+pub number-at : (n i : ℕ) → i < n → i ≡ getD (numbers n) i 0
+number-at n i h = sym (getD-there (numbers n) i (getElem?-numbersFrom 0 n i h) ∙ zero-add i)
+
+pub many-numbers : length (numbers 1616) ≡ 1616
+many-numbers = length-numbersFrom 0 1616
+
+pub many-marks : (lines : List Line) → length lines ≡ 1616 → length (marksOf lines) ≡ 1616
+unfolding marksOf
+many-marks lines h = length-map lines (λ l. markIn (l .kind) (l .id)) ∙ h
+
+pub many-codes : (lines : List Line) → length lines ≡ 1616 → length (codesOf lines) ≡ 1616
+unfolding codesOf
+many-codes lines h = length-map lines (λ l. codeOf (l .kind)) ∙ h
+
+pub many-ids : (lines : List Line) → length lines ≡ 1616 → length (idsOf lines) ≡ 1616
+unfolding idsOf
+many-ids lines h = length-map lines (λ l. l .id) ∙ h
+
+-- ---- the paths to a mark
+
+pub mark-none : (n id : ℕ) → 7 ≤ n → 0 ≡ markBy n id
+unfolding markBy
+mark-none n id h = sym (simp (le-ltb n 7 h))
+
+pub mark-some : (n id x : ℕ) → n < 7 → x ≡ bitIn (kindOf n) id → x ≡ markBy n id
+unfolding markBy
+mark-some n id x h e = e ∙ sym (simp (lt-ltb n 7 h))
+
+module _ (n facts : ℕ) (k : StatementKind) (e : k ≡ kindOf n) (f : facts ≡ kindFacts k) where
+  pub shield-clear : bitAnd facts 16 ≡ 0 → shields (kindOf n) ≡ false
+  shield-clear h = rw (← e) (bit-clear (ap (λ (x : ℕ). bitAnd x 16) (sym f) ∙ h) (told k .shields))
+
+  pub shield-set : (bitAnd facts 16 ≡ 0 → ⊥) → shields (kindOf n) ≡ true
+  shield-set h = rw (← e) (bit-set (λ z. h (ap (λ (x : ℕ). bitAnd x 16) f ∙ z)) (told k .shields))
+
+pub bit-unshielding : (k : StatementKind) (id : ℕ) → shields k ≡ false → 0 ≡ bitIn k id
+unfolding bitIn
+bit-unshielding k id h = sym (rw h)
+
+pub bit-large : (k : StatementKind) (id : ℕ) → 32 ≤ id → 0 ≡ bitIn k id
+unfolding bitIn
+bit-large k id h = sym (rw (le-ltb id 32 h) (go (shields k)))
+  where
+    go : (b : Bool) → cond (b && false) (2 ^ id) 0 ≡ 0
+    go true = refl
+    go false = refl
+
+pub bit-small : (k : StatementKind) (id x : ℕ) → shields k ≡ true → id < 32 → x ≡ 2 ^ id → x ≡ bitIn k id
+unfolding bitIn
+bit-small k id x h p e = e ∙ sym (rw (h, lt-ltb id 32 p))
+
+-- a shifted bit
+pub bit-shifted : (id : ℕ) → id < 32 → (1 * 2 ^ id) % 4294967296 ≡ 2 ^ id
+bit-shifted id h = rw one-mul (mod-eq-of-lt (pow-lt h))
+
+-- ---- all cells
+
+-- the tables put together
+pub ids-made : (lines : List Line) (codes words : List ℕ) → codes ≡ codesOf lines → words ≡ idsOf lines
+    → record { codes = codes; words = words } ≡ idTables lines
+unfolding idTables
+ids-made lines codes words c w = rw (c, w)
+
+pub places-made : (lines : List Line) (codes words marks : List ℕ) → codes ≡ codesOf lines → words ≡ numbers 1616 → marks ≡ marksOf lines
+    → record { codes = codes; words = words; marks = marks } ≡ placeTables lines
+unfolding placeTables
+places-made lines codes words marks c w m = rw (c, w, m)

@@ -1,0 +1,61 @@
+-- The first i cells are the codes and ids of the first i lines: each turn sets one more of each (cell-next), and after 1616 turns they are all
+-- (cells-all), of which `idTables` is made (ids-made).
+use native.Mathlib.Omega.{arith}
+use borrow.Author.Needs.{needs}
+use Prim.Native.Nat.{_-_, _≤_, _<_}
+use lib.ListN.{length}
+use Rattle.unfold_laws.specs.Codes.{codesOf, idsOf}
+use Rattle.value_tables.proofs.CellLaws.{cells-known, Filled, cell-next, cells-all, code-at, id-at, many-codes, many-ids, ids-made}
+use Rattle.value_tables.proofs.id_tables.Statement.{statement}
+use Rattle.value_tables.proofs.id_tables.Tie as tie
+
+abbrev Inv-loop : tie.InvT-loop
+Inv-loop w codes₀ words₀ i₀ codes words i = (i ≤ 1616) × Filled codes (codesOf (w .lines)) i × Filled words (idsOf (w .lines)) i
+
+abbrev μ-loop : tie.MeasureT-loop
+μ-loop w codes₀ words₀ i₀ codes words i = 1616 - i
+
+loop-again : tie.Need-loop-again Inv-loop μ-loop
+loop-again c =
+    let code = c .before in
+    let number = code .before in
+    let turn = number .before .before .before in
+    let w = turn .before .args .t1 in
+    let lines = w .lines in
+    let i = turn .loop .i in
+    let most = cells-known w (turn .before .good .0 .1 .1 .1 .0 .1 .0 .1) in
+    let inside : i < length lines = omega (arith, most, number .before .before .loop-test .taken) in (
+      search needs,
+      cell-next (turn .loop .codes) (codesOf lines) i _ (turn .loop .inv .1) (many-codes lines most) (number .before .before .loop-test .taken)
+          (code-at lines i _ inside _ _ (number .line-number .ensures) (code .code-by .ensures)),
+      cell-next (turn .loop .words) (idsOf lines) i _ (turn .loop .inv .2) (many-ids lines most) (number .before .before .loop-test .taken)
+          (id-at lines i _ inside),
+    )
+
+returns : tie.Need-returns Inv-loop μ-loop
+returns c =
+    let turn = c .before in
+    let w = turn .before .args .t1 in
+    let most = cells-known w (turn .before .good .0 .1 .1 .1 .0 .1 .0 .1) in
+    ids-made (w .lines) _ _ (cells-all _ _ (turn .loop .i) (turn .loop .inv .1) (many-codes (w .lines) most) (c .loop-test .left))
+    (cells-all _ _ (turn .loop .i) (turn .loop .inv .2) (many-ids (w .lines) most) (c .loop-test .left))
+
+pub id-tables-spec : {M : Type 1} → statement M
+id-tables-spec =
+    tie.close
+    (tie.spec
+    Inv-loop
+    μ-loop
+    (λ c. search needs)
+    (λ c. search needs)
+    (λ c. search needs)
+    (λ c κs. search needs)
+    (λ c κs. search needs)
+    (λ c. search needs)
+    (λ c. search needs)
+    (λ c. search needs)
+    (λ c. search needs)
+    (λ c. search needs)
+    (λ c. search needs)
+    loop-again
+    returns)

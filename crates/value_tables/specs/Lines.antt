@@ -1,0 +1,49 @@
+-- A line's kind as a number, and what is read off the number; the lines of a workload as words, eight to a line.
+use mathlib.Core.Bool.{cond}
+use mathlib.Core.List.{List, [], _∷_, flatMap}
+use Prim.Native.Nat.{ℕ}
+use lib.Dec.{eqb, ltb}
+use Rattle.spec_text.specs.declared.Line.{Line}
+use Rattle.spec_text.specs.declared.LineKind.{LineKind}
+use Rattle.spec_text.specs.declared.LineKind.the-variants.{Rl, Fk, Pr, St, Lo, Br, El, En, Li}
+use Rattle.line_kinds.specs.Kinds.{lineFacts, lacksFact, hasReads, hasWrites, hasTests}
+use Rattle.edge_kinds.specs.Kinds.{kindNumber, kindOf}
+use Rattle.unfold_laws.specs.Codes.{bitIn}
+
+-- a statement's line has the number of its kind, then come `pr`, `li`, `lo`, `br`, and one for every other
+abbrev pub lineNumber : LineKind → ℕ
+lineNumber (St k) = kindNumber k
+lineNumber Pr = 7
+lineNumber Li = 8
+lineNumber Lo = 9
+lineNumber Br = 10
+lineNumber Rl = 11
+lineNumber Fk = 11
+lineNumber El = 11
+lineNumber En = 11
+
+-- the code of a line with this number
+unfoldable pub codeBy : ℕ → ℕ
+codeBy n = cond (ltb n 7) 0 (cond (eqb n 7) 3 (cond (eqb n 9) 1 (cond (eqb n 10) 2 4)))
+
+-- its mark: a statement's bit where its kind shields (E3)
+unfoldable pub markBy : ℕ → ℕ → ℕ
+markBy n id = cond (ltb n 7) (bitIn (kindOf n) id) 0
+
+-- E0: a set that the kind lacks is empty
+unfoldable pub setIn : ℕ → ℕ → ℕ → ℕ
+setIn facts fact x = cond (lacksFact facts fact) 0 x
+
+-- number, id, relation or child, parent, reads, writes, tests; the last word is 0
+unfoldable pub lineWords : Line → List ℕ
+lineWords l =
+    lineNumber (l .kind)
+    ∷ l .id
+    ∷ l .rel
+    ∷ l .to
+    ∷ setIn (lineFacts (l .kind)) hasReads (l .reads)
+    ∷ setIn (lineFacts (l .kind)) hasWrites (l .writes)
+    ∷ setIn (lineFacts (l .kind)) hasTests (l .tests) ∷ 0 ∷ []
+
+unfoldable pub lineTable : List Line → List ℕ
+lineTable lines = flatMap lineWords lines
