@@ -1,6 +1,6 @@
 -- Laws of the search for an edge.
-use mathlib.Core.Path.{_≡_, refl, sym, ap, ap₂, _∙_}
-use mathlib.Core.Bool.{Bool, true, false, cond, not}
+use mathlib.Core.Path.{_≡_, refl, sym, ap, ap₂, subst, _∙_}
+use mathlib.Core.Bool.{Bool, true, false, cond}
 use mathlib.Core.Option.{Option, none, some}
 use mathlib.Core.List.{List, [], _∷_, _++_, flatMap}
 use Prim.Native.Nat.{ℕ, zero, suc, _+_, _-_, _*_, _/_, _%_, _^_, _≤_, _<_}
@@ -8,12 +8,11 @@ use native.Mathlib.Nat.{add-zero, zero-add, add-suc, suc-add}
 use native.Mathlib.Numerals.{add-one}
 use native.Mathlib.Decide.{decLe}
 use native.Mathlib.Omega.{arith}
-use lib.Dec.{eqb}
-use borrow.Author.Tests.{eq-eqb}
+use borrow.Author.Tests.{ne-eqb}
 use lib.Count.{ones, onesIn, trailingZeros}
 use lib.ListN.{length, getElem?}
 use Rattle.spec_base.specs.Basic.{numbers, numbersFrom}
-use Rattle.law_base.specs.BoolLaws.{true-false, not-true, not-false}
+use Rattle.law_base.specs.BoolLaws.{true-false}
 use Rattle.law_base.specs.ListLaws.{getElem?-past, getElem?-append-right}
 use Rattle.spec_graph.specs.Graph as G
 use Rattle.spec_graph.specs.Edge as E
@@ -21,28 +20,21 @@ use Rattle.place_row.specs.declared.Row.{Row}
 use Rattle.place_row.specs.RowTable.{rowAt, rowCount, rowStands, rowLetter, rowEdge}
 use Rattle.place_row.specs.RowTableLaws.{onesIn-ones}
 use Rattle.edge_find.specs.declared.EdgeStep.{EdgeStep}
+use Rattle.edge_count.specs.declared.Edge.{Edge}
 use Rattle.edge_count.specs.declared.Found.{Found}
 use Rattle.edge_count.specs.Slots.{flowByte, coded, foundAs, tableEdges, slots, leftRow, rightRow}
 use Rattle.edge_count.specs.Slots.{standsAt, slotEdge, edgeAt, nextFrom, nextSlot, one, edgesBelow}
-use Rattle.edge_find.specs.Search.{edgeFrom, letterIn, stands, sharedIn, byteIn, nothingTo, stepIn, Looked}
+use Rattle.edge_test.specs.Letters.{byteOf, letterBetween}
+use Rattle.edge_find.specs.Search.{edgeFrom, letterFrom, sharedBy, nothingTo, stepIn, Looked}
 use Rattle.edge_count.specs.SlotLaws.{rows-few, stands-past, stands-apart, stands-forward, stands-back, edge-forward, edge-back}
 use Rattle.edge_count.specs.Flattened.{flatMap-append, numbersFrom-append, slotEdges, edges-flat, edges-below}
 
--- ---- rows of two relations, and of one
-
-pub relations-two : (p q : Row) (b : Bool) → b ≡ not (eqb (p .relation) (q .relation)) → b ≡ true → eqb (p .relation) (q .relation) ≡ false
-relations-two p q b e t = not-true (eqb (p .relation) (q .relation)) (sym e ∙ t)
-
-pub relations-one : (p q : Row) (b : Bool) → b ≡ not (eqb (p .relation) (q .relation)) → b ≡ false → eqb (p .relation) (q .relation) ≡ true
-relations-one p q b e f = not-false (eqb (p .relation) (q .relation)) (sym e ∙ f)
-
 -- ---- an edge put together
 
--- a step from its letter, what the letter's sets share and the letter's byte
-pub step-made : (x flow : ℕ) (p q : Row) (l : Option E.Letter) (m b : ℕ)
-    → stands l ≡ true
-    → m ≡ sharedIn l p q
-    → b ≡ byteIn l
+-- a step with a letter from what the letter's sets share
+pub step-made : (x flow letter : ℕ) (p q : Row) (m : ℕ)
+    → (letter ≡ 0 → ⊥)
+    → m ≡ sharedBy letter p q
     → m < 2 ^ 64
     → _≡_ {A = EdgeStep}
     (record {
@@ -55,30 +47,36 @@ pub step-made : (x flow : ℕ) (p q : Row) (l : Option E.Letter) (m b : ℕ)
         sharing = ones m;
         lowest = trailingZeros 64 m;
         flow = flow;
-        letter = b;
+        letter = letter;
       });
     })
-    (stepIn x flow p q l)
-unfolding stepIn sharedIn
-step-made x flow p q none m b there e f small = absurd (true-false there refl)
-step-made x flow p q (some l) m b there e f small = λ i. record {
-  slot = x;
-  found = Found.There (record {
-    node = p .node;
-    leaves = p .place;
-    into = q .node;
-    enters = q .place;
-    sharing = (sym (onesIn-ones 64 m small) ∙ ap (onesIn 64) e) i;
-    lowest = trailingZeros 64 (e i);
-    flow = flow;
-    letter = f i;
-  });
-}
-
-pub step-none : (x flow : ℕ) (p q : Row) (l : Option E.Letter) → stands l ≡ false → nothingTo (x + 1) ≡ stepIn x flow p q l
+    (stepIn x flow letter p q)
 unfolding stepIn
-step-none x flow p q none away = refl
-step-none x flow p q (some l) away = absurd (true-false refl away)
+step-made x flow letter p q m there e small =
+    simp (ne-eqb letter 0 there)
+    (λ i. record {
+      slot = x;
+      found = Found.There (record {
+        node = p .node;
+        leaves = p .place;
+        into = q .node;
+        enters = q .place;
+        sharing = (sym (onesIn-ones 64 m small) ∙ ap (onesIn 64) e) i;
+        lowest = trailingZeros 64 (e i);
+        flow = flow;
+        letter = letter;
+      });
+    })
+
+-- the step with a letter of its own
+step-letter : (x : ℕ) (flow : G.Flow) (p q : Row) (l : E.Letter) → rowLetter flow p q ≡ l
+    → stepIn x (flowByte flow) (byteOf l) p q ≡ record { slot = x; found = Found.There (coded (rowEdge flow p q)) }
+unfolding stepIn letterFrom coded rowEdge
+step-letter x flow p q E.Letter.A e = rw e
+step-letter x flow p q E.Letter.B e = rw e
+step-letter x flow p q E.Letter.C e = rw e
+step-letter x flow p q E.Letter.D e = rw e
+step-letter x flow p q E.Letter.E e = rw e
 
 -- ---- the edges before a slot
 
@@ -211,15 +209,14 @@ module _ (table : List ℕ) where
 
       -- between rows of two relations
       pub looked-apart : (r : EdgeStep) (p q : Row) → p ≡ rowAt table (x / 1024) → q ≡ rowAt table (x % 1024 / 2)
-          → eqb (p .relation) (q .relation) ≡ false
+          → (p .relation ≡ q .relation → ⊥)
           → r ≡ nothingTo (x / 2 * 2 + 2)
           → Looked table x r
       unfolding slots
       looked-apart r p q first second two e =
           let i = within left in
           let h : rowAt table (x / 1024) .relation ≡ rowAt table (x % 1024 / 2) .relation → ⊥ =
-          λ s. true-false (eq-eqb (p .relation) (q .relation) (ap (λ (t : Row). t .relation) first ∙ s ∙ sym (ap (λ (t : Row). t .relation) second)))
-          two in
+          λ s. two (ap (λ (t : Row). t .relation) first ∙ s ∙ sym (ap (λ (t : Row). t .relation) second)) in
           rw e (passed (x / 2 * 2 + 2) (omega arith) (omega arith) (λ z l m.
           let a : z / 1024 ≡ x / 1024 = omega arith in
           let b : z % 1024 / 2 ≡ x % 1024 / 2 = omega arith in
@@ -228,41 +225,45 @@ module _ (table : List ℕ) where
       -- in a slot of the pair
       slot-looked : (flow : G.Flow) → rowStands flow (leftRow table x) (rightRow table x) ≡ standsAt table x
           → coded (rowEdge flow (leftRow table x) (rightRow table x)) ≡ edgeAt table x
-          → Looked table x (stepIn x (flowByte flow) (leftRow table x) (rightRow table x) (letterIn flow (leftRow table x) (rightRow table x)))
-      unfolding letterIn stepIn coded rowEdge
+          → Looked table x
+          (stepIn x (flowByte flow) (letterBetween flow (leftRow table x) (rightRow table x)) (leftRow table x) (rightRow table x))
+      unfolding letterBetween stepIn
       slot-looked flow s f = go (rowStands flow (leftRow table x) (rightRow table x)) (sym s)
         where
           go : (b : Bool) → standsAt table x ≡ b
-              → Looked table x (stepIn x (flowByte flow) (leftRow table x) (rightRow table x)
-              (cond b (some (rowLetter flow (leftRow table x) (rightRow table x))) none))
-          go true t = record {
-            here = λ u. ap (λ (e : _). record { slot = x; found = Found.There e }) f ∙ edge-here x (within left) t;
-            later = λ u. absurd (true-false refl u);
-          }
+              → Looked table x
+              (stepIn x (flowByte flow) (cond b (byteOf (rowLetter flow (leftRow table x) (rightRow table x))) 0)
+              (leftRow table x) (rightRow table x))
+          go true t =
+              let is = step-letter x flow (leftRow table x) (rightRow table x) _ refl in
+              subst (Looked table x) (sym (is ∙ ap (λ (e : Edge). record { slot = x; found = Found.There e }) f)) (record {
+                here = λ u. edge-here x (within left) t;
+                later = λ u. absurd (true-false refl u);
+              })
           go false t =
               passed (x + 1) (omega arith) (let i = within left in omega arith)
               (λ z l m. let e : z ≡ x = omega arith in ap (standsAt table) e ∙ t)
 
-      module _ (r : EdgeStep) (p q : Row) (l : Option E.Letter) (right : x % 1024 / 2 < length table / 8)
+      module _ (r : EdgeStep) (p q : Row) (letter : ℕ) (right : x % 1024 / 2 < length table / 8)
           (first : p ≡ rowAt table (x / 1024)) (second : q ≡ rowAt table (x % 1024 / 2)) where
         slot-step : (flow : G.Flow) → rowStands flow (leftRow table x) (rightRow table x) ≡ standsAt table x
             → coded (rowEdge flow (leftRow table x) (rightRow table x)) ≡ edgeAt table x
-            → l ≡ letterIn flow p q
-            → r ≡ stepIn x (flowByte flow) p q l
+            → letter ≡ letterBetween flow p q
+            → r ≡ stepIn x (flowByte flow) letter p q
             → Looked table x r
         slot-step flow s f e g =
-            rw (g ∙ ap (stepIn x (flowByte flow) p q) e
-            ∙ ap₂ (λ (a b : Row). stepIn x (flowByte flow) a b (letterIn flow a b)) first second) (slot-looked flow s f)
+            rw (g ∙ ap (λ (l : ℕ). stepIn x (flowByte flow) l p q) e
+            ∙ ap₂ (λ (a b : Row). stepIn x (flowByte flow) (letterBetween flow a b) a b) first second) (slot-looked flow s f)
 
         inside : x % 1024 < rowCount table * 2
         unfolding rowCount
         inside = omega arith
 
-        pub looked-forward : x % 2 ≡ 0 → l ≡ letterIn G.Flow.forward p q → r ≡ stepIn x 0x66 p q l → Looked table x r
+        pub looked-forward : x % 2 ≡ 0 → letter ≡ letterBetween G.Flow.forward p q → r ≡ stepIn x 0x66 letter p q → Looked table x r
         looked-forward even e g =
             slot-step G.Flow.forward (stands-forward table x (rowCount table) refl inside even) (edge-forward table x even) e g
 
-        pub looked-back : (x % 2 ≡ 0 → ⊥) → l ≡ letterIn G.Flow.back p q → r ≡ stepIn x 0x62 p q l → Looked table x r
+        pub looked-back : (x % 2 ≡ 0 → ⊥) → letter ≡ letterBetween G.Flow.back p q → r ≡ stepIn x 0x62 letter p q → Looked table x r
         looked-back odd e g =
             slot-step G.Flow.back (stands-back table x (rowCount table) refl inside odd) (edge-back table x odd) e g
 
@@ -284,10 +285,10 @@ module _ (table : List ℕ) where
       go false t (stood l e) = stood l (let o = ap one t in omega arith)
 
   -- where there are more edges than stand before a slot, the next one stands in a slot, and one more stands before the slot after
-  pub edge-behind : (x : ℕ) → edgesBelow table x < length (tableEdges table)
+  pub edge-after : (x : ℕ) → edgesBelow table x < length (tableEdges table)
       → (edgeFrom table x .slot < slots table) × (edgesBelow table (edgeFrom table x .slot + 1) ≡ edgesBelow table x + 1)
   unfolding edgeFrom nextSlot
-  edge-behind x h = go (decLe x (slots table))
+  edge-after x h = go (decLe x (slots table))
     where
       inside : Next x (nextFrom table (slots table - x) x)
           → (nextFrom table (slots table - x) x < slots table)

@@ -82,7 +82,12 @@ told k = record {
   loosens = bit-of looseBit E.loosens refl k;
 }
 
--- ---- code that has tested a bit by `facts & BIT == 0` knows what the bit tells
+-- ---- code that has asked for a bit by `kind_has` knows what the bit tells
+
+pub answer : {bit tells asked is : Bool} → bit ≡ tells → asked ≡ bit → asked ≡ is → tells ≡ is
+answer e f g = sym e ∙ sym f ∙ g
+
+-- and so does code that has tested one by `facts & BIT == 0`
 
 pub bit-clear : {x : ℕ} {tells : Bool} → x ≡ 0 → not (eqb x 0) ≡ tells → tells ≡ false
 bit-clear {x} h e = sym e ∙ ap not (eq-eqb x 0 h)

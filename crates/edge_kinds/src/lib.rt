@@ -3,6 +3,7 @@
 
 use spec_text::StatementKind;
 ghost use mathlib.Core.Path.{_≡_};
+ghost use Rattle.spec_base.specs.Basic.{meets};
 ghost use Rattle.edge_kinds.specs.Kinds.{kindFacts, kindNumber, kindOf};
 
 // The facts of a kind, a bit each. It has tests; it inserts, deletes, selects;
@@ -32,6 +33,13 @@ pub fn kind_facts(k: StatementKind) -> u64
         StatementKind::Kd => DELETE + SHIELD,
         StatementKind::Pd => TESTS + DELETE + LOOSE,
     }
+}
+
+// Whether a kind has one of these facts. Code that asks a kind one thing calls this each time, which compiles to one test of the kind.
+pub fn kind_has(k: StatementKind, fact: u64) -> bool
+    ensures { λ r. ⌜ r ≡ meets (kindFacts k) fact ⌝ }
+{
+    kind_facts(k) & fact != 0
 }
 
 // The number of a kind in a row, 0 to 6.

@@ -6,6 +6,8 @@ use edge_count::count_edges;
 use edge_put::Put;
 use edge_put::edge_of_number;
 use edge_put::put_edges;
+use place_row::ROW_WORDS;
+use place_row::TABLE_WORDS;
 use place_table::Rows;
 use place_table::fill_rows;
 use spec_text::Workload;
@@ -30,14 +32,14 @@ pub enum EdgeAnswer {
 struct Prepared {
     refusal: u8,
     words: usize,
-    table: [u64; 4096],
+    table: [u64; TABLE_WORDS],
 }
 
 // The table of a workload, or the refusal and no words of the table.
 fn tabled(w: Workload) -> Prepared
     ensures { λ r. ⌜ TabledFor w r ⌝ }
 {
-    let mut table = [0u64; 4096];
+    let mut table = [0u64; TABLE_WORDS];
     let r = fill_rows(w, &mut table);
     match r {
         Rows::Refused(number) => {
@@ -52,7 +54,7 @@ fn tabled(w: Workload) -> Prepared
             nodes: _,
             places,
         } => {
-            let n = (places * 8) as usize;
+            let n = places as usize * ROW_WORDS;
             return Prepared {
                 refusal: 0,
                 words: n,

@@ -26,7 +26,7 @@ pub record Ahead (table : List ℕ) (k x : ℕ) : Type 0 where
 -- the step tells edge number k, and a slot after which the edges with higher numbers stand
 pub record Numbered (table : List ℕ) (k : ℕ) (step : Next) : Type 0 where
   pub edge : getElem? (records table) k ≡ some (step .edge)
-  pub behind : edgesBelow table (step .slot + 1) ≡ k + 1
+  pub after : edgesBelow table (step .slot + 1) ≡ k + 1
   pub few : step .slot < 524288
 
 -- how many of n edges are put: all, or none where they do not fit

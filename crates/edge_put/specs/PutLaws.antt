@@ -20,7 +20,7 @@ use Rattle.edge_count.specs.declared.Counts.{Counts}
 use Rattle.edge_count.specs.Slots.{coded, foundAs, tableEdges, tableCounts, slots, edgesBelow}
 use Rattle.edge_find.specs.Search.{edgeFrom}
 use Rattle.edge_count.specs.SlotLaws.{rows-small}
-use Rattle.edge_find.specs.SearchLaws.{edge-behind}
+use Rattle.edge_find.specs.SearchLaws.{edge-after}
 use Rattle.edge_put.specs.declared.Next.{Next}
 use Rattle.edge_put.specs.declared.Put.{Put}
 use Rattle.edge_put.specs.declared.Put.the-variants.{All, Refused}
@@ -68,11 +68,11 @@ module _ (table : List ℕ) where
     pub next-numbered : (edge : Edge) → step .found ≡ There edge → Numbered table k (record { slot = step .slot; edge = edge })
     next-numbered edge f =
         let slot = ap (λ (s : EdgeStep). s .slot) e in
-        let behind = edge-behind table x (let a = ahead .below in let b = ahead .there in omega arith) in
+        let next = edge-after table x (let a = ahead .below in let b = ahead .there in omega arith) in
         record {
           edge = coded-at (tableEdges table) k edge (sym found-is ∙ f);
-          behind = ap (λ (j : ℕ). edgesBelow table (j + 1)) slot ∙ behind .1 ∙ ap (λ (j : ℕ). j + 1) (ahead .below);
-          few = let l = behind .0 in let m = slots-few in omega arith;
+          after = ap (λ (j : ℕ). edgesBelow table (j + 1)) slot ∙ next .1 ∙ ap (λ (j : ℕ). j + 1) (ahead .below);
+          few = let l = next .0 in let m = slots-few in omega arith;
         }
 
     pub next-there : step .found ≡ Absent → ⊥

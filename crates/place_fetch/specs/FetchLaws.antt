@@ -7,7 +7,8 @@ use native.Mathlib.Omega.{arith}
 use lib.ListN.{length, getD, List·getD-eq-default}
 use Rattle.place_row.specs.declared.Row.{Row}
 use Rattle.spec_text.specs.declared.StatementKind.{StatementKind}
-use Rattle.place_row.specs.RowTable.{kindOf, rowAt}
+use Rattle.edge_kinds.specs.Kinds.{kindOf}
+use Rattle.place_row.specs.RowTable.{rowAt}
 
 -- no word of a row past the last one that begins in the table
 pub word-past : (table : List ℕ) (i k : ℕ) → length table / 8 < i → 0 ≡ getD table (i * 8 + k) 0

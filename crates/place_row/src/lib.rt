@@ -21,3 +21,8 @@ pub const ROW_WORDS: usize = 8;
 pub const ROWS: usize = 512;
 
 pub const TABLE_WORDS: usize = 4096;
+
+// Slots for edges: two to each pair of rows, the forward edge's first; so many to the row that an edge leaves, and so many in all.
+pub const ROW_SLOTS: usize = 1024;
+
+pub const SLOTS: usize = 524288;

@@ -1,7 +1,7 @@
 -- A slot whose rows are not both there, or are of two relations, is empty, and so is every slot up to the one named (looked-end, looked-past,
 -- looked-apart); else the letter of its flow decides (looked-forward, looked-back).
 use native.Mathlib.Omega.{arith}
-use Rattle.edge_find.specs.SearchLaws.{relations-two, looked-end, looked-past, looked-apart, looked-forward, looked-back}
+use Rattle.edge_find.specs.SearchLaws.{looked-end, looked-past, looked-apart, looked-forward, looked-back}
 use borrow.Author.Needs.{needs}
 use Rattle.edge_find.proofs.look_at.Statement.{statement}
 use Rattle.edge_find.proofs.look_at.Tie as tie
@@ -32,9 +32,6 @@ row-at-requires c κs = search needs
 row-at-requires-2 : tie.Need-row-at-requires-2
 row-at-requires-2 c κs = search needs
 
-apart-requires : tie.Need-apart-requires
-apart-requires c κs = search needs
-
 mul-nothing-to-2 : tie.Need-mul-nothing-to-2
 mul-nothing-to-2 c = search needs
 
@@ -46,12 +43,10 @@ nothing-to-requires-3 c κs = search needs
 
 returns-3 : tie.Need-returns-3
 returns-3 c =
-    looked-apart _ _ (c .before .before .before .before .before .before .before .before .pre)
-    (c .before .before .before .before .before .before .if1 .left) _ _ _ (c .before .before .before .before .row-at .ensures)
-    (c .before .before .before .row-at2 .ensures)
-    (relations-two (c .before .before .before .before .row-at .result) (c .before .before .before .row-at2 .result) _
-    (c .before .before .apart .ensures) (c .before .if3 .taken))
-    (c .nothing-to3 .ensures)
+    let second = c .before .before .before .before in
+    let first = second .before in
+    looked-apart _ _ (first .before .before .before .before .pre) (first .before .before .if1 .left) _ _ _
+    (first .row-at .ensures) (second .row-at2 .ensures) (c .before .if3 .taken) (c .nothing-to3 .ensures)
 
 forward-letter-requires : tie.Need-forward-letter-requires
 forward-letter-requires c κs = search needs
@@ -62,11 +57,11 @@ step-with-requires c κs = search needs
 returns-4 : tie.Need-returns-4
 returns-4 c =
     let even = c .before .before .if4 .taken in
-    looked-forward _ _ (c .before .before .before .before .before .before .before .before .before .before .pre)
-    (c .before .before .before .before .before .before .before .before .if1 .left) _ _ _ _
-    (c .before .before .before .before .before .before .before .if2 .left)
-    (c .before .before .before .before .before .before .row-at .ensures) (c .before .before .before .before .before .row-at2 .ensures)
-    (omega arith) (c .before .forward-letter .ensures) (c .step-with .ensures)
+    let second = c .before .before .before .before .before .before in
+    let first = second .before in
+    looked-forward _ _ (first .before .before .before .before .pre) (first .before .before .if1 .left) _ _ _ _
+    (first .before .if2 .left) (first .row-at .ensures) (second .row-at2 .ensures) (omega arith)
+    (c .before .forward-letter .ensures) (c .step-with .ensures)
 
 back-letter-requires : tie.Need-back-letter-requires
 back-letter-requires c κs = search needs
@@ -77,11 +72,11 @@ step-with-requires-2 c κs = search needs
 returns-5 : tie.Need-returns-5
 returns-5 c =
     let odd = c .before .before .if4 .left in
-    looked-back _ _ (c .before .before .before .before .before .before .before .before .before .before .pre)
-    (c .before .before .before .before .before .before .before .before .if1 .left) _ _ _ _
-    (c .before .before .before .before .before .before .before .if2 .left)
-    (c .before .before .before .before .before .before .row-at .ensures) (c .before .before .before .before .before .row-at2 .ensures)
-    (λ e. odd e) (c .before .back-letter .ensures) (c .step-with2 .ensures)
+    let second = c .before .before .before .before .before .before in
+    let first = second .before in
+    looked-back _ _ (first .before .before .before .before .pre) (first .before .before .if1 .left) _ _ _ _
+    (first .before .if2 .left) (first .row-at .ensures) (second .row-at2 .ensures) (λ e. odd e)
+    (c .before .back-letter .ensures) (c .step-with2 .ensures)
 
 pub look-at-spec : {M : Type 1} → statement M
 look-at-spec =
@@ -95,7 +90,6 @@ look-at-spec =
     returns-2
     row-at-requires
     row-at-requires-2
-    apart-requires
     mul-nothing-to-2
     add-nothing-to-2
     nothing-to-requires-3

@@ -45,7 +45,7 @@ loop-less : tie.Need-loop-less Inv-loop μ-loop
 loop-less c = search needs
 
 loop-again : tie.Need-loop-again Inv-loop μ-loop
-loop-again c = (omega arith, c .before .edge-next .ensures .behind)
+loop-again c = (omega arith, c .before .edge-next .ensures .after)
 
 edge-next-requires-2 : tie.Need-edge-next-requires-2 Inv-loop μ-loop
 edge-next-requires-2 c κs = record {

@@ -494,7 +494,7 @@ module _ {M : Type 1} (𝓤 : URA M) (H : Heap 𝓤) (A : Atoms 𝓤) (W : Given
               done-to = i .done-to + 1;
               most = add-one-le (ltb→lt (i .done-to) n less);
               slot = r .slot + 1;
-              below = e .behind;
+              below = e .after;
               few =
                   let l = e .few in omega arith;
             }

@@ -1,34 +1,59 @@
--- An insert or a delete changes what any predicate takes; of the others the writes decide: the same three tests as in the contract.
+-- A second without tests makes C false; an insert or a delete first makes it true; else the writes and the tests decide, as in `rowHolds`.
 use borrow.Author.Needs.{needs}
+use Rattle.place_row.specs.RowTable.{rowHolds}
+use Rattle.edge_kinds.specs.KindLaws.{told, answer}
 use Rattle.edge_test.proofs.changes.Statement.{statement}
 use Rattle.edge_test.proofs.changes.Tie as tie
 
-is-insert-requires : tie.Need-is-insert-requires
-is-insert-requires c κs = search needs
+kind-has-requires : tie.Need-kind-has-requires
+kind-has-requires c κs = search needs
+
+kind-has-requires-2 : tie.Need-kind-has-requires-2
+kind-has-requires-2 c κs = search needs
 
 returns : tie.Need-returns
-returns c = search needs
-
-is-delete-requires : tie.Need-is-delete-requires
-is-delete-requires c κs = search needs
-
-returns-2 : tie.Need-returns-2
-returns-2 c = search needs
-
-meet-requires : tie.Need-meet-requires
-meet-requires c κs = search needs
-
-returns-3 : tie.Need-returns-3
-returns-3 c =
+unfolding rowHolds
+returns c =
+    let c2 = c .before .before in
+    let c4 = c2 .before .before in
     simp (
-      ← c .meet .ensures,
-      c .before .if2 .left,
-      ← c .before .before .is-delete .ensures,
-      c .before .before .before .if1 .left,
-      ← c .before .before .before .before .is-insert .ensures,
+      answer (told (c4 .args .q .kind) .tests) (c2 .before .kind-has .ensures) (c2 .if1 .taken),
+      answer (told (c4 .args .p .kind) .inserts) (c .before .kind-has2 .ensures) (c .if2 .taken),
     )
 
+kind-has-requires-3 : tie.Need-kind-has-requires-3
+kind-has-requires-3 c κs = search needs
+
+returns-2 : tie.Need-returns-2
+unfolding rowHolds
+returns-2 c =
+    let c2 = c .before .before in
+    let c4 = c2 .before .before in
+    let c6 = c4 .before .before in
+    simp (
+      answer (told (c6 .args .q .kind) .tests) (c4 .before .kind-has .ensures) (c4 .if1 .taken),
+      answer (told (c6 .args .p .kind) .inserts) (c2 .before .kind-has2 .ensures) (c2 .if2 .left),
+      answer (told (c6 .args .p .kind) .deletes) (c .before .kind-has3 .ensures) (c .if3 .taken),
+    )
+
+returns-3 : tie.Need-returns-3
+unfolding rowHolds
+returns-3 c =
+    let c2 = c .before .before in
+    let c4 = c2 .before .before in
+    let c6 = c4 .before .before in
+    let c8 = c6 .before .before in
+    simp (
+      answer (told (c8 .args .q .kind) .tests) (c6 .before .kind-has .ensures) (c6 .if1 .taken),
+      answer (told (c8 .args .p .kind) .inserts) (c4 .before .kind-has2 .ensures) (c4 .if2 .left),
+      answer (told (c8 .args .p .kind) .deletes) (c2 .before .kind-has3 .ensures) (c2 .if3 .left),
+    )
+
+returns-4 : tie.Need-returns-4
+unfolding rowHolds
+returns-4 c =
+    let c2 = c .before .before in
+    simp (answer (told (c2 .args .q .kind) .tests) (c .before .kind-has .ensures) (c .if1 .left))
+
 pub changes-spec : {M : Type 1} → statement M
-changes-spec =
-    tie.close
-    (tie.spec is-insert-requires returns is-delete-requires returns-2 meet-requires returns-3)
+changes-spec = tie.close (tie.spec kind-has-requires kind-has-requires-2 returns kind-has-requires-3 returns-2 returns-3 returns-4)

@@ -1,14 +1,8 @@
 -- Past the last row and past the table's end `getD` gives 0 (word-past, word-short); else the word that is read.
 use Rattle.place_fetch.specs.FetchLaws.{word-past, word-short}
-use native.Mathlib.Omega.{arith}
-use mathlib.Core.Path.{_≡_, refl, ap, sym, _∙_}
-use Prim.Native.Nat.{ℕ, _+_, _-_, _*_, _≤_, _<_}
-use lib.ListN.{length, set, getD, length-set, take, drop}
 use borrow.Author.Needs.{needs}
-use Rattle.place_fetch.proofs.word_at.Statement.{statement}
-use Rattle.place_fetch.proofs.word_at.Tie as tie
-use Rattle.place_fetch.proofs.word_at.Reads as reads
-use Rattle.place_fetch.proofs.word_at.Lts as lts
+use Rattle.place_fetch.proofs.row_word.Statement.{statement}
+use Rattle.place_fetch.proofs.row_word.Tie as tie
 
 returns : tie.Need-returns
 returns c = word-past (c .before .args .table .now) (c .before .args .i) (c .before .args .k) (c .if1 .taken)
@@ -34,8 +28,8 @@ returns-2 c = search needs
 returns-3 : tie.Need-returns-3
 returns-3 c = word-short (c .before .before .args .table .now) (c .before .before .args .i) (c .before .before .args .k) (c .if2 .left)
 
-pub word-at-spec : {M : Type 1} → statement M
-word-at-spec =
+pub row-word-spec : {M : Type 1} → statement M
+row-word-spec =
     tie.close
     (tie.spec
     returns
