@@ -19,19 +19,8 @@ use Rattle.place_row.specs.declared.Row.{Row}
 use Rattle.place_row.specs.RowTable.{rowAt, rowCount, rowForward, rowBack, rowStands, rowEdge, rowEdges, tableRows, edgesOfRows}
 use Rattle.place_row.specs.RowTableLaws.{flatMap-map, flatMap-same}
 use Rattle.edge_count.specs.declared.Counts.{Counts}
-use Rattle.edge_count.specs.Slots.{
-  tableEdges,
-  tableCounts,
-  slots,
-  leftRow,
-  rightRow,
-  standsAt,
-  slotEdge,
-  one,
-  edgesBelow,
-  backBelow,
-  countsBelow,
-}
+use Rattle.edge_count.specs.Slots.{tableEdges, tableCounts, slots, leftRow, rightRow, standsAt, slotEdge}
+use Rattle.edge_count.specs.Slots.{one, edgesBelow, backBelow, countsBelow}
 use Rattle.edge_count.specs.SlotLaws.{rows-small}
 
 -- ---- numbers in rows
@@ -72,7 +61,7 @@ module _ {C : Type 0} (g : ℕ → ℕ → List C) (n : ℕ) where
       (row-part i (suc j) k (omega arith) ∙ ap (λ (b : ℕ). flatMap cell (numbersFrom b k)) (add-suc (i * n) j))
 
   -- rows one after the other are one list of numbers
-  pub rows-flat : (a m : ℕ) → flatMap (λ i. flatMap (g i) (numbers n)) (numbersFrom a m) ≡ flatMap cell (numbersFrom (a * n) (m * n))
+  rows-flat : (a m : ℕ) → flatMap (λ i. flatMap (g i) (numbers n)) (numbersFrom a m) ≡ flatMap cell (numbersFrom (a * n) (m * n))
   unfolding flatMap
   rows-flat a zero = ap (λ (k : ℕ). flatMap cell (numbersFrom (a * n) k)) (sym (zero-mul n))
   rows-flat a (suc m) =
@@ -84,7 +73,7 @@ module _ {C : Type 0} (g : ℕ → ℕ → List C) (n : ℕ) where
       (sym (numbersFrom-append (a * n) n (m * n)) ∙ ap (numbersFrom (a * n)) (add-comm n (m * n) ∙ sym (suc-mul m n)))
 
   -- the same from the first number on
-  pub square-flat : (m : ℕ) → flatMap (λ i. flatMap (g i) (numbers n)) (numbers m) ≡ flatMap cell (numbers (m * n))
+  square-flat : (m : ℕ) → flatMap (λ i. flatMap (g i) (numbers n)) (numbers m) ≡ flatMap cell (numbers (m * n))
   square-flat m = rows-flat 0 m ∙ ap (λ (b : ℕ). flatMap cell (numbersFrom b (m * n))) (zero-mul n)
 
 -- ---- slots

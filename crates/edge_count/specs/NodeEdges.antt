@@ -3,24 +3,14 @@ use mathlib.Core.Path.{_≡_, sym, ap, _∙_}
 use mathlib.Core.List.{List, List·Memᴰ}
 use Prim.Native.Nat.{_≤_}
 use lib.ListN.{length}
-use Rattle.spec_base.specs.Basic.{count}
-use Rattle.spec_graph.specs.Graph as G
 use Rattle.spec_graph.specs.Unfolding.{Node}
 use Rattle.spec_graph.specs.Edge as E
 use Rattle.place_row.specs.RowTable.{rowsOf, tableOf, edgesOfRows}
 use Rattle.place_row.specs.RowTableLaws.{KeysSmall, edges-rows, table-rows}
-use Rattle.edge_count.specs.declared.Counts.{Counts}
-use Rattle.edge_count.specs.Slots.{tableEdges, tableCounts}
+use Rattle.edge_count.specs.Slots.{tableEdges}
 
 module _ (nodes : List Node) (small : (n : Node) → List·Memᴰ n nodes → KeysSmall n) (few : length (rowsOf nodes) ≤ 512) where
   -- E5: a table of the nodes' rows has the nodes' edges
   pub table-edges : tableEdges (tableOf (rowsOf nodes)) ≡ E.edgesOf nodes
   unfolding tableEdges
   table-edges = ap edgesOfRows (table-rows (rowsOf nodes) few) ∙ sym (edges-rows nodes small)
-
-  -- and so their counts
-  pub table-counts : _≡_ {A = Counts} (tableCounts (tableOf (rowsOf nodes)))
-      (record { edges = length (E.edgesOf nodes); back = count (λ e. G.isBack (e .flow)) (E.edgesOf nodes) })
-  unfolding tableCounts
-  table-counts =
-      ap (λ (l : List E.Edge). record { edges = length l; back = count (λ e. G.isBack (e .flow)) l }) table-edges

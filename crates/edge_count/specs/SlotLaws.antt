@@ -10,7 +10,6 @@ use lib.Dec.{eqb, ltb}
 use borrow.Author.Tests.{eq-eqb, ne-eqb, lt-ltb, le-ltb}
 use Rattle.law_base.specs.BoolLaws.{and-right}
 use Rattle.spec_graph.specs.Graph as G
-use Rattle.spec_graph.specs.Edge as E
 use Rattle.place_row.specs.declared.Row.{Row}
 use Rattle.place_row.specs.RowTable.{rowAt, rowCount, rowForward, rowBack, rowStands, rowEdge}
 use Rattle.edge_count.specs.declared.Counts.{Counts}

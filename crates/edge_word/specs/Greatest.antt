@@ -36,7 +36,8 @@ unfolding backPick
 back-nothing x e = rw (eq-eqb x 0 e) refl
 
 -- such tables stand for all edges
-pub greatest-picked : {g : Graph} (forwards backs : List ℕ) → Small g → GreatestWords g forwards backs → Picked g 64 (forwardsIn forwards) (backsIn backs)
+pub greatest-picked : {g : Graph} (forwards backs : List ℕ) → Small g → GreatestWords g forwards backs
+    → Picked g 64 (forwardsIn forwards) (backsIn backs)
 greatest-picked {g} forwards backs small filled =
     record { forwardEdge = a-edge; forwardLast = a-last; backEdge = b-edge; backFirst = b-first }
   where

@@ -118,7 +118,7 @@ module _ (test : Row → Row → Bool) (code : Row → Row → ℕ) where
       omega arith
 
 -- the entry for two nodes
-pub entry-between : (word : Row → Row → ℕ) (rows : List Row) (u v : ℕ) → u < 64 → v < 64
+entry-between : (word : Row → Row → ℕ) (rows : List Row) (u v : ℕ) → u < 64 → v < 64
     → entry (wordsBetween word rows) u v ≡ between word rows u v
 entry-between word rows u v h k =
     let left : (u * 64 + v) / 64 ≡ u = omega arith in
@@ -261,7 +261,8 @@ module _ (nodes : List Node) where
             where
               go : (entry forwards u v ≡ 0)
                   ⊎ ((s : Place) × (t : Place) × (s .number ≡ u) × (t .number ≡ v) × List·Memᴰ s (placesOf 0 nodes)
-                  × (g .edge (s .number) (s .place) (t .number) (t .place) Flow.forward ≡ true) × (entry forwards u v ≡ forwardCode (rowOf s) (rowOf t)))
+                  × (g .edge (s .number) (s .place) (t .number) (t .place) Flow.forward ≡ true)
+                  × (entry forwards u v ≡ forwardCode (rowOf s) (rowOf t)))
                   → (entry forwards u v ≡ 0)
                   ⊎ ((i : ℕ) × (j : ℕ) × (g .edge u i v j Flow.forward ≡ true) × (entry forwards u v ≡ forwardWord (g .loose u i) i j))
               go (inl z) = inl z

@@ -39,7 +39,7 @@ module _ (nodes : List Node) (few : length nodes ≤ 64) (statements : statement
   rows-same = table-rows (rowsOf nodes) (let e = rowsOf-length nodes in omega arith)
 
   -- what is picked from the table of the nodes' places stands for all edges
-  pub picks-greatest : GreatestWords (graphOf nodes) (r .forwards) (r .backs)
+  picks-greatest : GreatestWords (graphOf nodes) (r .forwards) (r .backs)
   unfolding picksOf
   picks-greatest =
       subst (λ (p : PickedEdges). GreatestWords (graphOf nodes) (p .forwards) (p .backs)) (sym picked)
@@ -47,7 +47,7 @@ module _ (nodes : List Node) (few : length nodes ≤ 64) (statements : statement
       (rows-greatest nodes few statements keys))
 
   -- the walk of what is picked is a dangerous closed walk of at most 65 steps, or it is empty and there is none
-  pub picks-verdict :
+  picks-verdict :
       ((isDangerous (graphOf nodes) (tableWalk (r .forwards) (r .backs)) ≡ true) × (length (tableWalk (r .forwards) (r .backs)) ≤ 65))
       ⊎ ((tableWalk (r .forwards) (r .backs) ≡ []) × (DangerousWalk (graphOf nodes) → ⊥))
   unfolding graphOf

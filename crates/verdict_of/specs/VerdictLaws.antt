@@ -4,7 +4,7 @@ use mathlib.Core.List.{List, []}
 use mathlib.Core.Logic.{_⊎_, inl, inr}
 use mathlib.Core.Option.{Option, none, some}
 use mathlib.Core.Path.{_≡_, refl, sym, ap, subst, _∙_}
-use Prim.Native.Nat.{ℕ, zero, suc, _*_, _/_, _≤_, _<_}
+use Prim.Native.Nat.{ℕ, _*_, _/_, _≤_, _<_}
 use native.Mathlib.Omega.{arith}
 use lib.ListN.{length, take}
 use Rattle.spec_text.specs.declared.Workload.{Workload}
@@ -119,7 +119,8 @@ judged-not-given {w} {before} h (judged s answer after word) = absurd (go s refl
 
 -- ---- what the word robust is worth
 
--- N1: a text gives the value, the counts are its own, each of its schedules has a serial order, and the area stays as it was
+-- N1: a text gives the value, the counts are its own, each of its schedules has a serial order, and the area stays as it was. It is for callers of
+-- `verdict_of`, so nothing here cites it.
 pub judged-robust : {w : Workload} {before : List ℕ} {answer : Told} {after : List ℕ} {c : Counts} → Judged w before answer after
     → answer ≡ Told.robust c → Given w × (c ≡ countsOf (linesOf w)) × ((s : Schedule (linesOf w)) → Serialisable s) × (after ≡ before)
 judged-robust (refused number s) e = let z : _≡_ {A = ℕ} 0 1 = cc in absurd (omega arith)

@@ -23,7 +23,7 @@ pub fn verdict_of(w: Workload, area: &mut [u64]) -> Verdict
             nodes,
             places,
         } => {
-            let n = (places * 8) as usize;
+            let n = (places * place_row::ROW_WORDS as u64) as usize;
             let p = walk_pick::pick_edges(&table[..n]);
             let forwards = p.forwards;
             let backs = p.backs;

@@ -4,7 +4,7 @@ use mathlib.Core.Bool.{Bool, true, false, cond, false≢true}
 use mathlib.Core.Logic.{_⊎_, inl, inr}
 use mathlib.Core.Option.{none, some}
 use mathlib.Core.List.{List, [], _∷_, _++_, flatMap, append-assoc}
-use Prim.Native.Nat.{ℕ, zero, suc, _+_, _-_, _*_, _/_, _%_, _≤_, _<_, zero-le, suc-le-suc}
+use Prim.Native.Nat.{ℕ, zero, suc, _+_, _*_, _/_, _%_, _≤_, _<_, zero-le, suc-le-suc}
 use native.Mathlib.Nat.{zero-add}
 use native.Mathlib.Omega.{arith}
 use lib.Bits.{bitAnd}
@@ -19,9 +19,9 @@ use Rattle.spec_report.specs.Area.{flowWord, stepWords, shownIn}
 use Rattle.walk_laws.specs.declared.Pick.{Pick}
 use Rattle.edge_word.specs.Coding.{forwardEdge, backEdge, entry}
 use Rattle.walk_reach.specs.Layers.{joinedRows, layersTo}
-use Rattle.walk_pair.specs.Pairs.{nodeIn, pairFor, ClosingPair}
-use Rattle.walk_pair.specs.declared.Closing.{Closing}
-use Rattle.walk_find.specs.TableWalk.{lowest, forwardStep, backStep, wayOn, walkOn, tableWalk, putWords, putStep, putSteps, Written, WalkAnswered}
+use Rattle.walk_pair.specs.Pairs.{nodeIn, pairFor}
+use Rattle.walk_find.specs.TableWalk.{lowest, forwardStep, backStep, wayOn, walkOn, tableWalk}
+use Rattle.walk_find.specs.TableWalk.{putWords, putStep, putSteps, Written, WalkAnswered}
 use Rattle.walk_find.specs.TableWalk.WalkAnswered.{no-room, no-walk, shown}
 use Rattle.walk_find.specs.WayLaws.{put-cons}
 use Rattle.walk_find.specs.WalkLaws.{node-pair, table-none, table-written, table-verdict}
@@ -82,7 +82,7 @@ put-after-front (s ∷ steps) front rest k h l = go rest l (λ r. put-after-fron
         ∙ ap (λ (m : ℕ). (stepWords s ++ flatMap stepWords steps) ++ drop m (a ∷ b ∷ c ∷ d ∷ r)) (sym four))
 
 -- steps that fit are shown
-pub put-shown : (steps : List Step) (area : List ℕ) → length steps * 4 ≤ length area → putSteps area 0 steps ≡ shownIn steps area
+put-shown : (steps : List Step) (area : List ℕ) → length steps * 4 ≤ length area → putSteps area 0 steps ≡ shownIn steps area
 unfolding shownIn
 put-shown steps area h = put-after-front steps [] area 0 refl h
 
@@ -147,7 +147,8 @@ module _ (forwards backs before : List ℕ) where
   unfolding walkOn
   answer-found h {rows} {u} {x} p q l e {after} {r} t =
       let node : u ≡ nodeIn forwards backs (joinedRows forwards) = q ∙ ap (nodeIn forwards backs) p in
-      let pair : x ≡ pairFor forwards backs (joinedRows forwards) (nodeIn forwards backs (joinedRows forwards)) = e ∙ ap₂ (pairFor forwards backs) p node in
+      let pair : x ≡ pairFor forwards backs (joinedRows forwards) (nodeIn forwards backs (joinedRows forwards))
+      = e ∙ ap₂ (pairFor forwards backs) p node in
       let same : walkOn forwards backs (joinedRows forwards) (nodeIn forwards backs (joinedRows forwards))
       (pairFor forwards backs (joinedRows forwards) (nodeIn forwards backs (joinedRows forwards))) ≡ walkOn forwards backs rows u x = cc in
       let found = table-written forwards backs (rw node at l) ∙ same in

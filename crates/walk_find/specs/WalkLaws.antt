@@ -75,7 +75,7 @@ reaches-next forwards n u d w h e = rw e at h
 
 module _ (forwards : List ℕ) (n : ℕ) (full : n ≡ 64) where
   -- the first node to go on to
-  pub lowest-first : (nodes : ℕ) (rest : ℕ → Bool) (w : ℕ) → w < n → ((k : ℕ) → k < n → has nodes k ≡ rest k)
+  lowest-first : (nodes : ℕ) (rest : ℕ → Bool) (w : ℕ) → w < n → ((k : ℕ) → k < n → has nodes k ≡ rest k)
       → any (onwardTo (forwardsIn forwards) rest w) (numbers n) ≡ true
       → let x = lowest (bitAnd (getD (joinedRows forwards) w 0) nodes) in
       (x < n) × (onwardTo (forwardsIn forwards) rest w x ≡ true) × (first (onwardTo (forwardsIn forwards) rest w) (numbers n) ≡ some x)
@@ -86,7 +86,8 @@ module _ (forwards : List ℕ) (n : ℕ) (full : n ≡ 64) where
       let small : trailingZeros 64 word < n = omega (arith, l .0) in
       let least : trailingZeros 64 word % 64 ≡ trailingZeros 64 word = mod-eq-of-lt (l .0) in
       let there : onwardTo (forwardsIn forwards) rest w (trailingZeros 64 word) ≡ true = sym (onward (trailingZeros 64 word) small) ∙ l .1 in
-      subst (λ (x : ℕ). (x < n) × (onwardTo (forwardsIn forwards) rest w x ≡ true) × (first (onwardTo (forwardsIn forwards) rest w) (numbers n) ≡ some x))
+      subst (λ (x : ℕ). (x < n) × (onwardTo (forwardsIn forwards) rest w x ≡ true)
+      × (first (onwardTo (forwardsIn forwards) rest w) (numbers n) ≡ some x))
       (sym least) (
         small,
         there,
@@ -103,16 +104,18 @@ module _ (forwards : List ℕ) (n : ℕ) (full : n ≡ 64) where
           ∙ ap₂ (λ (a b : Bool). a && b) (ap (λ (x : ℕ). has x k) (row-at forwards n full w h) ∙ row-has forwards n full w k i) (same k i)
 
   -- the way that is written is the way among the nodes
-  pub way-same : (u d w : ℕ) → d ≤ 63 → w < n → reaches (forwardsIn forwards) n u d w ≡ true
+  way-same : (u d w : ℕ) → d ≤ 63 → w < n → reaches (forwardsIn forwards) n u d w ≡ true
       → wayOn forwards (joinedRows forwards) (layersTo (joinedRows forwards) u) d w ≡ wayTo (forwardsIn forwards) n u d w
-  way-same u zero w few h e = way-none forwards (joinedRows forwards) (layersTo (joinedRows forwards) u) w ∙ sym (way-still (forwardsIn forwards) n u w)
+  way-same u zero w few h e =
+      way-none forwards (joinedRows forwards) (layersTo (joinedRows forwards) u) w ∙ sym (way-still (forwardsIn forwards) n u w)
   way-same u (suc d) w few h e = go (λ x. way-same u d x (omega arith)) (decide (reaches (forwardsIn forwards) n u d w))
     where
       Layers : List ℕ
       Layers = layersTo (joinedRows forwards) u
 
       Rest : Type 0
-      Rest = (x : ℕ) → x < n → reaches (forwardsIn forwards) n u d x ≡ true → wayOn forwards (joinedRows forwards) Layers d x ≡ wayTo (forwardsIn forwards) n u d x
+      Rest = (x : ℕ) → x < n → reaches (forwardsIn forwards) n u d x ≡ true
+          → wayOn forwards (joinedRows forwards) Layers d x ≡ wayTo (forwardsIn forwards) n u d x
 
       go : Rest → (reaches (forwardsIn forwards) n u d w ≡ true) ⊎ (reaches (forwardsIn forwards) n u d w ≡ false)
           → wayOn forwards (joinedRows forwards) Layers (suc d) w ≡ wayTo (forwardsIn forwards) n u (suc d) w
@@ -151,7 +154,8 @@ pair-closes forwards backs rows u h = go (decide (eqb (getD rows u 0) 0))
 
 -- W4: a pair that closes is found; its forward edge leaves u, so the row of u is not empty
 pair-found : (forwards backs : List ℕ) (u v w : ℕ) → u < 64 → v < 64 → w < 64
-    → closesAt forwards backs u (getD (layersTo (joinedRows forwards) u) 63 0) (v * 64 + w) ≡ true → pairFor forwards backs (joinedRows forwards) u < 4096
+    → closesAt forwards backs u (getD (layersTo (joinedRows forwards) u) 63 0) (v * 64 + w) ≡ true
+    → pairFor forwards backs (joinedRows forwards) u < 4096
 unfolding pairIn closesAt
 pair-found forwards backs u v w h i j e = go (decide (eqb (getD (joinedRows forwards) u 0) 0))
   where
@@ -207,7 +211,7 @@ module _ (forwards backs : List ℕ) (n : ℕ) (full : n ≡ 64) where
       (layers-has forwards n full u 63 w (omega arith) l ∙ sym (ap (λ (d : ℕ). reaches (forwardsIn forwards) n u d w) rounds) ∙ parts .1))
 
   -- the walk that is written is the walk among the nodes
-  pub walk-same : (u x : ℕ) → closesAt forwards backs u (getD (layersTo (joinedRows forwards) u) 63 0) x ≡ true
+  walk-same : (u x : ℕ) → closesAt forwards backs u (getD (layersTo (joinedRows forwards) u) 63 0) x ≡ true
       → walkOn forwards backs (joinedRows forwards) u x ≡ walkAt (forwardsIn forwards) (backsIn backs) n u (x / 64) (x % 64)
   unfolding walkOn walkAt returnsAt
   walk-same u x h =
@@ -221,7 +225,7 @@ module _ (forwards backs : List ℕ) (n : ℕ) (full : n ≡ 64) where
       two-more e c (way ∙ sym (ap (λ (d : ℕ). wayTo (forwardsIn forwards) n u d (x % 64)) rounds))
 
   -- where some pair among the nodes can be closed, one is found
-  pub node-in : nodeTest (forwardsIn forwards) (backsIn backs) n ≡ true → nodeIn forwards backs (joinedRows forwards) < 64
+  node-in : nodeTest (forwardsIn forwards) (backsIn backs) n ≡ true → nodeIn forwards backs (joinedRows forwards) < 64
   unfolding nodeTest nodeIn
   node-in h =
       let a = any-numbers (λ u. any (λ v. any (returnsAt (forwardsIn forwards) (backsIn backs) n u v) (numbers n)) (numbers n)) n h in
@@ -254,11 +258,12 @@ table-written forwards backs h =
     let u = nodeIn forwards backs (joinedRows forwards) in
     let x = pairFor forwards backs (joinedRows forwards) u in
     table-some forwards backs h
-    ∙ sym (walk-same forwards backs 64 refl u x (pair-closes forwards backs (joinedRows forwards) u (node-pair forwards backs (joinedRows forwards) h)))
+    ∙ sym (walk-same forwards backs 64 refl u x
+    (pair-closes forwards backs (joinedRows forwards) u (node-pair forwards backs (joinedRows forwards) h)))
 
 module _ {g : Graph} (forwards backs : List ℕ) where
   -- the walk of the tables is a dangerous closed walk of at most 65 steps
-  pub table-danger : Picked g 64 (forwardsIn forwards) (backsIn backs) → nodeIn forwards backs (joinedRows forwards) < 64
+  table-danger : Picked g 64 (forwardsIn forwards) (backsIn backs) → nodeIn forwards backs (joinedRows forwards) < 64
       → (isDangerous g (tableWalk forwards backs) ≡ true) × (length (tableWalk forwards backs) ≤ 65)
   table-danger picks h =
       let u = nodeIn forwards backs (joinedRows forwards) in
@@ -269,7 +274,7 @@ module _ {g : Graph} (forwards backs : List ℕ) where
       subst (λ (l : List Step). (isDangerous g l ≡ true) × (length l ≤ 65)) (sym (table-some forwards backs h)) found
 
   -- where there is a dangerous closed walk, of any length, one is found
-  pub table-complete : Regular g → Picked g 64 (forwardsIn forwards) (backsIn backs) → g .size ≤ 64 → DangerousWalk g
+  table-complete : Regular g → Picked g 64 (forwardsIn forwards) (backsIn backs) → g .size ≤ 64 → DangerousWalk g
       → nodeIn forwards backs (joinedRows forwards) < 64
   table-complete regular picks small walk = node-in forwards backs 64 refl (node-complete regular picks small walk)
 

@@ -2,7 +2,7 @@
 use mathlib.Core.Path.{_≡_, refl, sym, ap, subst, _∙_}
 use mathlib.Core.Bool.{Bool, true, false, cond}
 use mathlib.Core.List.{List, [], _∷_}
-use Prim.Native.Nat.{ℕ, suc, _+_, _-_, _*_, _%_, _≤_, _<_}
+use Prim.Native.Nat.{ℕ, suc, _+_, _-_, _*_, _≤_, _<_}
 use native.Mathlib.Numerals.{add-one}
 use native.Mathlib.Omega.{arith}
 use lib.Bits.{bitAnd}
@@ -14,12 +14,9 @@ use Rattle.edge_word.specs.Coding.{forwardEdge, entry}
 use Rattle.walk_find.specs.TableWalk.{lowest, forwardStep, wayOn, putWords, putStep, putSteps, Writing, writing, goOn, Written, WayTurn}
 
 -- the first node of a word is a node
-pub lowest-small : (word : ℕ) → lowest word < 64
+lowest-small : (word : ℕ) → lowest word < 64
 unfolding lowest
 lowest-small word = omega arith
-
-pub lowest-below : (x word : ℕ) → x ≡ lowest word → x < 64
-lowest-below x word e = let h = lowest-small word in omega arith
 
 module _ (forwards rows : List ℕ) (nodes : ℕ) (area : List ℕ) (m k : ℕ) where
   -- a node that is one of the nodes is not left
@@ -35,7 +32,7 @@ module _ (forwards rows : List ℕ) (nodes : ℕ) (area : List ℕ) (m k : ℕ) 
   go-along p h q f e w = let apart : has nodes m ≡ false = sym p ∙ h in rw (apart, w, e, f, q) refl
 
 -- a step written leaves the area as long as it was
-pub length-putStep : (area : List ℕ) (k : ℕ) (s : Step) → length (putStep area k s) ≡ length area
+length-putStep : (area : List ℕ) (k : ℕ) (s : Step) → length (putStep area k s) ≡ length area
 unfolding putStep putWords
 length-putStep area k s = simp length-set
 

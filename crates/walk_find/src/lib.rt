@@ -48,7 +48,9 @@ fn go_on(
     out: &mut [u64],
 ) -> Spot
     requires { ⌜ (m < 64) × (k * 4 + 4 ≤ length (now out)) × (k < 65) ⌝ }
-    ensures { λ r. ⌜ writing (now (out .exit)) (r .node) (r .steps) ≡ goOn (now (forwards .entry)) (now (rows .entry)) nodes (now (out .entry)) m k ⌝ }
+    ensures { λ r. ⌜
+        writing (now (out .exit)) (r .node) (r .steps) ≡ goOn (now (forwards .entry)) (now (rows .entry)) nodes (now (out .entry)) m k
+        ⌝ }
 {
     if has_bit(nodes, m as u64) {
         return Spot { node: m, steps: k };
@@ -69,7 +71,9 @@ fn put_way(
     out: &mut [u64],
 ) -> usize
     requires { ⌜ (w < 64) × (260 ≤ length (now out)) ⌝ }
-    ensures { λ r. ⌜ Written (wayOn (now (forwards .entry)) (now (rows .entry)) (now (layers .entry)) 63 w) 2 (now (out .entry)) (now (out .exit)) r ⌝ }
+    ensures { λ r. ⌜
+        Written (wayOn (now (forwards .entry)) (now (rows .entry)) (now (layers .entry)) 63 w) 2 (now (out .entry)) (now (out .exit)) r
+        ⌝ }
 {
     let mut node = w;
     let mut steps: usize = 2;
@@ -93,7 +97,9 @@ fn put_walk(
     out: &mut [u64],
 ) -> usize
     requires { ⌜ (u < 64) × (x < 4096) × (260 ≤ length (now out)) ⌝ }
-    ensures { λ r. ⌜ Written (walkOn (now (forwards .entry)) (now (backs .entry)) (now (rows .entry)) u x) 0 (now (out .entry)) (now (out .exit)) r ⌝ }
+    ensures { λ r. ⌜
+        Written (walkOn (now (forwards .entry)) (now (backs .entry)) (now (rows .entry)) u x) 0 (now (out .entry)) (now (out .exit)) r
+        ⌝ }
 {
     let v = x / NODES;
     let w = x % NODES;

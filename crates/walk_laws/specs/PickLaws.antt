@@ -33,7 +33,7 @@ pub record Picked (g : Graph) (n : ℕ) (forwards backs : Picks) : Type 0 where
       → (q : Pick) × (backs v w ≡ some q) × (q .leaves ≤ k)
 
 -- what is picked
-pub picked-some : (o : Option Pick) → picked o ≡ true → (p : Pick) × (o ≡ some p)
+picked-some : (o : Option Pick) → picked o ≡ true → (p : Pick) × (o ≡ some p)
 picked-some none h = absurd (false≢true h)
 picked-some (some p) h = (p, refl)
 
@@ -68,7 +68,7 @@ reaches-here forwards n u (suc d) w e = or-left (any (onwardTo forwards (reaches
 
 module _ {g : Graph} {forwards backs : Picks} where
   -- the way that is found is a way in the graph, of at most d steps
-  pub way-found : {n : ℕ} → Picked g n forwards backs → (u d w : ℕ) → w < n → reaches forwards n u d w ≡ true
+  way-found : {n : ℕ} → Picked g n forwards backs → (u d w : ℕ) → w < n → reaches forwards n u d w ≡ true
       → (r : Reachable g w u) × (stepsOf r ≡ wayTo forwards n u d w) × (length (stepsOf r) ≤ d)
   unfolding reaches wayTo stepsOf
   way-found {n} picks u zero w small h = (here (eqb-true w u h), refl, zero-le)
@@ -121,7 +121,8 @@ module _ {g : Graph} {forwards backs : Picks} where
       go rest false e k = on rest (first (onwardTo forwards (reaches forwards n u d) w) (numbers n)) refl k
 
   -- an edge of either flow is stood for by a forward one
-  joined-of : {n : ℕ} → Regular g → Picked g n forwards backs → (m i k j : ℕ) (flow : Flow) → g .edge m i k j flow ≡ true → picked (forwards m k) ≡ true
+  joined-of : {n : ℕ} → Regular g → Picked g n forwards backs → (m i k j : ℕ) (flow : Flow) → g .edge m i k j flow ≡ true
+      → picked (forwards m k) ≡ true
   joined-of regular picks m i k j flow h = go flow h
     where
       forward : g .edge m i k j Flow.forward ≡ true → picked (forwards m k) ≡ true

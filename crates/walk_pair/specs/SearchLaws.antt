@@ -12,18 +12,18 @@ use Rattle.walk_pair.specs.Pairs.{firstFrom}
 
 module _ (test : ℕ → Bool) where
   -- a number that passes is the first
-  pub first-here : (left x : ℕ) → 0 < left → test x ≡ true → firstFrom test left x ≡ x
+  first-here : (left x : ℕ) → 0 < left → test x ≡ true → firstFrom test left x ≡ x
   unfolding firstFrom
   first-here zero x h e = absurd (not-suc-le-zero h)
   first-here (suc left) x h e = rw e
 
   -- one that does not is passed over
-  pub first-later : (left x : ℕ) → test x ≡ false → firstFrom test (suc left) x ≡ firstFrom test left (suc x)
+  first-later : (left x : ℕ) → test x ≡ false → firstFrom test (suc left) x ≡ firstFrom test left (suc x)
   unfolding firstFrom
   first-later left x e = rw e
 
   -- a turn of the search among the numbers below n
-  pub first-turn : (n x : ℕ) → x < n → test x ≡ false → firstFrom test (n - x) x ≡ firstFrom test (n - (x + 1)) (x + 1)
+  first-turn : (n x : ℕ) → x < n → test x ≡ false → firstFrom test (n - x) x ≡ firstFrom test (n - (x + 1)) (x + 1)
   first-turn n x h e =
       let same : n - x ≡ suc (n - (x + 1)) = omega arith in
       ap (λ (k : ℕ). firstFrom test k x) same ∙ first-later (n - (x + 1)) x e ∙ rw add-one refl
@@ -35,16 +35,7 @@ module _ (test : ℕ → Bool) where
       let none : n - x ≡ 0 = omega arith in
       let same : x ≡ n = omega arith in ap (λ (k : ℕ). firstFrom test k x) none ∙ same
 
-  -- where it ends: at a number that passes, or after the last
-  pub first-within : (left x : ℕ) → firstFrom test left x ≤ x + left
-  unfolding firstFrom
-  first-within zero x = omega arith
-  first-within (suc left) x = go (first-within left (suc x)) (test x)
-    where
-      go : firstFrom test left (suc x) ≤ suc x + left → (b : Bool) → cond b x (firstFrom test left (suc x)) ≤ x + suc left
-      go h true = omega arith
-      go h false = omega arith
-
+  -- where it ends before the last, it ends at a number that passes
   pub first-passes : (left x : ℕ) → firstFrom test left x < x + left → test (firstFrom test left x) ≡ true
   unfolding firstFrom
   first-passes zero x h = let z : ⊥ = omega arith in absurd z

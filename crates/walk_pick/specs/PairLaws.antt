@@ -126,7 +126,8 @@ pub row-turn : (table : List ℕ) (p q : Row) (j : ℕ) {forwards₀ backs₀ fo
     → RowKept table p (j + 1) forwards₀ backs₀ forwards′ backs′ (edges + r .edges) (back + r .back)
 unfolding keptRow rowSum
 row-turn table p q j {forwards₀ = forwards₀} {backs₀ = backs₀} {r = r} same h pair = record {
-  forwardsKept = pair .forwardsKept ∙ ap₂ (keptPair rowForwardWord p) same (h .forwardsKept) ∙ ap (keptRow rowForwardWord table p forwards₀) (sym (add-one j));
+  forwardsKept = pair .forwardsKept ∙ ap₂ (keptPair rowForwardWord p) same (h .forwardsKept)
+      ∙ ap (keptRow rowForwardWord table p forwards₀) (sym (add-one j));
   backsKept = pair .backsKept ∙ ap₂ (keptPair rowBackWord p) same (h .backsKept) ∙ ap (keptRow rowBackWord table p backs₀) (sym (add-one j));
   edgesCounted = sum-next (λ k. edgesAt p (rowAt table k)) j (h .edgesCounted) (ap (λ (t : Counts). t .edges) told);
   backCounted = sum-next (λ k. backAt p (rowAt table k)) j (h .backCounted) (ap (λ (t : Counts). t .back) told);

@@ -21,19 +21,7 @@ use Rattle.place_row.specs.RowTableLaws.{flatMap-map}
 use Rattle.edge_count.specs.Slots.{tableEdges, tableCounts, pairCounts}
 use Rattle.walk_pick.specs.declared.PickedEdges.{PickedEdges}
 use Rattle.walk_pick.specs.Picks.{rowForwardWord, rowBackWord, greatest, standsIn, wordFor, between, wordsBetween, picksOf}
-use Rattle.walk_pick.specs.PickSteps.{
-  keptAt,
-  hasEntries,
-  keptPair,
-  keptRow,
-  keptRows,
-  sumBelow,
-  edgesAt,
-  backAt,
-  rowSum,
-  rowsSum,
-  RowsKept,
-}
+use Rattle.walk_pick.specs.PickSteps.{keptAt, hasEntries, keptPair, keptRow, keptRows, sumBelow, edgesAt, backAt, rowSum, rowsSum, RowsKept}
 
 -- ---- the greatest of one number more
 
@@ -207,7 +195,7 @@ words-length word rows =
     length-map (numbers 4096) (λ x. between word rows (x / 64) (x % 64)) ∙ length-numbers 4096
 
 -- the words of all pairs of rows are kept
-pub kept-all : (word : Row → Row → ℕ) (table : List ℕ) (n : ℕ) → n ≡ rowCount table
+kept-all : (word : Row → Row → ℕ) (table : List ℕ) (n : ℕ) → n ≡ rowCount table
     → keptRows word table n n ≡ wordsBetween word (tableRows table)
 unfolding between tableRows
 kept-all word table n e =

@@ -19,12 +19,13 @@ use place_fetch::row_at;
 use place_fetch::row_count;
 use place_row::Row;
 
-// The tables for the detector, the word for nodes u and v at u * 64 + v, and how many edges and back edges there are.
+// How many edges and back edges there are, and the tables for the detector, the word for nodes u and v at u * 64 + v. The counts stand first: so the
+// compiler copies the tables once less.
 pub struct PickedEdges {
-    pub forwards: [u64; PAIRS],
-    pub backs: [u64; PAIRS],
     pub edges: u64,
     pub back: u64,
+    pub forwards: [u64; PAIRS],
+    pub backs: [u64; PAIRS],
 }
 
 // Whether the tables have room for a row's edges: its node is below 64 and its place below 1024.
@@ -111,9 +112,9 @@ pub fn pick_edges(table: &[u64]) -> PickedEdges
         i += 1;
     }
     PickedEdges {
-        forwards,
-        backs,
         edges: edges as u64,
         back: back as u64,
+        forwards,
+        backs,
     }
 }

@@ -69,7 +69,8 @@ module _ (test : ℕ → Bool) where
   word-in zero k h = absurd (not-suc-le-zero h)
   word-in (suc n) k h = go (word-in n k) (decide (eqb k n))
     where
-      go : (k < n → has (wordBelow test n) k ≡ test k) → (eqb k n ≡ true) ⊎ (eqb k n ≡ false) → has (withNode (wordBelow test n) (test n) n) k ≡ test k
+      go : (k < n → has (wordBelow test n) k ≡ test k) → (eqb k n ≡ true) ⊎ (eqb k n ≡ false)
+          → has (withNode (wordBelow test n) (test n) n) k ≡ test k
       go rest (inl e) =
           let same : n ≡ k = sym (eqb-true k n e) in
           ap (λ (i : ℕ). has (withNode (wordBelow test n) (test n) n) i) (sym same) ∙ with-same (wordBelow test n) (test n) n

@@ -13,7 +13,8 @@ use Rattle.edge_count.specs.Slots.{pairCounts, edgesBelow, backBelow}
 use Rattle.edge_count.specs.SlotLaws.{rows-few, pair-most, edges-few, back-few, edges-start, back-start, pair-edges, pair-back, row-counted}
 
 abbrev Inv-loop : tie.InvT-loop
-Inv-loop table n i p edges₀ back₀ j₀ edges back j = (j ≤ n) × (edges ≡ edgesBelow table (i * 1024 + j * 2)) × (back ≡ backBelow table (i * 1024 + j * 2))
+Inv-loop table n i p edges₀ back₀ j₀ edges back j =
+    (j ≤ n) × (edges ≡ edgesBelow table (i * 1024 + j * 2)) × (back ≡ backBelow table (i * 1024 + j * 2))
 
 abbrev μ-loop : tie.MeasureT-loop
 μ-loop table n i p edges₀ back₀ j₀ edges back j = n - j

@@ -25,7 +25,13 @@ returns-3 c =
     let c3 = c .before .before .before in
     let c4 = c3 .before in
     let c5 = c4 .before in
-    simp (ne-eqb _ _ (c5 .before .if1 .left), ne-eqb _ _ (c5 .if2 .left), ← c4 .forward-edge .ensures, ← c3 .back-edge .ensures, lt-ltb _ _ (c .if3 .taken))
+    simp (
+      ne-eqb _ _ (c5 .before .if1 .left),
+      ne-eqb _ _ (c5 .if2 .left),
+      ← c4 .forward-edge .ensures,
+      ← c3 .back-edge .ensures,
+      lt-ltb _ _ (c .if3 .taken),
+    )
 
 returns-4 : tie.Need-returns-4
 unfolding forwardPick backPick
@@ -33,7 +39,13 @@ returns-4 c =
     let c3 = c .before .before .before in
     let c4 = c3 .before in
     let c5 = c4 .before in
-    simp (ne-eqb _ _ (c5 .before .if1 .left), ne-eqb _ _ (c5 .if2 .left), ← c4 .forward-edge .ensures, ← c3 .back-edge .ensures, le-ltb _ _ (c .if3 .left))
+    simp (
+      ne-eqb _ _ (c5 .before .if1 .left),
+      ne-eqb _ _ (c5 .if2 .left),
+      ← c4 .forward-edge .ensures,
+      ← c3 .back-edge .ensures,
+      le-ltb _ _ (c .if3 .left),
+    )
 
 pub dangerous-spec : {M : Type 1} → statement M
 dangerous-spec =

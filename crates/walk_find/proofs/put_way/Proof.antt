@@ -7,7 +7,8 @@ use Rattle.walk_find.proofs.put_way.Statement.{statement}
 use Rattle.walk_find.proofs.put_way.Tie as tie
 
 abbrev Inv-loop : tie.InvT-loop
-Inv-loop forwards rows layers w out₀ node₀ steps₀ d₀ out node steps d = WayTurn forwards rows layers (wayOn forwards rows layers 63 w) out₀ out node steps d
+Inv-loop forwards rows layers w out₀ node₀ steps₀ d₀ out node steps d =
+    WayTurn forwards rows layers (wayOn forwards rows layers 63 w) out₀ out node steps d
 
 abbrev μ-loop : tie.MeasureT-loop
 μ-loop forwards rows layers w out₀ node₀ steps₀ d₀ out node steps d = d

@@ -9,7 +9,8 @@ use Rattle.walk_pick.proofs.pick_row.Statement.{statement}
 use Rattle.walk_pick.proofs.pick_row.Tie as tie
 
 abbrev Inv-loop : tie.InvT-loop
-Inv-loop table n i forwards₀ backs₀ p edges₀ back₀ j₀ forwards backs edges back j = (j ≤ n) × RowKept table p j forwards₀ backs₀ forwards backs edges back
+Inv-loop table n i forwards₀ backs₀ p edges₀ back₀ j₀ forwards backs edges back j =
+    (j ≤ n) × RowKept table p j forwards₀ backs₀ forwards backs edges back
 
 abbrev μ-loop : tie.MeasureT-loop
 μ-loop table n i forwards₀ backs₀ p edges₀ back₀ j₀ forwards backs edges back j = n - j
