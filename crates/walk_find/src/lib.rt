@@ -26,10 +26,11 @@ fn put_words(out: &mut [u64], k: usize, a: u64, b: u64, c: u64, d: u64)
     requires { ⌜ (k * 4 + 4 ≤ length (now out)) × (k < 65) ⌝ }
     ensures { λ _. ⌜ now (out .exit) ≡ putWords (now (out .entry)) k a b c d ⌝ }
 {
-    out[k * STEP_WORDS] = a;
-    out[k * STEP_WORDS + 1] = b;
-    out[k * STEP_WORDS + 2] = c;
-    out[k * STEP_WORDS + 3] = d;
+    let at = k * STEP_WORDS;
+    out[at] = a;
+    out[at + 1] = b;
+    out[at + 2] = c;
+    out[at + 3] = d;
 }
 
 // How far the writing of a way has come: the node that is left next, and how many steps are written.

@@ -27,12 +27,15 @@ mul-n c =
     record { fits = omega arith }
 
 array-share-prefix-table : tie.Need-array-share-prefix-table
-array-share-prefix-table c = whole-filled (c .before .before .before .fill-rows .ensures) (c .before .f2 .given .1) .inside
+array-share-prefix-table c =
+    let inside = whole-filled (c .before .before .before .fill-rows .ensures) (c .before .f2 .given .1) .inside in
+    omega arith
 
 slice-aggregate-pick-edges : tie.Need-slice-aggregate-pick-edges
 slice-aggregate-pick-edges c =
     let whole = whole-filled (c .before .before .before .before .fill-rows .ensures) (c .before .before .f2 .given .1) in
-    sym (length-take-le _ _ (whole .inside))
+    let inside = whole .inside in
+    sym (length-take-le _ _ (omega arith))
 
 pick-edges-requires : tie.Need-pick-edges-requires
 pick-edges-requires c κs = search needs
