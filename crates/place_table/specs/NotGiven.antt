@@ -1,4 +1,4 @@
--- S21: a value that no text gives has no rows, and the lent table stays as it was.
+-- S21: a value that no text gives has no rows, and the lent table stays as it was. A result: no proof cites it.
 use mathlib.Core.List.{List}
 use mathlib.Core.Logic.{inl}
 use mathlib.Core.Option.{Option·none-ne-some}

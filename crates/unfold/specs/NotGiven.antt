@@ -1,4 +1,4 @@
--- S21: a value that no text gives is not unfolded, and the lent area stays as it was.
+-- S21: a value that no text gives is not unfolded, and the lent area stays as it was. Results: no proof cites them.
 use mathlib.Core.List.{List}
 use mathlib.Core.Path.{_≡_}
 use Prim.Native.Nat.{ℕ}

@@ -1,4 +1,4 @@
--- The unfolding over the lines' numbers and tables: steps towards the promises of specs/Settled.
+-- The unfolding over the lines' numbers and tables: steps towards the promises of specs/UnfoldSettled.
 use mathlib.Core.Bool.{Bool, false, cond, _||_}
 use mathlib.Core.List.{List, _++_}
 use mathlib.Core.Path.{_≡_}

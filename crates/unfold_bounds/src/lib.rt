@@ -5,6 +5,11 @@ ghost use mathlib.Core.Path.{_≡_};
 ghost use Rattle.unfold_laws.specs.Codes.{after};
 ghost use Rattle.unfold_bounds.specs.Refused.{refusedBy};
 
+// S22: so many unfoldings at most, and so many statements in them.
+const MOST_UNFOLDINGS: u64 = 64;
+
+const MOST_STATEMENTS: u64 = 512;
+
 // The place after a closing line, where there is one.
 pub fn line_after(lines: usize, e: usize) -> usize
     ensures { λ r. ⌜ r ≡ after lines e ⌝ }
@@ -19,10 +24,10 @@ pub fn line_after(lines: usize, e: usize) -> usize
 pub fn totals_refused(t: UnfoldingTotals, room: u64) -> u8
     ensures { λ r. ⌜ r ≡ refusedBy t room ⌝ }
 {
-    if t.count > 64 {
+    if t.count > MOST_UNFOLDINGS {
         return 22;
     }
-    if t.statements > 512 {
+    if t.statements > MOST_STATEMENTS {
         return 22;
     }
     if room < t.statements {

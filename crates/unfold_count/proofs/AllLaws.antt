@@ -40,7 +40,8 @@ lines-next codes i t r h k = record { same = k .same ∙ rw (h .same, add-one); 
 exact : (x n : ℕ) → x ≤ 513 → Alike x n → x ≡ cap n
 exact x n h a = sym (cap-small h) ∙ a .same
 
-pub lines-all : (codes : List ℕ) (i : ℕ) (t : UnfoldingTotals) → i ≤ length codes → length codes ≤ i → Totalled (totalsBefore codes i) t → AllCounted codes t
+pub lines-all : (codes : List ℕ) (i : ℕ) (t : UnfoldingTotals) → i ≤ length codes → length codes ≤ i → Totalled (totalsBefore codes i) t
+    → AllCounted codes t
 lines-all codes i t p q h =
     let e : length codes ≡ i = omega arith in
     let all : Totalled (totalsBefore codes (length codes)) t = rw e h in

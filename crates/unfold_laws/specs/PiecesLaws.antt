@@ -251,7 +251,8 @@ module _ (lines : List Line) where
       go true = plus-alike (alike-refl (t .count)) (stopped counts)
       go false = rw add-zero (alike-refl (t .count))
 
-  new-statements : (i : ℕ) (t : UnfoldingTotals) → Alike (lineTotals (codesOf lines) i t .statements) (t .statements + statementsIn (newNodes lines i))
+  new-statements : (i : ℕ) (t : UnfoldingTotals)
+      → Alike (lineTotals (codesOf lines) i t .statements) (t .statements + statementsIn (newNodes lines i))
   unfolding lineTotals newNodes countedAfter programAfter statementsIn
   new-statements i t = go (eqb (getD (codesOf lines) i 0) 3)
     where

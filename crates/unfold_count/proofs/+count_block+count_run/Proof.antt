@@ -1,5 +1,6 @@
 -- A run counts its first block and the run after it, a block its body or its two arms, as `countAt` and `itemAt` do (run-next, block-loop,
 -- block-branch). The measure is twice `left`, and one more for a block: a run calls with one less left, a block with as many.
+-- The answers stand in the order of the code; `search needs` finds those that are plain.
 use Rattle.unfold_count.proofs.RunLaws.{run-none, run-past, run-stop, run-next, block-statement, block-loop, block-branch}
 use Prim.Native.Nat.{_+_}
 use borrow.Author.Needs.{needs}

@@ -1,5 +1,6 @@
 -- A run lays its first statement or block and then, over the rest of the area, the run after it; the block takes the quotient of the number by
 -- what that run counts, the run the remainder (run-statement, run-block). The measure is twice `left`, and one more for a block.
+-- The answers stand in the order of the code; `search needs` finds those that are plain.
 use Rattle.unfold_write.proofs.PathLaws.{
   run-none,
   run-past,
