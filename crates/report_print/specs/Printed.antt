@@ -4,10 +4,10 @@ use mathlib.Core.Path.{_≡_}
 use Prim.Native.Nat.{ℕ, zero, suc, _+_, _-_, _*_, _≤_, min}
 use lib.ListN.{length, getD, drop, replicate}
 use lib.Seq.{sets}
-use Rattle.spec_graph.specs.Graph.{Flow}
 use Rattle.spec_graph.specs.Walk.{Step}
 use Rattle.spec_report.specs.State.{Counts}
 use Rattle.spec_report.specs.Report.{verdictNames, verdictLine, stepLines, dangerReport}
+use Rattle.report_bytes.specs.Bytes.{flowOf}
 use Rattle.report_print.specs.declared.Printed.{Printed}
 
 -- the bytes of a report, with zeros after them
@@ -17,11 +17,6 @@ printedAs bytes = record { length = length bytes; bytes = bytes ++ replicate (81
 -- the first two lines of a report that is no refusal
 abbrev pub verdictLines : List ℕ → Counts → List ℕ
 verdictLines word c = verdictNames ++ verdictLine word c
-
--- a flow's word: 0 is forward, any other back
-unfoldable pub flowOf : ℕ → Flow
-flowOf zero = Flow.forward
-flowOf (suc n) = Flow.back
 
 -- step k of a walk that is told by four words a step: node, place left, place entered, flow; a word past the end is 0
 unfoldable pub stepAt : List ℕ → ℕ → Step

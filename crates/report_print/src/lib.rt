@@ -1,15 +1,17 @@
 // The bytes of the three reports: a refusal, robust, and danger with its walk.
 
+use report_bytes::digit_byte;
+use report_bytes::flow_letter;
 use word_list::word_at;
 ghost use mathlib.Core.Path.{_≡_};
 ghost use mathlib.Core.List.{[], _∷_};
 ghost use Prim.Native.Nat.{_+_, _*_, _≤_, _<_, min};
 ghost use lib.ListN.{length};
 ghost use Rattle.spec_text.specs.Text.{space, newline};
-ghost use Rattle.spec_text.specs.Text.{digit};
 ghost use Rattle.spec_report.specs.State.{counted};
 ghost use Rattle.spec_report.specs.Report.{decimal, flowLetter, stepLine, stepLines, refusalReport, robustReport, dangerReport};
-ghost use Rattle.report_print.specs.Printed.{printedAs, verdictLines, flowOf, stepAt, stepsIn, walkIn, Put, DangerPut};
+ghost use Rattle.report_bytes.specs.Bytes.{flowOf};
+ghost use Rattle.report_print.specs.Printed.{printedAs, verdictLines, stepAt, stepsIn, walkIn, Put, DangerPut};
 
 // A report: how many bytes it has, and the bytes with zeros after them. No report here has more than 5,744 bytes: a number has at most
 // 20 digits, so a step takes at most 86 bytes and the 65 steps at most 5,590; the lines in front of them take 154.
@@ -40,14 +42,6 @@ fn put_byte(out: &mut [u8; 8192], at: usize, b: u8) -> usize
     at + 1
 }
 
-// The byte of a decimal digit.
-fn digit_byte(n: u64) -> u8
-    requires { ⌜ n < 10 ⌝ }
-    ensures { λ r. ⌜ r ≡ digit n ⌝ }
-{
-    (0x30 + n) as u8
-}
-
 // Writes a number in decimal: the digits in front of the last one, then the last.
 fn put_decimal(out: &mut [u8; 8192], at: usize, n: u64) -> usize
     requires { ⌜ at + 20 ≤ 8192 ⌝ }
@@ -57,7 +51,7 @@ fn put_decimal(out: &mut [u8; 8192], at: usize, n: u64) -> usize
         return put_byte(out, at, digit_byte(n));
     }
     let k = put_decimal(out, at, n / 10);
-    put_byte(out, k, digit_byte(n % 10))
+    put_byte(out, k, digit_byte(n))
 }
 
 // Writes a space and a number in decimal.
@@ -88,16 +82,6 @@ fn put_verdict(
     let d = put_number(out, c, edges);
     let e = put_number(out, d, back);
     put_byte(out, e, 0x0a)
-}
-
-// The letter of a flow's word: f for 0, else b.
-fn flow_letter(word: u64) -> u8
-    ensures { λ r. ⌜ r ≡ flowLetter (flowOf word) ⌝ }
-{
-    if word == 0 {
-        return 0x66;
-    }
-    0x62
 }
 
 // Writes a space, the letter of the flow, and the line's end.
