@@ -74,5 +74,8 @@ said="$root/crates/verdict_twice/stdout"
 cp "$root/examples/$danger.txt" "$root/examples/$danger.out" "$made/walk"
 sed '$d' "$said" | sed '$d' > "$made/said"
 "$here/target/check" report "cat $made/said" "$made/walk" > "$made/judged" || { cat "$made/judged"; failed=1; }
-tail -n 2 "$said" | cmp -s - "$root/examples/$empty.out" || { echo "crates/verdict_twice/stdout does not end with the report of an empty text"; failed=1; }
+tail -n 2 "$said" | cmp -s - "$root/examples/$empty.out" || {
+    echo "crates/verdict_twice/stdout does not end with the report of an empty text"
+    failed=1
+}
 exit $failed

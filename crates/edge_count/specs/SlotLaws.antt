@@ -16,7 +16,7 @@ use Rattle.place_row.specs.RowTable.{rowAt, rowCount, rowForward, rowBack, rowS
 use Rattle.edge_count.specs.declared.Counts.{Counts}
 use Rattle.edge_count.specs.Slots.{coded}
 use Rattle.edge_count.specs.Slots.{leftRow, rightRow}
-use Rattle.edge_count.specs.Slots.{standsAt, slotEdge, edgeAt, one, backOne, edgesBelow, backBelow, countsBelow}
+use Rattle.edge_count.specs.Slots.{standsAt, slotEdge, edgeAt, one, pairCounts, backOne, edgesBelow, backBelow, countsBelow}
 
 -- a table has at most 512 rows
 pub rows-small : (table : List ℕ) → rowCount table ≤ 512
@@ -63,9 +63,17 @@ module _ (table : List ℕ) (x : ℕ) where
 
 -- ---- counts
 
-pub one-le : (b : Bool) → one b ≤ 1
+one-le : (b : Bool) → one b ≤ 1
 one-le true = omega arith
 one-le false = omega arith
+
+-- a pair has at most two edges
+pub pair-most : (forward back : Bool) {c : Counts} → c ≡ pairCounts forward back → (c .edges ≤ 2) × (c .back ≤ 1)
+unfolding pairCounts
+pair-most forward back e =
+    let f = one-le forward in
+    let b = one-le back in
+    (rw e (omega arith), rw e b)
 
 -- no more edges than slots
 edgesBelow-le : (table : List ℕ) (x : ℕ) → edgesBelow table x ≤ x
@@ -141,22 +149,24 @@ module _ (table : List ℕ) (n i j : ℕ) (rows : n ≡ rowCount table) (inside 
   two-on : i * 1024 + (j + 1) * 2 ≡ suc (suc here)
   two-on = omega arith
 
-  pub pair-edges : (edges f b : ℕ) → edges ≡ edgesBelow table here → f ≡ one (rowForward p q) → b ≡ one (rowBack p q)
-      → edges + f + b ≡ edgesBelow table (i * 1024 + (j + 1) * 2)
-  unfolding edgesBelow
-  pair-edges edges f b e u v =
-      ap₂ _+_ (ap₂ _+_ e (u ∙ ap one (sym first-stands))) (v ∙ ap one (sym second-stands ∙ ap (standsAt table) (add-one here)))
-      ∙ ap (edgesBelow table) (sym two-on)
+  pub pair-edges : (edges : ℕ) {c : Counts} → edges ≡ edgesBelow table here → c ≡ pairCounts (rowForward p q) (rowBack p q)
+      → edges + c .edges ≡ edgesBelow table (i * 1024 + (j + 1) * 2)
+  unfolding edgesBelow pairCounts
+  pair-edges edges e told =
+      let first : edgesBelow table (suc here) ≡ edges + one (rowForward p q) = ap₂ _+_ (sym e) (ap one first-stands) in
+      let second : one (standsAt table (suc here)) ≡ one (rowBack p q)
+      = ap one (ap (standsAt table) (sym (add-one here)) ∙ second-stands) in
+      rw told (omega (arith, first, second)) ∙ ap (edgesBelow table) (sym two-on)
 
-  pub pair-back : (back b : ℕ) → back ≡ backBelow table here → b ≡ one (rowBack p q)
-      → back + b ≡ backBelow table (i * 1024 + (j + 1) * 2)
-  unfolding backBelow
-  pair-back back b e v =
-      ap₂ _+_ e (v ∙ ap one (sym second-stands) ∙ sym (back-odd (standsAt table (here + 1)) (here + 1) odd))
-      ∙ ap (λ (k : ℕ). k + backOne (standsAt table (here + 1)) (here + 1))
-      (sym (add-zero (backBelow table here)) ∙ ap (λ (k : ℕ). backBelow table here + k) (sym (back-even (standsAt table here) here even)))
-      ∙ ap (λ (y : ℕ). backBelow table (suc here) + backOne (standsAt table y) y) (add-one here)
-      ∙ ap (backBelow table) (sym two-on)
+  pub pair-back : (back : ℕ) {c : Counts} → back ≡ backBelow table here → c ≡ pairCounts (rowForward p q) (rowBack p q)
+      → back + c .back ≡ backBelow table (i * 1024 + (j + 1) * 2)
+  unfolding backBelow pairCounts
+  pair-back back e told =
+      let first = back-even (standsAt table here) here even in
+      let second : backOne (standsAt table (suc here)) (suc here) ≡ one (rowBack p q)
+      = ap (λ (y : ℕ). backOne (standsAt table y) y) (sym (add-one here))
+      ∙ back-odd (standsAt table (here + 1)) (here + 1) odd ∙ ap one second-stands in
+      rw told (omega (arith, first, second)) ∙ ap (backBelow table) (sym two-on)
 
 -- ---- a row counted
 

@@ -95,6 +95,10 @@ nextSlot table x = nextFrom table (slots table - x) x
 abbrev pub one : Bool → ℕ
 one b = cond b 1 0
 
+-- the edges between two rows, by whether a forward and a back edge stands
+unfoldable pub pairCounts : Bool → Bool → Counts
+pairCounts forward back = record { edges = one forward + one back; back = one back }
+
 abbrev pub backOne : Bool → ℕ → ℕ
 backOne b x = cond b (cond (eqb (x % 2) 0) 0 1) 0
 

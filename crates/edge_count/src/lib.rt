@@ -3,7 +3,7 @@
 
 ghost use mathlib.Core.Path.{_≡_};
 ghost use Prim.Native.Nat.{_+_, _*_, _<_};
-ghost use Rattle.edge_count.specs.Slots.{tableCounts, one, countsBelow, CountedTo};
+ghost use Rattle.edge_count.specs.Slots.{tableCounts, pairCounts, countsBelow, CountedTo};
 use edge_test::back_stands;
 use edge_test::forward_stands;
 use place_fetch::row_at;
@@ -35,14 +35,20 @@ pub struct Counts {
     pub back: usize,
 }
 
-// One where an edge stands.
-fn one_edge(stands: bool) -> usize
-    ensures { λ r. ⌜ r ≡ one stands ⌝ }
+// How many edges stand between two rows, and how many of them are back edges, by whether a forward and a back edge does.
+pub fn pair_counts(forward: bool, back: bool) -> Counts
+    ensures { λ r. ⌜ r ≡ pairCounts forward back ⌝ }
 {
-    if stands {
-        return 1;
+    if forward {
+        if back {
+            return Counts { edges: 2, back: 1 };
+        }
+        return Counts { edges: 1, back: 0 };
     }
-    0
+    if back {
+        return Counts { edges: 1, back: 1 };
+    }
+    Counts { edges: 0, back: 0 }
 }
 
 // The counts before row i, and those of the edges that leave it.
@@ -56,10 +62,9 @@ fn count_row(table: &[u64], n: usize, i: usize, before: Counts) -> Counts
     let mut j: usize = 0;
     while j < n {
         let q = row_at(table, j);
-        let f = one_edge(forward_stands(p, q));
-        let b = one_edge(back_stands(p, q));
-        edges = edges + f + b;
-        back += b;
+        let c = pair_counts(forward_stands(p, q), back_stands(p, q));
+        edges += c.edges;
+        back += c.back;
         j += 1;
     }
     Counts { edges, back }

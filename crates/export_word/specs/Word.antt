@@ -3,6 +3,7 @@ use mathlib.Core.Path.{_≡_}
 use Prim.Native.Nat.{ℕ, _+_, _*_, _/_, _%_, _<_}
 use native.Mathlib.Omega.{arith}
 use Rattle.spec_text.specs.declared.Line.{Line}
+use Rattle.verdict_told.specs.Told.{Told}
 
 abbrev pub refusalWord : ℕ → ℕ → ℕ
 refusalWord number line = 2147483648 + number * 65536 + line % 65536
@@ -18,6 +19,12 @@ valueWord l count = lineSum l * 65536 + count % 65536
 -- how many nodes, and where a node's statements end that start at a place and are so many
 abbrev pub nodesWord : ℕ → ℕ → ℕ → ℕ
 nodesWord count start length = count % 256 * 65536 + (start % 16384 + length % 16384)
+
+-- edges, with bit 30 for danger
+unfoldable pub verdictWord : Told → ℕ
+verdictWord (Told.refused number) = refusalWord number 0
+verdictWord (Told.robust c) = c .edges % 1048576
+verdictWord (Told.danger c steps) = 1073741824 + c .edges % 1048576
 
 -- a refusal's word gives back its number and its line
 pub word-back : (number line : ℕ) → number < 32768 → line < 65536

@@ -1,16 +1,27 @@
 // The one word that answers an export, and what its bits mean: bit 31 tells a refusal, whose number and line follow; else the upper and the lower
-// half hold two numbers, or the whole word is a count.
+// half hold two numbers, or the word is a count of edges, with bit 30 for danger.
 
 use spec_text::Line;
+use verdict_told::Verdict;
 ghost use mathlib.Core.Path.{_≡_};
-ghost use Rattle.export_word.specs.Word.{refusalWord, valueWord, nodesWord};
+ghost use Rattle.verdict_told.specs.Told.{told};
+ghost use Rattle.export_word.specs.Word.{refusalWord, valueWord, nodesWord, verdictWord};
 
 // Bit 31.
 const REFUSAL: u32 = 2147483648;
+
+// Bit 30.
+const DANGER: u32 = 1073741824;
+
+// More edges than any workload has.
+const EDGES: u64 = 1048576;
+
 // Where the upper half begins: the lower one holds 16 bits.
 const HALF: u64 = 65536;
+
 // More than any sum of a line's values that is told.
 const SUMS: u64 = 16384;
+
 // So much of a set of attributes is added to the sum.
 const SET: u64 = 4096;
 
@@ -35,4 +46,15 @@ pub fn nodes_word(count: u64, start: u64, length: u64) -> u32
     ensures { λ r. ⌜ r ≡ nodesWord count start length ⌝ }
 {
     (count % 256 * HALF + start % SUMS + length % SUMS) as u32
+}
+
+// A verdict: its edges, with bit 30 for danger; or its refusal, which has no line.
+pub fn verdict_word(v: Verdict) -> u32
+    ensures { λ r. ⌜ r ≡ verdictWord (told v) ⌝ }
+{
+    match v {
+        Verdict::Robust(c) => (c.edges % EDGES) as u32,
+        Verdict::Danger(c, _) => DANGER + (c.edges % EDGES) as u32,
+        Verdict::Refused(number) => refusal_word(number, 0),
+    }
 }

@@ -13,8 +13,9 @@ use Rattle.text_read.specs.declared.Parsed.{Parsed}
 use Rattle.text_read.specs.Parse.{parsedAs}
 use Rattle.unfold.specs.declared.Unfolded.{Unfolded}
 use Rattle.unfold.specs.UnfoldSettled.{Settled}
-use Rattle.verdict_of.specs.Verdict.{Told, Judged}
-use Rattle.export_word.specs.Word.{refusalWord, valueWord, nodesWord}
+use Rattle.verdict_told.specs.Told.{Told}
+use Rattle.verdict_of.specs.Verdict.{Judged}
+use Rattle.export_word.specs.Word.{refusalWord, valueWord, nodesWord, verdictWord}
 
 -- what a text gives: its workload value, or a refusal's number and line
 abbrev pub given : List ℕ → Parsed
@@ -38,12 +39,6 @@ nodesTold u = nodesWord (u .count) (getD (u .start) (lastRow u) 0) (getD (u .len
 
 unfoldable pub unfoldWord : Unfolded → ℕ
 unfoldWord u = cond (eqb (u .refusal) 0) (nodesTold u) (refusalWord (u .refusal) 0)
-
--- edges, with bit 30 for danger
-unfoldable pub verdictWord : Told → ℕ
-verdictWord (Told.refused number) = refusalWord number 0
-verdictWord (Told.robust c) = c .edges % 1048576
-verdictWord (Told.danger c steps) = 1073741824 + c .edges % 1048576
 
 -- a text that is refused: its refusal is told and the area stays as it was
 abbrev pub Refuses : Parsed → List ℕ → ℕ → List ℕ → Type 0

@@ -6,16 +6,13 @@ use edge_put::Put;
 use export_word::nodes_word;
 use export_word::refusal_word;
 use export_word::value_word;
+use export_word::verdict_word;
 use spec_text::CELLS;
 use unfold::Unfolded;
-use verdict_of::Totals;
-use verdict_of::Verdict;
 ghost use mathlib.Core.Path.{_≡_};
-ghost use Prim.Native.Nat.{_%_};
 ghost use Rattle.spec_text.specs.Reading.{read};
 ghost use Rattle.edge_put.specs.Put.{putSaid};
-ghost use Rattle.verdict_of.specs.Verdict.{told};
-ghost use Rattle.exports.specs.Stages.{given, readWord, unfoldWord, verdictWord, UnfoldStage, VerdictStage};
+ghost use Rattle.exports.specs.Stages.{given, readWord, unfoldWord, UnfoldStage, VerdictStage};
 ghost use Rattle.exports.specs.TextEdges.{edgesWord, FewPut, TextEdges};
 
 #[no_mangle]
@@ -83,22 +80,6 @@ pub extern "C" fn text_edges<'b, 'a>(text: &'b [u8], out: &'a mut [Edge]) -> u32
     let w = p.work;
     let put = edge_list::put_workload_edges(w, out);
     edges_word(put)
-}
-
-fn edges_told(c: Totals) -> u32
-    ensures { λ r. ⌜ r ≡ c .edges % 1048576 ⌝ }
-{
-    (c.edges % 1048576) as u32
-}
-
-fn verdict_word(v: Verdict) -> u32
-    ensures { λ r. ⌜ r ≡ verdictWord (told v) ⌝ }
-{
-    match v {
-        Verdict::Robust(c) => edges_told(c),
-        Verdict::Danger(c, _) => 1073741824 + edges_told(c),
-        Verdict::Refused(number) => refusal_word(number, 0),
-    }
 }
 
 // The verdict, with a dangerous walk in the area.

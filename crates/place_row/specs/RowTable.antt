@@ -7,12 +7,12 @@ use lib.Count.{onesIn, trailingZeros}
 use lib.Dec.{eqb}
 use lib.ListN.{length, getD}
 use Rattle.spec_base.specs.Basic.{numbers, meets}
-use Rattle.spec_text.specs.declared.StatementKind.{StatementKind}
-use Rattle.spec_text.specs.declared.StatementKind.the-variants.{Is, Ks, Ps, Ku, Pu, Kd, Pd}
 use Rattle.spec_graph.specs.Graph.{Flow}
 use Rattle.spec_graph.specs.Unfolding.{Node}
 use Rattle.spec_graph.specs.Edge.{hasTests, inserts, deletes, selects, R, W, T, Letter, Place, at, guarded, placesOf, Edge}
 use Rattle.spec_graph.specs.Edge.Letter.{A, B, C, D, E}
+pub use Rattle.edge_kinds.specs.Kinds.{kindNumber}
+unfoldable pub use Rattle.edge_kinds.specs.Kinds.{kindOf}
 use Rattle.place_row.specs.declared.Row.{Row}
 
 -- the word whose bit k is set where the test passes for k, for k below n
@@ -99,20 +99,7 @@ rowEdges p q =
 unfoldable pub edgesOfRows : List Row → List Edge
 edgesOfRows rows = flatMap (λ p. flatMap (λ q. rowEdges p q) rows) rows
 
--- ---- rows as words: eight to a row, in the order of the fields
-
-abbrev pub kindNumber : StatementKind → ℕ
-kindNumber Is = 0
-kindNumber Ks = 1
-kindNumber Ps = 2
-kindNumber Ku = 3
-kindNumber Pu = 4
-kindNumber Kd = 5
-kindNumber Pd = 6
-
-unfoldable pub kindOf : ℕ → StatementKind
-kindOf n =
-    cond (eqb n 0) Is (cond (eqb n 1) Ks (cond (eqb n 2) Ps (cond (eqb n 3) Ku (cond (eqb n 4) Pu (cond (eqb n 5) Kd Pd)))))
+-- ---- rows as words: eight to a row, in the order of the fields, the kind by its number
 
 unfoldable pub wordsOf : Row → List ℕ
 wordsOf p =

@@ -17,8 +17,6 @@ use Rattle.spec_base.specs.Basic.{numbers, numbersFrom, has, meets}
 use Rattle.law_base.specs.BoolLaws.{same-test, and-true, and-of, and-right}
 use Rattle.law_base.specs.ListLaws.{any-true, any-of}
 use Rattle.law_base.specs.SetLaws.{has-first, has-later, meets-has-below, has-meets, meets-comm, meets-empty}
-use Rattle.spec_text.specs.declared.StatementKind.{StatementKind}
-use Rattle.spec_text.specs.declared.StatementKind.the-variants.{Is, Ks, Ps, Ku, Pu, Kd, Pd}
 use Rattle.spec_graph.specs.Graph.{Flow}
 use Rattle.spec_graph.specs.Program.{Link}
 use Rattle.spec_graph.specs.Unfolding.{Node, Occurrence}
@@ -42,6 +40,7 @@ use Rattle.spec_graph.specs.Edge.{
 }
 use Rattle.spec_graph.specs.Edge.{edgeOf, edgesBetween, placesFrom, placesOf, edgesOf}
 use Rattle.spec_graph.specs.Edge.Letter.{A, B, C, D, E}
+use Rattle.edge_kinds.specs.KindLaws.{kindOf-number}
 use Rattle.place_row.specs.declared.Row.{Row}
 use Rattle.place_row.specs.RowTable.{wordOf, rowOf, rowsOf, rowHolds, rowForward, rowBack, rowLetter, rowShared, rowEdge, rowEdges, edgesOfRows}
 use Rattle.place_row.specs.RowTable.{kindNumber, kindOf, wordsOf, tableOf, rowAt, rowCount, tableRows}
@@ -234,17 +233,6 @@ edges-rows nodes small =
     ∙ sym (flatMap-map (λ p. flatMap (λ q. rowEdges p q) (map rowOf places)) rowOf places)
 
 -- ---- rows read back from their words
-
--- the number of a kind tells the kind
-pub kindOf-number : (k : StatementKind) → kindOf (kindNumber k) ≡ k
-unfolding kindOf
-kindOf-number Is = refl
-kindOf-number Ks = refl
-kindOf-number Ps = refl
-kindOf-number Ku = refl
-kindOf-number Pu = refl
-kindOf-number Kd = refl
-kindOf-number Pd = refl
 
 -- eight words to a row
 pub tableOf-length : (rows : List Row) → length (tableOf rows) ≡ length rows * 8

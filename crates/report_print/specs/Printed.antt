@@ -6,7 +6,8 @@ use lib.ListN.{length, getD, drop, replicate}
 use lib.Seq.{sets}
 use Rattle.spec_graph.specs.Walk.{Step}
 use Rattle.spec_report.specs.State.{Counts}
-use Rattle.spec_report.specs.Report.{verdictNames, verdictLine, stepLines, dangerReport}
+use Rattle.spec_report.specs.Report.{verdictNames, verdictLine, stepLines, refusalReport, robustReport, dangerReport}
+use Rattle.verdict_told.specs.Told.{Told}
 use Rattle.report_bytes.specs.Bytes.{flowOf}
 use Rattle.report_print.specs.declared.Printed.{Printed}
 
@@ -36,6 +37,12 @@ stepsIn words k (suc n) = stepAt words k ∷ stepsIn words (suc k) n
 -- W5: the walk that is shown: so many steps, and at most 65
 unfoldable pub walkIn : List ℕ → ℕ → List Step
 walkIn words steps = stepsIn words 0 (min steps 65)
+
+-- the bytes of an answer, with the walk that stands in an area; a refusal because of the state has line 0
+unfoldable pub bytesFor : Told → List ℕ → List ℕ
+bytesFor (Told.refused number) area = refusalReport number 0
+bytesFor (Told.robust c) area = robustReport c
+bytesFor (Told.danger c steps) area = dangerReport c (walkIn area steps)
 
 -- bytes, no more than `most`, are written into an area from a place on; r is the place after them
 pub record Put (bytes : List ℕ) (most at : ℕ) (before : List ℕ) (r : ℕ) (after : List ℕ) : Type 0 where

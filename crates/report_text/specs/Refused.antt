@@ -6,7 +6,8 @@ use Rattle.spec_text.specs.Reading.{read}
 use Rattle.spec_text.specs.Reading.Outcome.{refused}
 use Rattle.text_read.specs.Parse.{parsedAs}
 use Rattle.text_read.specs.RefusedLaws.{refused-read}
-use Rattle.verdict_of.specs.Verdict.{Told, Judged}
+use Rattle.verdict_told.specs.Told.{Told}
+use Rattle.verdict_of.specs.Verdict.{Judged}
 use Rattle.verdict_of.specs.VerdictLaws.{judged-not-given}
 
 -- a result: the verdict on the value that a refused text is read into is the refusal 21, and the area stays as it was

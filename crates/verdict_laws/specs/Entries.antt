@@ -19,9 +19,9 @@ use Rattle.spec_report.specs.State.{statementsIn}
 use Rattle.place_row.specs.declared.Row.{Row}
 use Rattle.place_row.specs.RowTable.{rowOf, rowsOf, rowStands}
 use Rattle.place_row.specs.RowTableLaws.{KeysSmall, placesOf-node, forward-rows, back-rows}
-use Rattle.walk_find.specs.EdgeTable.{entry}
-use Rattle.walk_find.specs.Coding.{aheadWord, behindWord, GreatestWords, Small}
-use Rattle.walk_pick.specs.Picks.{forwardWord, backWord, greatest, standsIn, wordFor, between, wordsBetween}
+use Rattle.edge_word.specs.Coding.{forwardWord, backWord, entry}
+use Rattle.edge_word.specs.Greatest.{GreatestWords, Small}
+use Rattle.walk_pick.specs.Picks.{rowForwardWord, rowBackWord, greatest, standsIn, wordFor, between, wordsBetween}
 use Rattle.walk_pick.specs.PickStepLaws.{words-entry}
 use Rattle.verdict_laws.specs.Places.{place-found, found-place, places-few}
 
@@ -236,66 +236,66 @@ module _ (nodes : List Node) where
             (e .s, e .t, e .leaves, e .leavesAt, e .entersAt, e .left, rw there at most)
 
       -- the tables picked from the rows of the nodes stand for all edges
-      pub rows-greatest : GreatestWords (graphOf nodes) (wordsBetween forwardWord (rowsOf nodes)) (wordsBetween backWord (rowsOf nodes))
-      unfolding forwardWord backWord rowOf
-      rows-greatest = record { aheadFrom = a-from; aheadMost = a-most; behindFrom = b-from; behindMost = b-most }
+      pub rows-greatest : GreatestWords (graphOf nodes) (wordsBetween rowForwardWord (rowsOf nodes)) (wordsBetween rowBackWord (rowsOf nodes))
+      unfolding rowForwardWord rowBackWord rowOf
+      rows-greatest = record { forwardFrom = a-from; forwardMost = a-most; backFrom = b-from; backMost = b-most }
         where
-          ahead : List ℕ
-          ahead = wordsBetween forwardWord (rowsOf nodes)
+          forwards : List ℕ
+          forwards = wordsBetween rowForwardWord (rowsOf nodes)
 
-          behind : List ℕ
-          behind = wordsBetween backWord (rowsOf nodes)
+          backs : List ℕ
+          backs = wordsBetween rowBackWord (rowsOf nodes)
 
-          aheadCode : Row → Row → ℕ
-          aheadCode p q = aheadWord (loosens (p .kind)) (p .place) (q .place)
+          forwardCode : Row → Row → ℕ
+          forwardCode p q = forwardWord (loosens (p .kind)) (p .place) (q .place)
 
-          behindCode : Row → Row → ℕ
-          behindCode p q = behindWord (p .place) (q .place)
+          backCode : Row → Row → ℕ
+          backCode p q = backWord (p .place) (q .place)
 
           g : Graph
           g = graphOf nodes
 
-          a-from : (u v : ℕ) → u < 64 → v < 64 → (entry ahead u v ≡ 0)
-              ⊎ ((i : ℕ) × (j : ℕ) × (g .edge u i v j Flow.forward ≡ true) × (entry ahead u v ≡ aheadWord (g .loose u i) i j))
-          a-from u v h k = go (entry-from Flow.forward aheadCode u v h k)
+          a-from : (u v : ℕ) → u < 64 → v < 64 → (entry forwards u v ≡ 0)
+              ⊎ ((i : ℕ) × (j : ℕ) × (g .edge u i v j Flow.forward ≡ true) × (entry forwards u v ≡ forwardWord (g .loose u i) i j))
+          a-from u v h k = go (entry-from Flow.forward forwardCode u v h k)
             where
-              go : (entry ahead u v ≡ 0)
+              go : (entry forwards u v ≡ 0)
                   ⊎ ((s : Place) × (t : Place) × (s .number ≡ u) × (t .number ≡ v) × List·Memᴰ s (placesOf 0 nodes)
-                  × (g .edge (s .number) (s .place) (t .number) (t .place) Flow.forward ≡ true) × (entry ahead u v ≡ aheadCode (rowOf s) (rowOf t)))
-                  → (entry ahead u v ≡ 0)
-                  ⊎ ((i : ℕ) × (j : ℕ) × (g .edge u i v j Flow.forward ≡ true) × (entry ahead u v ≡ aheadWord (g .loose u i) i j))
+                  × (g .edge (s .number) (s .place) (t .number) (t .place) Flow.forward ≡ true) × (entry forwards u v ≡ forwardCode (rowOf s) (rowOf t)))
+                  → (entry forwards u v ≡ 0)
+                  ⊎ ((i : ℕ) × (j : ℕ) × (g .edge u i v j Flow.forward ≡ true) × (entry forwards u v ≡ forwardWord (g .loose u i) i j))
               go (inl z) = inl z
               go (inr (s, t, l, r, m, e, same)) =
                   inr (
                     s .place,
                     t .place,
                     sym (ap₂ (λ (a b : ℕ). g .edge a (s .place) b (t .place) Flow.forward) l r) ∙ e,
-                    same ∙ ap (λ (b : Bool). aheadWord b (s .place) (t .place)) (sym (place-loose s m) ∙ ap (λ (a : ℕ). g .loose a (s .place)) l),
+                    same ∙ ap (λ (b : Bool). forwardWord b (s .place) (t .place)) (sym (place-loose s m) ∙ ap (λ (a : ℕ). g .loose a (s .place)) l),
                   )
 
-          a-most : (u i v j : ℕ) → g .edge u i v j Flow.forward ≡ true → aheadWord (g .loose u i) i j ≤ entry ahead u v
+          a-most : (u i v j : ℕ) → g .edge u i v j Flow.forward ≡ true → forwardWord (g .loose u i) i j ≤ entry forwards u v
           a-most u i v j h =
-              let e = entry-most Flow.forward aheadCode u i v j h in
+              let e = entry-most Flow.forward forwardCode u i v j h in
               let loose : loosens (at (e .0) .kind) ≡ g .loose u i = sym (place-loose (e .0) (e .5)) ∙ ap₂ (g .loose) (e .2) (e .3) in
-              let same : aheadCode (rowOf (e .0)) (rowOf (e .1)) ≡ aheadWord (g .loose u i) i j
-              = ap (λ (b : Bool). aheadWord b (e .0 .place) (e .1 .place)) loose ∙ ap₂ (aheadWord (g .loose u i)) (e .3) (e .4) in
+              let same : forwardCode (rowOf (e .0)) (rowOf (e .1)) ≡ forwardWord (g .loose u i) i j
+              = ap (λ (b : Bool). forwardWord b (e .0 .place) (e .1 .place)) loose ∙ ap₂ (forwardWord (g .loose u i)) (e .3) (e .4) in
               rw same at (e .6)
 
-          b-from : (v w : ℕ) → v < 64 → w < 64 → (entry behind v w ≡ 0)
-              ⊎ ((k : ℕ) × (l : ℕ) × (g .edge v k w l Flow.back ≡ true) × (entry behind v w ≡ behindWord k l))
-          b-from v w h k = go (entry-from Flow.back behindCode v w h k)
+          b-from : (v w : ℕ) → v < 64 → w < 64 → (entry backs v w ≡ 0)
+              ⊎ ((k : ℕ) × (l : ℕ) × (g .edge v k w l Flow.back ≡ true) × (entry backs v w ≡ backWord k l))
+          b-from v w h k = go (entry-from Flow.back backCode v w h k)
             where
-              go : (entry behind v w ≡ 0)
+              go : (entry backs v w ≡ 0)
                   ⊎ ((s : Place) × (t : Place) × (s .number ≡ v) × (t .number ≡ w) × List·Memᴰ s (placesOf 0 nodes)
-                  × (g .edge (s .number) (s .place) (t .number) (t .place) Flow.back ≡ true) × (entry behind v w ≡ behindCode (rowOf s) (rowOf t)))
-                  → (entry behind v w ≡ 0)
-                  ⊎ ((k : ℕ) × (l : ℕ) × (g .edge v k w l Flow.back ≡ true) × (entry behind v w ≡ behindWord k l))
+                  × (g .edge (s .number) (s .place) (t .number) (t .place) Flow.back ≡ true) × (entry backs v w ≡ backCode (rowOf s) (rowOf t)))
+                  → (entry backs v w ≡ 0)
+                  ⊎ ((k : ℕ) × (l : ℕ) × (g .edge v k w l Flow.back ≡ true) × (entry backs v w ≡ backWord k l))
               go (inl z) = inl z
               go (inr (s, t, l, r, m, e, same)) =
                   inr (s .place, t .place, sym (ap₂ (λ (a b : ℕ). g .edge a (s .place) b (t .place) Flow.back) l r) ∙ e, same)
 
-          b-most : (v k w l : ℕ) → g .edge v k w l Flow.back ≡ true → behindWord k l ≤ entry behind v w
+          b-most : (v k w l : ℕ) → g .edge v k w l Flow.back ≡ true → backWord k l ≤ entry backs v w
           b-most v k w l h =
-              let e = entry-most Flow.back behindCode v k w l h in
-              let same : behindCode (rowOf (e .0)) (rowOf (e .1)) ≡ behindWord k l = ap₂ behindWord (e .3) (e .4) in
+              let e = entry-most Flow.back backCode v k w l h in
+              let same : backCode (rowOf (e .0)) (rowOf (e .1)) ≡ backWord k l = ap₂ backWord (e .3) (e .4) in
               rw same at (e .6)

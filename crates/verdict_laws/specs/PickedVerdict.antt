@@ -25,11 +25,11 @@ use Rattle.place_row.specs.RowTable.{rowsOf, tableOf, tableRows}
 use Rattle.place_row.specs.RowTableLaws.{KeysSmall, table-rows}
 use Rattle.place_laws.specs.Placed.{keys-below, rowsOf-length, accepted-edges}
 use Rattle.edge_count.specs.Slots.{tableEdges, tableCounts}
-use Rattle.walk_find.specs.EdgeTable.{tableWalk}
-use Rattle.walk_find.specs.Coding.{GreatestWords, greatest-picked}
+use Rattle.edge_word.specs.Greatest.{GreatestWords, greatest-picked}
+use Rattle.walk_find.specs.TableWalk.{tableWalk}
 use Rattle.walk_find.specs.WalkLaws.{table-verdict}
 use Rattle.walk_pick.specs.declared.PickedEdges.{PickedEdges}
-use Rattle.walk_pick.specs.Picks.{forwardWord, backWord, wordsBetween, picksOf}
+use Rattle.walk_pick.specs.Picks.{rowForwardWord, rowBackWord, wordsBetween, picksOf}
 use Rattle.verdict_laws.specs.Entries.{small-graph, rows-greatest}
 
 module _ (nodes : List Node) (few : length nodes ≤ 64) (statements : statementsIn nodes ≤ 512)
@@ -39,29 +39,29 @@ module _ (nodes : List Node) (few : length nodes ≤ 64) (statements : statement
   rows-same = table-rows (rowsOf nodes) (let e = rowsOf-length nodes in omega arith)
 
   -- what is picked from the table of the nodes' places stands for all edges
-  pub picks-greatest : GreatestWords (graphOf nodes) (r .ahead) (r .behind)
+  pub picks-greatest : GreatestWords (graphOf nodes) (r .forwards) (r .backs)
   unfolding picksOf
   picks-greatest =
-      subst (λ (p : PickedEdges). GreatestWords (graphOf nodes) (p .ahead) (p .behind)) (sym picked)
-      (subst (λ (rows : List Row). GreatestWords (graphOf nodes) (wordsBetween forwardWord rows) (wordsBetween backWord rows)) (sym rows-same)
+      subst (λ (p : PickedEdges). GreatestWords (graphOf nodes) (p .forwards) (p .backs)) (sym picked)
+      (subst (λ (rows : List Row). GreatestWords (graphOf nodes) (wordsBetween rowForwardWord rows) (wordsBetween rowBackWord rows)) (sym rows-same)
       (rows-greatest nodes few statements keys))
 
   -- the walk of what is picked is a dangerous closed walk of at most 65 steps, or it is empty and there is none
   pub picks-verdict :
-      ((isDangerous (graphOf nodes) (tableWalk (r .ahead) (r .behind)) ≡ true) × (length (tableWalk (r .ahead) (r .behind)) ≤ 65))
-      ⊎ ((tableWalk (r .ahead) (r .behind) ≡ []) × (DangerousWalk (graphOf nodes) → ⊥))
+      ((isDangerous (graphOf nodes) (tableWalk (r .forwards) (r .backs)) ≡ true) × (length (tableWalk (r .forwards) (r .backs)) ≤ 65))
+      ⊎ ((tableWalk (r .forwards) (r .backs) ≡ []) × (DangerousWalk (graphOf nodes) → ⊥))
   unfolding graphOf
   picks-verdict =
-      table-verdict (r .ahead) (r .behind) (regular nodes) few
-      (greatest-picked (r .ahead) (r .behind) (small-graph nodes few statements) picks-greatest)
+      table-verdict (r .forwards) (r .backs) (regular nodes) few
+      (greatest-picked (r .forwards) (r .backs) (small-graph nodes few statements) picks-greatest)
 
 -- what is told of a workload: P1 its counts, and demand 2 a dangerous closed walk of at most 65 steps or that it is robust
 pub record PickedVerdict (lines : List Line) (r : PickedEdges) : Type 0 where
   pub edges : r .edges ≡ countsOf lines .edges
   pub back : r .back ≡ countsOf lines .back
   pub verdict :
-      ((isDangerous (summaryGraph lines) (tableWalk (r .ahead) (r .behind)) ≡ true) × (length (tableWalk (r .ahead) (r .behind)) ≤ 65))
-      ⊎ ((tableWalk (r .ahead) (r .behind) ≡ []) × Robust lines)
+      ((isDangerous (summaryGraph lines) (tableWalk (r .forwards) (r .backs)) ≡ true) × (length (tableWalk (r .forwards) (r .backs)) ≤ 65))
+      ⊎ ((tableWalk (r .forwards) (r .backs) ≡ []) × Robust lines)
 
 -- a given workload that is not too large is judged by what is picked from the table of its places
 pub given-picked : (w : Workload) (r : PickedEdges) → Given w → tooMany (linesOf w) ≡ false

@@ -12,25 +12,9 @@ use Rattle.spec_text.specs.Value.{linesOf}
 use Rattle.spec_graph.specs.Walk.{Step, isDangerous}
 use Rattle.spec_schedule.specs.Schedule.{Schedule}
 use Rattle.spec_schedule.specs.Serial.{Serialisable}
-use Rattle.spec_report.specs.State.{StateRefusal, shortForWalk, Counts, counted, countsOf, summaryGraph, Robust}
+use Rattle.spec_report.specs.State.{StateRefusal, shortForWalk, countsOf, summaryGraph, Robust}
 use Rattle.spec_report.specs.Area.{shownIn}
-use Rattle.verdict_of.specs.declared.Totals.{Totals}
-use Rattle.verdict_of.specs.declared.Verdict.{Verdict}
-
--- document 01's answers: a refusal gives its number alone; a word comes with the counts (P1), and danger with how many steps are shown
-pub data Told : Type 0 where
-  refused : ℕ → Told
-  robust : Counts → Told
-  danger : Counts → ℕ → Told
-
--- N3: document 01's number and values for every case of the answer
-abbrev pub countsIn : Totals → Counts
-countsIn c = counted (c .programs) (c .nodes) (c .edges) (c .back)
-
-abbrev pub told : Verdict → Told
-told (Verdict.Robust c) = Told.robust (countsIn c)
-told (Verdict.Danger c steps) = Told.danger (countsIn c) steps
-told (Verdict.Refused number) = Told.refused number
+use Rattle.verdict_told.specs.Told.{Told}
 
 -- Demand 2: robust where no dangerous closed walk exists, and the area stays as it was; danger where one exists: one of at most 65 steps
 -- stands at the front of the area, four words to a step, and the rest stays as it was. Which one is shown is free.

@@ -16,9 +16,9 @@ use Rattle.soundness.specs.Theorem.{demand-3}
 use Rattle.spec_report.specs.State.{StateRefusal, shortForWalk, Counts, counted, countsOf, summaryGraph, Robust}
 use Rattle.spec_report.specs.State.StateRefusal.{not-given, too-many, too-short, taken}
 use Rattle.spec_report.specs.Refusals.{taken-given}
-use Rattle.walk_find.specs.declared.WalkFound.{WalkFound}
-use Rattle.walk_find.specs.EdgeTable.{tableWalk, refusalIn, stepsIn, Answered}
-use Rattle.walk_find.specs.EdgeTable.Answered.{no-room, no-walk, shown}
+use Rattle.walk_laws.specs.declared.WalkFound.{WalkFound}
+use Rattle.walk_find.specs.TableWalk.{tableWalk, refusalIn, stepsIn, WalkAnswered}
+use Rattle.walk_find.specs.TableWalk.WalkAnswered.{no-room, no-walk, shown}
 use Rattle.place_table.specs.declared.Rows.{Rows}
 use Rattle.place_table.specs.declared.Rows.the-variants.{Refused}
 use Rattle.place_table.specs.Rows.{RowsSettled}
@@ -26,19 +26,15 @@ use Rattle.place_table.specs.Whole.{Whole, whole-refused}
 use Rattle.walk_pick.specs.declared.PickedEdges.{PickedEdges}
 use Rattle.walk_pick.specs.Picks.{picksOf}
 use Rattle.verdict_laws.specs.PickedVerdict.{PickedVerdict, given-picked}
-use Rattle.verdict_of.specs.Verdict.{Told, Word, Judged}
+use Rattle.verdict_told.specs.Told.{Told}
+use Rattle.verdict_told.specs.Found.{toldFor}
+use Rattle.verdict_of.specs.Verdict.{Word, Judged}
 use Rattle.verdict_of.specs.Verdict.Word.{robust, danger}
 use Rattle.verdict_of.specs.Verdict.Judged.{refused, judged}
 
 -- ---- what the code answers
 
--- the answer for what the search for a walk found
-unfoldable pub toldFor : Counts → WalkFound → Told
-toldFor c WalkFound.NoRoom = Told.refused 20
-toldFor c WalkFound.NoWalk = Told.robust c
-toldFor c (WalkFound.Shown steps) = Told.danger c steps
-
--- the same for a refusal's number and how many steps are shown, where there is one
+-- the answer for a refusal's number and how many steps are shown, where there is one
 unfoldable answerFor : Counts → Option ℕ → Option ℕ → Told
 answerFor c (some number) steps = Told.refused number
 answerFor c none none = Told.robust c
@@ -74,14 +70,14 @@ module _ (w : Workload) (programs nodes places : ℕ) (table : List ℕ) (p : Pi
 
   -- what the search for a walk answers is the verdict, or S20
   judged-answer : {before : List ℕ} {refusal steps : Option ℕ} {after : List ℕ}
-      → Answered (p .ahead) (p .behind) before refusal steps after → Judged w before (answerFor (countsOf (linesOf w)) refusal steps) after
+      → WalkAnswered (p .forwards) (p .backs) before refusal steps after → Judged w before (answerFor (countsOf (linesOf w)) refusal steps) after
   unfolding answerFor
   judged-answer (no-room short) = refused 20 (too-short (whole .given) (whole .few) short)
   judged-answer {before} (no-walk room empty none-dangerous) =
-      let safe = robust-from w (tableWalk (p .ahead) (p .behind)) empty (picked .verdict) in
+      let safe = robust-from w (tableWalk (p .forwards) (p .backs)) empty (picked .verdict) in
       judged (taken (whole .given) (whole .few) room) _ _ (robust safe (λ s. demand-3 w (whole .given) safe s))
   judged-answer (shown room dangerous some-step short) =
-      let walk = tableWalk (p .ahead) (p .behind) in
+      let walk = tableWalk (p .forwards) (p .backs) in
       judged (taken (whole .given) (whole .few) room) _ _ (danger walk (danger-from w walk some-step (picked .verdict)) short)
 
 -- a refusal of the table of places is the verdict's, and leaves the area
@@ -92,7 +88,7 @@ judged-rows w table f filled before n settled e = refused n (whole-refused (shor
 -- what is picked from the table, and the walk that is found in it, are the verdict
 pub judged-picked : (w : Workload) (programs nodes places : ℕ) (filled before after : List ℕ) (p : PickedEdges) (found : WalkFound) (answer : Told)
     → Whole w programs nodes places filled → p ≡ picksOf (take (places * 8) filled)
-    → Answered (p .ahead) (p .behind) before (refusalIn found) (stepsIn found) after
+    → WalkAnswered (p .forwards) (p .backs) before (refusalIn found) (stepsIn found) after
     → answer ≡ toldFor (counted programs nodes (p .edges) (p .back)) found → Judged w before answer after
 judged-picked w programs nodes places filled before after p found answer whole picked answered e =
     let verdict = given-picked w p (whole .given) (whole .few) (picked ∙ ap picksOf (whole .rows)) in

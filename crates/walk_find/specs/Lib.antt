@@ -1,7 +1,5 @@
-pub mod EdgeTable
-pub mod Turns
-pub mod Paths
-pub mod NodeWordLaws
+pub mod TableWalk
+pub mod WayLaws
+pub mod LowestLaws
 pub mod WalkLaws
 pub mod ShowLaws
-pub mod Coding

@@ -16,17 +16,21 @@ use Rattle.spec_graph.specs.Graph.{Graph}
 use Rattle.spec_graph.specs.Walk.{Step, isDangerous, DangerousWalk}
 use Rattle.spec_report.specs.State.{shortForWalk}
 use Rattle.spec_report.specs.Area.{flowWord, stepWords, shownIn}
-use Rattle.walk_find.specs.EdgeTable.{entry, joinedRows, layersTo, nodeIn, pairFor, lowest, aheadStep, behindStep}
-use Rattle.walk_find.specs.EdgeTable.{wayOn, walkOn, tableWalk, putWords, putStep, putSteps, Written, Answered}
-use Rattle.walk_find.specs.EdgeTable.Answered.{no-room, no-walk, shown}
-use Rattle.walk_find.specs.Paths.{put-cons}
+use Rattle.walk_laws.specs.declared.Pick.{Pick}
+use Rattle.edge_word.specs.Coding.{forwardEdge, backEdge, entry}
+use Rattle.walk_reach.specs.Layers.{joinedRows, layersTo}
+use Rattle.walk_pair.specs.Pairs.{nodeIn, pairFor, ClosingPair}
+use Rattle.walk_pair.specs.declared.Closing.{Closing}
+use Rattle.walk_find.specs.TableWalk.{lowest, forwardStep, backStep, wayOn, walkOn, tableWalk, putWords, putStep, putSteps, Written, WalkAnswered}
+use Rattle.walk_find.specs.TableWalk.WalkAnswered.{no-room, no-walk, shown}
+use Rattle.walk_find.specs.WayLaws.{put-cons}
 use Rattle.walk_find.specs.WalkLaws.{node-pair, table-none, table-written, table-verdict}
 
 -- a word after a front of the right length
-set-behind : (front rest : List ℕ) (n i v : ℕ) → length front ≡ n → set (front ++ rest) (n + i) v ≡ front ++ set rest i v
-set-behind [] rest n i v h = let e : n + i ≡ i = omega arith in rw e refl
-set-behind (x ∷ front) rest n i v h =
-    let e : n + i ≡ suc (length front + i) = omega arith in rw e (ap (λ (l : List ℕ). x ∷ l) (set-behind front rest (length front) i v refl))
+set-after : (front rest : List ℕ) (n i v : ℕ) → length front ≡ n → set (front ++ rest) (n + i) v ≡ front ++ set rest i v
+set-after [] rest n i v h = let e : n + i ≡ i = omega arith in rw e refl
+set-after (x ∷ front) rest n i v h =
+    let e : n + i ≡ suc (length front + i) = omega arith in rw e (ap (λ (l : List ℕ). x ∷ l) (set-after front rest (length front) i v refl))
 
 -- four words
 put-words-at : (front : List ℕ) (k a b c d w x y z : ℕ) (rest : List ℕ) → length front ≡ k * 4
@@ -34,9 +38,9 @@ put-words-at : (front : List ℕ) (k a b c d w x y z : ℕ) (rest : List ℕ) �
 unfolding putWords
 put-words-at front k a b c d w x y z rest h =
     ap (λ (l : List ℕ). set (set (set l (k * 4 + 1) x) (k * 4 + 2) y) (k * 4 + 3) z) (set-at front a (b ∷ c ∷ d ∷ rest) w (k * 4) h)
-    ∙ ap (λ (l : List ℕ). set (set l (k * 4 + 2) y) (k * 4 + 3) z) (set-behind front (w ∷ b ∷ c ∷ d ∷ rest) (k * 4) 1 x h)
-    ∙ ap (λ (l : List ℕ). set l (k * 4 + 3) z) (set-behind front (w ∷ x ∷ c ∷ d ∷ rest) (k * 4) 2 y h)
-    ∙ set-behind front (w ∷ x ∷ y ∷ d ∷ rest) (k * 4) 3 z h
+    ∙ ap (λ (l : List ℕ). set (set l (k * 4 + 2) y) (k * 4 + 3) z) (set-after front (w ∷ b ∷ c ∷ d ∷ rest) (k * 4) 1 x h)
+    ∙ ap (λ (l : List ℕ). set l (k * 4 + 3) z) (set-after front (w ∷ x ∷ c ∷ d ∷ rest) (k * 4) 2 y h)
+    ∙ set-after front (w ∷ x ∷ y ∷ d ∷ rest) (k * 4) 3 z h
 
 put-step-at : (front : List ℕ) (k a b c d : ℕ) (s : Step) (rest : List ℕ) → length front ≡ k * 4
     → putStep (front ++ (a ∷ b ∷ c ∷ d ∷ rest)) k s ≡ (front ++ stepWords s) ++ rest
@@ -50,11 +54,11 @@ unfolding stepWords
 length-words s = refl
 
 -- the steps written after a front
-put-behind-front : (steps : List Step) (front rest : List ℕ) (k : ℕ) → length front ≡ k * 4 → length steps * 4 ≤ length rest
+put-after-front : (steps : List Step) (front rest : List ℕ) (k : ℕ) → length front ≡ k * 4 → length steps * 4 ≤ length rest
     → putSteps (front ++ rest) k steps ≡ front ++ (flatMap stepWords steps ++ drop (length steps * 4) rest)
 unfolding putSteps flatMap
-put-behind-front [] front rest k h l = refl
-put-behind-front (s ∷ steps) front rest k h l = go rest l (λ r. put-behind-front steps (front ++ stepWords s) r (suc k) longer)
+put-after-front [] front rest k h l = refl
+put-after-front (s ∷ steps) front rest k h l = go rest l (λ r. put-after-front steps (front ++ stepWords s) r (suc k) longer)
   where
     longer : length (front ++ stepWords s) ≡ suc k * 4
     longer = let a = length-append front (stepWords s) in let b = length-words s in omega arith
@@ -80,25 +84,25 @@ put-behind-front (s ∷ steps) front rest k h l = go rest l (λ r. put-behind-fr
 -- steps that fit are shown
 pub put-shown : (steps : List Step) (area : List ℕ) → length steps * 4 ≤ length area → putSteps area 0 steps ≡ shownIn steps area
 unfolding shownIn
-put-shown steps area h = put-behind-front steps [] area 0 refl h
+put-shown steps area h = put-after-front steps [] area 0 refl h
 
 -- a way has at most d steps
-way-short : (ahead rows layers : List ℕ) (d w : ℕ) → length (wayOn ahead rows layers d w) ≤ d
+way-short : (forwards rows layers : List ℕ) (d w : ℕ) → length (wayOn forwards rows layers d w) ≤ d
 unfolding wayOn
-way-short ahead rows layers zero w = zero-le
-way-short ahead rows layers (suc d) w = go (λ y. way-short ahead rows layers d y) (has (getD layers d 0) w)
+way-short forwards rows layers zero w = zero-le
+way-short forwards rows layers (suc d) w = go (λ y. way-short forwards rows layers d y) (has (getD layers d 0) w)
   where
     x : ℕ
     x = lowest (bitAnd (getD rows w 0) (getD layers d 0))
 
-    go : ((y : ℕ) → length (wayOn ahead rows layers d y) ≤ d) → (b : Bool)
-        → length (cond b (wayOn ahead rows layers d w) (aheadStep w (entry ahead w x) ∷ wayOn ahead rows layers d x)) ≤ suc d
+    go : ((y : ℕ) → length (wayOn forwards rows layers d y) ≤ d) → (b : Bool)
+        → length (cond b (wayOn forwards rows layers d w) (forwardStep w (entry forwards w x) ∷ wayOn forwards rows layers d x)) ≤ suc d
     go rest true = let h = rest w in omega arith
     go rest false = suc-le-suc (rest x)
 
-walk-short : (ahead behind rows : List ℕ) (u x : ℕ) → length (walkOn ahead behind rows u x) ≤ 65
+walk-short : (forwards backs rows : List ℕ) (u x : ℕ) → length (walkOn forwards backs rows u x) ≤ 65
 unfolding walkOn
-walk-short ahead behind rows u x = let h = way-short ahead rows (layersTo rows u) 63 (x % 64) in suc-le-suc (suc-le-suc h)
+walk-short forwards backs rows u x = let h = way-short forwards rows (layersTo rows u) 63 (x % 64) in suc-le-suc (suc-le-suc h)
 
 -- S20: whether an area has room for 65 steps
 room-none : (n : ℕ) → n < 260 → shortForWalk (n / 4) ≡ true
@@ -122,77 +126,77 @@ unfolding isDangerous
 settles-none g walk e (inl (d, short)) = let wrong = sym (ap (isDangerous g) e) ∙ d in absurd (false≢true wrong)
 settles-none g walk e (inr (same, safe)) = safe
 
-module _ (ahead behind before : List ℕ) where
+module _ (forwards backs before : List ℕ) where
   -- an area that is too short is left as it is
-  pub answer-short : length before < 260 → Answered ahead behind before (some 20) none before
+  pub answer-short : length before < 260 → WalkAnswered forwards backs before (some 20) none before
   answer-short h = no-room (room-none (length before) h)
 
   -- where no node is found there is no walk
-  pub answer-none : 260 ≤ length before → {rows : List ℕ} {u : ℕ} → rows ≡ joinedRows ahead → u ≡ nodeIn ahead behind rows → 64 ≤ u
-      → Answered ahead behind before none none before
+  pub answer-none : 260 ≤ length before → {rows : List ℕ} {u : ℕ} → rows ≡ joinedRows forwards → u ≡ nodeIn forwards backs rows → 64 ≤ u
+      → WalkAnswered forwards backs before none none before
   answer-none h p q l =
-      let empty : 64 ≤ nodeIn ahead behind (joinedRows ahead) = rw p at (rw q at l) in
-      let walk = table-none ahead behind empty in
+      let empty : 64 ≤ nodeIn forwards backs (joinedRows forwards) = rw p at (rw q at l) in
+      let walk = table-none forwards backs empty in
       no-walk (room-some (length before) h) walk
-      (λ g held. settles-none g (tableWalk ahead behind) walk (table-verdict ahead behind (held .isRegular) (held .small) (held .picks)))
+      (λ g held. settles-none g (tableWalk forwards backs) walk (table-verdict forwards backs (held .isRegular) (held .small) (held .picks)))
 
   -- the walk that is found is shown
-  pub answer-found : 260 ≤ length before → {rows : List ℕ} {u x : ℕ} → rows ≡ joinedRows ahead → u ≡ nodeIn ahead behind rows → u < 64
-      → x ≡ pairFor ahead behind rows u → {after : List ℕ} {r : ℕ} → Written (walkOn ahead behind rows u x) 0 before after r
-      → Answered ahead behind before none (some r) after
+  pub answer-found : 260 ≤ length before → {rows : List ℕ} {u x : ℕ} → rows ≡ joinedRows forwards → u ≡ nodeIn forwards backs rows → u < 64
+      → x ≡ pairFor forwards backs rows u → {after : List ℕ} {r : ℕ} → Written (walkOn forwards backs rows u x) 0 before after r
+      → WalkAnswered forwards backs before none (some r) after
   unfolding walkOn
   answer-found h {rows} {u} {x} p q l e {after} {r} t =
-      let node : u ≡ nodeIn ahead behind (joinedRows ahead) = q ∙ ap (nodeIn ahead behind) p in
-      let pair : x ≡ pairFor ahead behind (joinedRows ahead) (nodeIn ahead behind (joinedRows ahead)) = e ∙ ap₂ (pairFor ahead behind) p node in
-      let same : walkOn ahead behind (joinedRows ahead) (nodeIn ahead behind (joinedRows ahead))
-      (pairFor ahead behind (joinedRows ahead) (nodeIn ahead behind (joinedRows ahead))) ≡ walkOn ahead behind rows u x = cc in
-      let found = table-written ahead behind (rw node at l) ∙ same in
-      let few = walk-short ahead behind rows u x in
-      let many : r ≡ length (tableWalk ahead behind) = t .count ∙ zero-add _ ∙ ap length (sym found) in
-      let area : after ≡ shownIn (tableWalk ahead behind) before
-      = t .area ∙ put-shown (walkOn ahead behind rows u x) before (omega arith)
+      let node : u ≡ nodeIn forwards backs (joinedRows forwards) = q ∙ ap (nodeIn forwards backs) p in
+      let pair : x ≡ pairFor forwards backs (joinedRows forwards) (nodeIn forwards backs (joinedRows forwards)) = e ∙ ap₂ (pairFor forwards backs) p node in
+      let same : walkOn forwards backs (joinedRows forwards) (nodeIn forwards backs (joinedRows forwards))
+      (pairFor forwards backs (joinedRows forwards) (nodeIn forwards backs (joinedRows forwards))) ≡ walkOn forwards backs rows u x = cc in
+      let found = table-written forwards backs (rw node at l) ∙ same in
+      let few = walk-short forwards backs rows u x in
+      let many : r ≡ length (tableWalk forwards backs) = t .count ∙ zero-add _ ∙ ap length (sym found) in
+      let area : after ≡ shownIn (tableWalk forwards backs) before
+      = t .area ∙ put-shown (walkOn forwards backs rows u x) before (omega arith)
       ∙ ap (λ (w : List Step). shownIn w before) (sym found) in
-      let steps : length (tableWalk ahead behind) ≡ length (walkOn ahead behind rows u x) = ap length found in
-      let some-step : 0 < length (walkOn ahead behind rows u x) = omega arith in
+      let steps : length (tableWalk forwards backs) ≡ length (walkOn forwards backs rows u x) = ap length found in
+      let some-step : 0 < length (walkOn forwards backs rows u x) = omega arith in
       rw (many, area)
       (shown (room-some (length before) h)
-      (λ g held. settles-some g (tableWalk ahead behind) (omega arith) (table-verdict ahead behind (held .isRegular) (held .small) (held .picks)))
+      (λ g held. settles-some g (tableWalk forwards backs) (omega arith) (table-verdict forwards backs (held .isRegular) (held .small) (held .picks)))
       (omega arith) (omega arith))
 
 -- a node found has a pair
-pub found-pair : (ahead behind rows : List ℕ) {u x : ℕ} → u ≡ nodeIn ahead behind rows → u < 64 → x ≡ pairFor ahead behind rows u → x < 4096
-found-pair ahead behind rows q l e =
-    subst (λ (y : ℕ). y < 4096) (sym (e ∙ ap (pairFor ahead behind rows) q)) (node-pair ahead behind rows (rw q at l))
+pub found-pair : (forwards backs rows : List ℕ) {u x : ℕ} → u ≡ nodeIn forwards backs rows → u < 64 → x ≡ pairFor forwards backs rows u → x < 4096
+found-pair forwards backs rows q l e =
+    subst (λ (y : ℕ). y < 4096) (sym (e ∙ ap (pairFor forwards backs rows) q)) (node-pair forwards backs rows (rw q at l))
 
 -- two steps and the way after them
-pub walk-written : (ahead behind rows : List ℕ) (u x : ℕ) {e c r : ℕ} {layers before one two after : List ℕ}
-    → e ≡ getD ahead (u * 64 + x / 64) 0 → one ≡ putStep before 0 (aheadStep u e)
-    → c ≡ getD behind (x / 64 * 64 + x % 64) 0 → two ≡ putStep one 1 (behindStep (x / 64) c)
-    → layers ≡ layersTo rows u → Written (wayOn ahead rows layers 63 (x % 64)) 2 two after r
-    → Written (walkOn ahead behind rows u x) 0 before after r
-unfolding walkOn
-walk-written ahead behind rows u x {e} {c} {r} {layers} {before} {one} {two} {after} p a q b same t =
+pub walk-written : (forwards backs rows : List ℕ) (u x : ℕ) {word worb r : ℕ} {e c : Pick} {layers before one two after : List ℕ}
+    → word ≡ getD forwards (u * 64 + x / 64) 0 → e ≡ forwardEdge word → one ≡ putWords before 0 u (e .leaves) (e .enters) 0
+    → worb ≡ getD backs (x / 64 * 64 + x % 64) 0 → c ≡ backEdge worb → two ≡ putWords one 1 (x / 64) (c .leaves) (c .enters) 1
+    → layers ≡ layersTo rows u → Written (wayOn forwards rows layers 63 (x % 64)) 2 two after r
+    → Written (walkOn forwards backs rows u x) 0 before after r
+unfolding walkOn putStep
+walk-written forwards backs rows u x {word} {worb} {r} {e} {c} {layers} {before} {one} {two} {after} p f a q g b same t =
     record {
       area =
-          t .area ∙ ap₂ (λ (z : List ℕ) (w : List Step). putSteps z 2 w) (b ∙ both) way
+          t .area ∙ ap₂ (λ (z : List ℕ) (w : List Step). putSteps z 2 w) both way
           ∙ sym (put-cons before 0 s (d ∷ rest) ∙ put-cons (putStep before 0 s) 1 d rest);
       count = t .count ∙ ap (λ (w : List Step). 2 + length w) way ∙ last;
     }
   where
     s : Step
-    s = aheadStep u (entry ahead u (x / 64))
+    s = forwardStep u (entry forwards u (x / 64))
 
     d : Step
-    d = behindStep (x / 64) (entry behind (x / 64) (x % 64))
+    d = backStep (x / 64) (entry backs (x / 64) (x % 64))
 
     rest : List Step
-    rest = wayOn ahead rows (layersTo rows u) 63 (x % 64)
+    rest = wayOn forwards rows (layersTo rows u) 63 (x % 64)
 
-    both : putStep one 1 (behindStep (x / 64) c) ≡ putStep (putStep before 0 s) 1 d
-    both = rw (q, a, p) refl
+    both : two ≡ putStep (putStep before 0 s) 1 d
+    both = rw (b, g, q, a, f, p) refl
 
-    way : wayOn ahead rows layers 63 (x % 64) ≡ rest
-    way = ap (λ (l : List ℕ). wayOn ahead rows l 63 (x % 64)) same
+    way : wayOn forwards rows layers 63 (x % 64) ≡ rest
+    way = ap (λ (l : List ℕ). wayOn forwards rows l 63 (x % 64)) same
 
     last : 2 + length rest ≡ 0 + length (s ∷ d ∷ rest)
     last = omega arith

@@ -1,247 +1,35 @@
-// A dangerous closed walk among at most 64 nodes, from two tables that hold one edge for each pair of nodes.
-//
-// Table `ahead` has at u * 64 + v the word of the forward edge from u to v that stands for all of them, table `behind` that of the back
-// edge; 0 is no edge (specs/Table: `aheadPick`, `behindPick`). The search takes the first node u, and for it the first pair of nodes v and w,
-// where the edges from u to v and from v to w are dangerous and u is reached from w. The walk is these two edges and a shortest way from w to u.
+// A dangerous closed walk among at most 64 nodes, from two tables that hold one edge for each pair of nodes: `forwards` has the words of forward
+// edges, `backs` those of back edges (edge_word). The walk is the first dangerous pair that can be closed (walk_pair), and a shortest way back.
 
+use edge_word::NODES;
+use edge_word::back_edge;
+use edge_word::forward_edge;
+use walk_laws::WalkFound;
+use walk_pair::closing_pair;
+use walk_reach::LAST_LAYER;
+use walk_reach::joined_rows;
+use walk_reach::layers_to;
+use word_list::has_bit;
 use word_list::word_at;
 ghost use mathlib.Core.Path.{_≡_};
-ghost use Prim.Native.Nat.{_+_, _-_, _*_, _/_, _%_, _≤_, _<_};
+ghost use Prim.Native.Nat.{_+_, _*_, _≤_, _<_};
 ghost use lib.ListN.{length};
-ghost use Rattle.spec_base.specs.Basic.{has};
-ghost use Rattle.walk_laws.specs.Pick.{dangerousPicks};
-ghost use Rattle.walk_find.specs.EdgeTable.{aheadPick, behindPick, withBit, joinedRow, joinedRows, growsTo, grown, layersTo, closesAlong};
-ghost use Rattle.walk_find.specs.EdgeTable.{closingNode, pairIn, pairFor, nodeIn, lowest};
-ghost use Rattle.walk_find.specs.EdgeTable.{aheadStep, behindStep, wayOn, walkOn, putWords, putStep, writing, goOn, Written};
-ghost use Rattle.walk_find.specs.EdgeTable.{refusalIn, stepsIn, Answered};
+ghost use Rattle.walk_find.specs.TableWalk.{wayOn, walkOn, putWords, writing, goOn, Written, refusalIn, stepsIn, WalkAnswered};
 
-// Whether node k is one of the nodes of a word.
-fn has_bit(word: u64, k: usize) -> bool
-    requires { ⌜ k < 64 ⌝ }
-    ensures { λ r. ⌜ r ≡ has word k ⌝ }
-{
-    (word >> k) % 2 == 1
-}
+// The words of a step in the area, and those of the longest walk that is shown: 65 steps.
+pub const STEP_WORDS: usize = 4;
 
-// The nodes of a word, and node k too where the test passed.
-fn with_bit(word: u64, test: bool, k: usize) -> u64
-    requires { ⌜ k < 64 ⌝ }
-    ensures { λ r. ⌜ r ≡ withBit word test k ⌝ }
-{
-    if test {
-        return word | (1u64 << k);
-    }
-    word
-}
-
-// The nodes to which a forward edge goes from u, as a word.
-fn joined_row(ahead: &[u64], u: usize) -> u64
-    requires { ⌜ u < 64 ⌝ }
-    ensures { λ r. ⌜ r ≡ joinedRow (now (ahead .entry)) u ⌝ }
-{
-    let mut word: u64 = 0;
-    let mut v: usize = 0;
-    while v < 64 {
-        let x = word_at(ahead, u * 64 + v);
-        word = with_bit(word, x != 0, v);
-        v += 1;
-    }
-    word
-}
-
-// For each node the nodes to which a forward edge goes from it.
-fn joined_rows(ahead: &[u64]) -> [u64; 64]
-    ensures { λ r. ⌜ r ≡ joinedRows (now (ahead .entry)) ⌝ }
-{
-    let mut rows = [0u64; 64];
-    let mut u: usize = 0;
-    while u < 64 {
-        rows[u] = joined_row(ahead, u);
-        u += 1;
-    }
-    rows
-}
-
-// Whether node k is one of the nodes or has a forward edge to one of them.
-fn grows_to(rows: &[u64; 64], nodes: u64, k: usize) -> bool
-    requires { ⌜ k < 64 ⌝ }
-    ensures { λ r. ⌜ r ≡ growsTo (now (rows .entry)) nodes k ⌝ }
-{
-    if has_bit(nodes, k) {
-        return true;
-    }
-    rows[k] & nodes != 0
-}
-
-// The nodes, and those with a forward edge to one of them.
-fn grow(rows: &[u64; 64], nodes: u64) -> u64
-    ensures { λ r. ⌜ r ≡ grown (now (rows .entry)) nodes ⌝ }
-{
-    let mut word: u64 = 0;
-    let mut k: usize = 0;
-    while k < 64 {
-        let t = grows_to(rows, nodes, k);
-        word = with_bit(word, t, k);
-        k += 1;
-    }
-    word
-}
-
-// The layer after `nodes`: these and those with a forward edge to one of them. Where the layer before was the same, nothing is added any more,
-// so that is not worked out again.
-fn next_layer(rows: &[u64; 64], before: u64, nodes: u64) -> u64
-    requires { ⌜ (before ≡ nodes → grown (now rows) nodes ≡ nodes) ⌝ }
-    ensures { λ r. ⌜ r ≡ grown (now (rows .entry)) nodes ⌝ }
-{
-    if before == nodes {
-        return nodes;
-    }
-    grow(rows, nodes)
-}
-
-// For each number of steps below 64, the nodes from which u is reached along forward edges in at most so many.
-fn layers_to(rows: &[u64; 64], u: usize) -> [u64; 64]
-    requires { ⌜ u < 64 ⌝ }
-    ensures { λ r. ⌜ r ≡ layersTo (now (rows .entry)) u ⌝ }
-{
-    let mut layers = [0u64; 64];
-    let mut before: u64 = 0;
-    let mut nodes: u64 = 1u64 << u;
-    let mut d: usize = 0;
-    while d < 64 {
-        layers[d] = nodes;
-        let next = next_layer(rows, before, nodes);
-        before = nodes;
-        nodes = next;
-        d += 1;
-    }
-    layers
-}
-
-// Whether the forward edge of word x and the back edge of word y after it are dangerous (W4): the back edge leaves at an earlier place than the
-// forward edge enters, or the forward edge leaves a loose place.
-fn dangerous(x: u64, y: u64) -> bool
-    ensures { λ r. ⌜ r ≡ dangerousPicks (aheadPick x) (behindPick y) ⌝ }
-{
-    if x == 0 {
-        return false;
-    }
-    if y == 0 {
-        return false;
-    }
-    if 1023 - y / 1024 % 1024 < x / 1024 % 1024 {
-        return true;
-    }
-    2097152 <= x
-}
-
-// Whether node w closes a walk along the forward edge of word e to v: the back edge from v to w after it makes a dangerous pair, and w is one of the
-// nodes of `reach`, from which the walk's first node is reached.
-fn closes_at(behind: &[u64], e: u64, v: usize, reach: u64, w: usize) -> bool
-    requires { ⌜ (v < 64) × (w < 64) ⌝ }
-    ensures { λ r. ⌜ r ≡ closesAlong (now (behind .entry)) e v reach w ⌝ }
-{
-    let c = word_at(behind, v * 64 + w);
-    if dangerous(e, c) {
-        return has_bit(reach, w);
-    }
-    false
-}
-
-// The first node that closes a walk along the forward edge of word e to v, or 64 where none does. None does where there is no such edge.
-fn closing_node(behind: &[u64], e: u64, v: usize, reach: u64) -> usize
-    requires { ⌜ v < 64 ⌝ }
-    ensures { λ r. ⌜ r ≡ closingNode (now (behind .entry)) e v reach ⌝ }
-{
-    if e == 0 {
-        return 64;
-    }
-    let mut w: usize = 0;
-    while w < 64 {
-        if closes_at(behind, e, v, reach, w) {
-            return w;
-        }
-        w += 1;
-    }
-    64
-}
-
-// The first pair of nodes v and w that closes a walk from u, as v * 64 + w, where u is reached from the nodes of `reach`; 4096 where none does.
-fn pair_in(ahead: &[u64], behind: &[u64], u: usize, reach: u64) -> usize
-    requires { ⌜ u < 64 ⌝ }
-    ensures { λ r. ⌜ r ≡ pairIn (now (ahead .entry)) (now (behind .entry)) u reach ⌝ }
-{
-    let mut v: usize = 0;
-    while v < 64 {
-        let e = word_at(ahead, u * 64 + v);
-        let w = closing_node(behind, e, v, reach);
-        if w < 64 {
-            return v * 64 + w;
-        }
-        v += 1;
-    }
-    4096
-}
-
-// The first pair that closes a walk from u, or 4096 where none does. None does where no forward edge leaves u, so such a node is passed over.
-fn pair_for(ahead: &[u64], behind: &[u64], rows: &[u64; 64], u: usize) -> usize
-    requires { ⌜ (u < 64) × (now rows ≡ joinedRows (now ahead)) ⌝ }
-    ensures { λ r. ⌜ r ≡ pairFor (now (ahead .entry)) (now (behind .entry)) (now (rows .entry)) u ⌝ }
-{
-    if rows[u] == 0 {
-        return 4096;
-    }
-    let layers = layers_to(rows, u);
-    pair_in(ahead, behind, u, layers[63])
-}
-
-// The first node from which some pair closes a walk, or 64 where there is none.
-fn node_in(ahead: &[u64], behind: &[u64], rows: &[u64; 64]) -> usize
-    requires { ⌜ now rows ≡ joinedRows (now ahead) ⌝ }
-    ensures { λ r. ⌜ r ≡ nodeIn (now (ahead .entry)) (now (behind .entry)) (now (rows .entry)) ⌝ }
-{
-    let mut u: usize = 0;
-    while u < 64 {
-        if pair_for(ahead, behind, rows, u) < 4096 {
-            return u;
-        }
-        u += 1;
-    }
-    64
-}
-
-// The lowest node of a word; 0 for the empty word.
-fn lowest_in(word: u64) -> usize
-    ensures { λ r. ⌜ r ≡ lowest word ⌝ }
-{
-    (u64::trailing_zeros(word) % 64) as usize
-}
+pub const WALK_WORDS: usize = 260;
 
 // Writes the four words of step k: they stand from word k * 4 on.
 fn put_words(out: &mut [u64], k: usize, a: u64, b: u64, c: u64, d: u64)
     requires { ⌜ (k * 4 + 4 ≤ length (now out)) × (k < 65) ⌝ }
     ensures { λ _. ⌜ now (out .exit) ≡ putWords (now (out .entry)) k a b c d ⌝ }
 {
-    out[k * 4] = a;
-    out[k * 4 + 1] = b;
-    out[k * 4 + 2] = c;
-    out[k * 4 + 3] = d;
-}
-
-// Writes step k: from node `node` along the forward edge of word x.
-fn put_ahead(out: &mut [u64], k: usize, node: usize, x: u64)
-    requires { ⌜ (k * 4 + 4 ≤ length (now out)) × (k < 65) ⌝ }
-    ensures { λ _. ⌜ now (out .exit) ≡ putStep (now (out .entry)) k (aheadStep node x) ⌝ }
-{
-    put_words(out, k, node as u64, x % 1024, x / 1024 % 1024, 0);
-}
-
-// Writes step k: from node `node` along the back edge of word y.
-fn put_behind(out: &mut [u64], k: usize, node: usize, y: u64)
-    requires { ⌜ (k * 4 + 4 ≤ length (now out)) × (k < 65) ⌝ }
-    ensures { λ _. ⌜ now (out .exit) ≡ putStep (now (out .entry)) k (behindStep node y) ⌝ }
-{
-    put_words(out, k, node as u64, 1023 - y / 1024 % 1024, y % 1024, 1);
+    out[k * STEP_WORDS] = a;
+    out[k * STEP_WORDS + 1] = b;
+    out[k * STEP_WORDS + 2] = c;
+    out[k * STEP_WORDS + 3] = d;
 }
 
 // How far the writing of a way has come: the node that is left next, and how many steps are written.
@@ -251,33 +39,44 @@ struct Spot {
 }
 
 // Writes step k along a forward edge from node m to the lowest of the nodes that it has an edge to; nothing where m is one of the nodes.
-fn go_on(ahead: &[u64], rows: &[u64; 64], nodes: u64, m: usize, k: usize, out: &mut [u64]) -> Spot
+fn go_on(
+    forwards: &[u64],
+    rows: &[u64; NODES],
+    nodes: u64,
+    m: usize,
+    k: usize,
+    out: &mut [u64],
+) -> Spot
     requires { ⌜ (m < 64) × (k * 4 + 4 ≤ length (now out)) × (k < 65) ⌝ }
-    ensures { λ r. ⌜ writing (now (out .exit)) (r .node) (r .steps) ≡ goOn (now (ahead .entry)) (now (rows .entry)) nodes (now (out .entry)) m k ⌝ }
+    ensures { λ r. ⌜ writing (now (out .exit)) (r .node) (r .steps) ≡ goOn (now (forwards .entry)) (now (rows .entry)) nodes (now (out .entry)) m k ⌝ }
 {
-    if has_bit(nodes, m) {
+    if has_bit(nodes, m as u64) {
         return Spot { node: m, steps: k };
     }
-    let x = lowest_in(rows[m] & nodes);
-    let e = word_at(ahead, m * 64 + x);
-    put_ahead(out, k, m, e);
-    Spot {
-        node: x,
-        steps: k + 1,
-    }
+    let x = (u64::trailing_zeros(rows[m] & nodes) % 64) as usize;
+    let e = forward_edge(word_at(forwards, m * NODES + x));
+    put_words(out, k, m as u64, e.leaves, e.enters, 0);
+    let steps = k + 1;
+    Spot { node: x, steps }
 }
 
 // Writes after two steps a shortest way from w to the node that the layers belong to, and answers how many steps there are then.
-fn put_way(ahead: &[u64], rows: &[u64; 64], layers: &[u64; 64], w: usize, out: &mut [u64]) -> usize
+fn put_way(
+    forwards: &[u64],
+    rows: &[u64; NODES],
+    layers: &[u64; NODES],
+    w: usize,
+    out: &mut [u64],
+) -> usize
     requires { ⌜ (w < 64) × (260 ≤ length (now out)) ⌝ }
-    ensures { λ r. ⌜ Written (wayOn (now (ahead .entry)) (now (rows .entry)) (now (layers .entry)) 63 w) 2 (now (out .entry)) (now (out .exit)) r ⌝ }
+    ensures { λ r. ⌜ Written (wayOn (now (forwards .entry)) (now (rows .entry)) (now (layers .entry)) 63 w) 2 (now (out .entry)) (now (out .exit)) r ⌝ }
 {
     let mut node = w;
     let mut steps: usize = 2;
-    let mut d: usize = 63;
+    let mut d = LAST_LAYER;
     while 0 < d {
         d -= 1;
-        let s = go_on(ahead, rows, layers[d], node, steps, out);
+        let s = go_on(forwards, rows, layers[d], node, steps, out);
         node = s.node;
         steps = s.steps;
     }
@@ -286,46 +85,39 @@ fn put_way(ahead: &[u64], rows: &[u64; 64], layers: &[u64; 64], w: usize, out: &
 
 // Writes the walk from u along pair x: the two edges and a shortest way back to u. Answers how many steps it has.
 fn put_walk(
-    ahead: &[u64],
-    behind: &[u64],
-    rows: &[u64; 64],
+    forwards: &[u64],
+    backs: &[u64],
+    rows: &[u64; NODES],
     u: usize,
     x: usize,
     out: &mut [u64],
 ) -> usize
     requires { ⌜ (u < 64) × (x < 4096) × (260 ≤ length (now out)) ⌝ }
-    ensures { λ r. ⌜ Written (walkOn (now (ahead .entry)) (now (behind .entry)) (now (rows .entry)) u x) 0 (now (out .entry)) (now (out .exit)) r ⌝ }
+    ensures { λ r. ⌜ Written (walkOn (now (forwards .entry)) (now (backs .entry)) (now (rows .entry)) u x) 0 (now (out .entry)) (now (out .exit)) r ⌝ }
 {
-    let v = x / 64;
-    let w = x % 64;
-    let e = word_at(ahead, u * 64 + v);
-    put_ahead(out, 0, u, e);
-    let c = word_at(behind, v * 64 + w);
-    put_behind(out, 1, v, c);
+    let v = x / NODES;
+    let w = x % NODES;
+    let e = forward_edge(word_at(forwards, u * NODES + v));
+    put_words(out, 0, u as u64, e.leaves, e.enters, 0);
+    let c = back_edge(word_at(backs, v * NODES + w));
+    put_words(out, 1, v as u64, c.leaves, c.enters, 1);
     let layers = layers_to(rows, u);
-    put_way(ahead, rows, &layers, w, out)
-}
-
-// What the search for a walk answers: the area is too short for 65 steps, there is no walk, or one of so many steps is shown.
-pub enum WalkFound {
-    NoRoom,
-    NoWalk,
-    Shown(usize),
+    put_way(forwards, rows, &layers, w, out)
 }
 
 // Shows a dangerous closed walk of the tables, four words to a step, in an area with room for 65 steps.
-pub fn find_walk(ahead: &[u64], behind: &[u64], out: &mut [u64]) -> WalkFound
-    ensures { λ r. ⌜ Answered (now (ahead .entry)) (now (behind .entry)) (now (out .entry)) (refusalIn r) (stepsIn r) (now (out .exit)) ⌝ }
+pub fn find_walk(forwards: &[u64], backs: &[u64], out: &mut [u64]) -> WalkFound
+    ensures { λ r. ⌜ WalkAnswered (now (forwards .entry)) (now (backs .entry)) (now (out .entry)) (refusalIn r) (stepsIn r) (now (out .exit)) ⌝ }
 {
-    if out.len() < 260 {
+    if out.len() < WALK_WORDS {
         return WalkFound::NoRoom;
     }
-    let rows = joined_rows(ahead);
-    let u = node_in(ahead, behind, &rows);
-    if 64 <= u {
+    let rows = joined_rows(forwards);
+    let p = closing_pair(forwards, backs, &rows);
+    let u = p.node;
+    if NODES <= u {
         return WalkFound::NoWalk;
     }
-    let x = pair_for(ahead, behind, &rows, u);
-    let n = put_walk(ahead, behind, &rows, u, x, out);
+    let n = put_walk(forwards, backs, &rows, u, p.pair, out);
     WalkFound::Shown(n)
 }

@@ -8,13 +8,7 @@ use Rattle.spec_base.specs.Basic.{any, first, numbers}
 use Rattle.spec_graph.specs.Graph.{Flow}
 use Rattle.spec_graph.specs.Walk.{Step}
 use Rattle.law_walk.specs.Reach.{roundsFor}
-
--- an edge that stands for all edges of its flow from one node to another: the place left, the place entered, and
--- whether the place left is loose (W4: it is of kind ks, ps, pu or pd)
-pub record Pick : Type 0 where
-  pub leaves : ℕ
-  pub enters : ℕ
-  pub loose : Bool
+use Rattle.walk_laws.specs.declared.Pick.{Pick}
 
 -- for each pair of nodes the edge that stands for all, where there is one
 abbrev pub Picks : Type 0
@@ -33,40 +27,44 @@ dangerousPicks (some e) (some c) = ltb (c .leaves) (e .enters) || e .loose
 
 -- an edge goes from w to a node x below n from which u is reached in at most d steps, as `rest` tells
 abbrev pub onwardTo : Picks → (ℕ → Bool) → ℕ → ℕ → Bool
-onwardTo ahead rest w x = picked (ahead w x) && rest x
+onwardTo forwards rest w x = picked (forwards w x) && rest x
 
 -- u is reached from w along forward edges in at most d steps, among n nodes
 unfoldable pub reaches : Picks → ℕ → ℕ → ℕ → ℕ → Bool
-reaches ahead n u zero w = eqb w u
-reaches ahead n u (suc d) w = reaches ahead n u d w || any (onwardTo ahead (reaches ahead n u d) w) (numbers n)
+reaches forwards n u zero w = eqb w u
+reaches forwards n u (suc d) w = reaches forwards n u d w || any (onwardTo forwards (reaches forwards n u d) w) (numbers n)
 
 -- the forward edge from u to v and the back edge from v to w are dangerous, and u is reached from w
 unfoldable pub returnsAt : Picks → Picks → ℕ → ℕ → ℕ → ℕ → Bool
-returnsAt ahead behind n u v w = dangerousPicks (ahead u v) (behind v w) && reaches ahead n u (roundsFor n) w
+returnsAt forwards backs n u v w = dangerousPicks (forwards u v) (backs v w) && reaches forwards n u (roundsFor n) w
 
 -- some dangerous pair can be closed
 unfoldable pub nodeTest : Picks → Picks → ℕ → Bool
-nodeTest ahead behind n = any (λ u. any (λ v. any (returnsAt ahead behind n u v) (numbers n)) (numbers n)) (numbers n)
+nodeTest forwards backs n = any (λ u. any (λ v. any (returnsAt forwards backs n u v) (numbers n)) (numbers n)) (numbers n)
 
--- the step along the edge
+-- the step along an edge that is there
+abbrev pub stepOf : ℕ → Flow → Pick → Step
+stepOf m flow p = record { node = m; leaves = p .leaves; enters = p .enters; flow = flow }
+
+-- the step along the edge, where there is one
 abbrev pub stepAlong : ℕ → Flow → Option Pick → List Step
 stepAlong m flow none = []
-stepAlong m flow (some p) = record { node = m; leaves = p .leaves; enters = p .enters; flow = flow } ∷ []
+stepAlong m flow (some p) = stepOf m flow p ∷ []
 
 -- a shortest way from w to u, of at most d steps, each to the first node from which the rest is reached
 unfoldable pub wayTo : Picks → ℕ → ℕ → ℕ → ℕ → List Step
-wayTo ahead n u zero w = []
-wayTo ahead n u (suc d) w =
-    elim (reaches ahead n u d w) [
-      | true ↦ wayTo ahead n u d w
+wayTo forwards n u zero w = []
+wayTo forwards n u (suc d) w =
+    elim (reaches forwards n u d w) [
+      | true ↦ wayTo forwards n u d w
       | false ↦
-          elim (first (onwardTo ahead (reaches ahead n u d) w) (numbers n)) [
+          elim (first (onwardTo forwards (reaches forwards n u d) w) (numbers n)) [
             | none ↦ []
-            | some x ↦ stepAlong w Flow.forward (ahead w x) ++ wayTo ahead n u d x
+            | some x ↦ stepAlong w Flow.forward (forwards w x) ++ wayTo forwards n u d x
           ]
     ]
 
 -- the closed walk along the forward edge from u to v, the back edge from v to w, and a shortest way from w to u
 unfoldable pub walkAt : Picks → Picks → ℕ → ℕ → ℕ → ℕ → List Step
-walkAt ahead behind n u v w =
-    stepAlong u Flow.forward (ahead u v) ++ stepAlong v Flow.back (behind v w) ++ wayTo ahead n u (roundsFor n) w
+walkAt forwards backs n u v w =
+    stepAlong u Flow.forward (forwards u v) ++ stepAlong v Flow.back (backs v w) ++ wayTo forwards n u (roundsFor n) w

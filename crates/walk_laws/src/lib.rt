@@ -1,1 +1,16 @@
-// How a dangerous closed walk is found among the nodes, from one edge for each pair of them: everything is in specs/.
+// The types of the search for a dangerous walk; its laws are in specs/.
+
+// An edge that stands for all edges of its flow from one node to another: the place left, the place entered, and whether the place left is loose
+// (W4: it is of kind ks, ps, pu or pd).
+pub struct Pick {
+    pub leaves: u64,
+    pub enters: u64,
+    pub loose: bool,
+}
+
+// What the search for a walk answers: the area is too short for 65 steps, there is no walk, or one of so many steps is shown.
+pub enum WalkFound {
+    NoRoom,
+    NoWalk,
+    Shown(usize),
+}

@@ -18,9 +18,9 @@ use Rattle.spec_graph.specs.Edge as E
 use Rattle.place_row.specs.declared.Row.{Row}
 use Rattle.place_row.specs.RowTable.{rowAt, rowCount, rowForward, rowBack, rowEdge, rowEdges, tableRows, edgesOfRows}
 use Rattle.place_row.specs.RowTableLaws.{flatMap-map}
-use Rattle.edge_count.specs.Slots.{tableEdges, tableCounts}
+use Rattle.edge_count.specs.Slots.{tableEdges, tableCounts, pairCounts}
 use Rattle.walk_pick.specs.declared.PickedEdges.{PickedEdges}
-use Rattle.walk_pick.specs.Picks.{forwardWord, backWord, greatest, standsIn, wordFor, between, wordsBetween, picksOf}
+use Rattle.walk_pick.specs.Picks.{rowForwardWord, rowBackWord, greatest, standsIn, wordFor, between, wordsBetween, picksOf}
 use Rattle.walk_pick.specs.PickSteps.{
   keptAt,
   hasEntries,
@@ -28,7 +28,6 @@ use Rattle.walk_pick.specs.PickSteps.{
   keptRow,
   keptRows,
   sumBelow,
-  tallyOf,
   edgesAt,
   backAt,
   rowSum,
@@ -258,7 +257,7 @@ module _ (size : List E.Edge → ℕ) (none : size [] ≡ 0) (parts : (l r : Lis
       n = rowCount table
 
 pair-edges : (p q : Row) → length (rowEdges p q) ≡ edgesAt p q
-unfolding rowEdges tallyOf
+unfolding rowEdges pairCounts
 pair-edges p q = go (rowForward p q) (rowBack p q)
   where
     go : (f b : Bool)
@@ -269,7 +268,7 @@ pair-edges p q = go (rowForward p q) (rowBack p q)
     go false false = refl
 
 pair-back : (p q : Row) → count (λ e. G.isBack (e .flow)) (rowEdges p q) ≡ backAt p q
-unfolding rowEdges tallyOf rowEdge
+unfolding rowEdges pairCounts rowEdge
 pair-back p q = go (rowForward p q) (rowBack p q)
   where
     go : (f b : Bool)
@@ -280,13 +279,13 @@ pair-back p q = go (rowForward p q) (rowBack p q)
     go false false = refl
 
 -- what is promised: all rows with all rows
-pub all-picked : (table : List ℕ) (n i : ℕ) {ahead behind : List ℕ} {edges back : ℕ} → n ≡ rowCount table → i ≤ n → n ≤ i
-    → RowsKept table n i ahead behind edges back
-    → _≡_ {A = PickedEdges} (record { ahead = ahead; behind = behind; edges = edges; back = back }) (picksOf table)
+pub all-picked : (table : List ℕ) (n i : ℕ) {forwards backs : List ℕ} {edges back : ℕ} → n ≡ rowCount table → i ≤ n → n ≤ i
+    → RowsKept table n i forwards backs edges back
+    → _≡_ {A = PickedEdges} (record { forwards = forwards; backs = backs; edges = edges; back = back }) (picksOf table)
 unfolding picksOf tableCounts
 all-picked table n i rows most least h = λ k. record {
-  ahead = (h .aheadKept ∙ ap (keptRows forwardWord table n) end ∙ kept-all forwardWord table n rows) k;
-  behind = (h .behindKept ∙ ap (keptRows backWord table n) end ∙ kept-all backWord table n rows) k;
+  forwards = (h .forwardsKept ∙ ap (keptRows rowForwardWord table n) end ∙ kept-all rowForwardWord table n rows) k;
+  backs = (h .backsKept ∙ ap (keptRows rowBackWord table n) end ∙ kept-all rowBackWord table n rows) k;
   edges = (h .edgesCounted ∙ sums edgesAt ∙ sym (rows-sum length refl length-append edgesAt pair-edges table)) k;
   back = (h .backCounted ∙ sums backAt
       ∙ sym (rows-sum (count (λ e. G.isBack (e .flow))) refl (count-append (λ e. G.isBack (e .flow))) backAt pair-back table)) k;

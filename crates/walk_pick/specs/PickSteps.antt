@@ -7,8 +7,9 @@ use lib.Dec.{ltb}
 use lib.ListN.{getD, set, replicate}
 use Rattle.place_row.specs.declared.Row.{Row}
 use Rattle.place_row.specs.RowTable.{rowAt, rowForward, rowBack}
-use Rattle.walk_pick.specs.declared.Tally.{Tally}
-use Rattle.walk_pick.specs.Picks.{forwardWord, backWord}
+use Rattle.edge_count.specs.declared.Counts.{Counts}
+use Rattle.edge_count.specs.Slots.{pairCounts}
+use Rattle.walk_pick.specs.Picks.{rowForwardWord, rowBackWord}
 
 -- the greater word is kept
 unfoldable pub keptAt : List ℕ → ℕ → ℕ → List ℕ
@@ -38,14 +39,11 @@ sumBelow f zero = 0
 sumBelow f (suc n) = sumBelow f n + f n
 
 -- how many edges stand between two rows, and how many of them are back edges
-unfoldable pub tallyOf : Bool → Bool → Tally
-tallyOf forward back = record { edges = cond forward 1 0 + cond back 1 0; back = cond back 1 0 }
-
 abbrev pub edgesAt : Row → Row → ℕ
-edgesAt p q = tallyOf (rowForward p q) (rowBack p q) .edges
+edgesAt p q = pairCounts (rowForward p q) (rowBack p q) .edges
 
 abbrev pub backAt : Row → Row → ℕ
-backAt p q = tallyOf (rowForward p q) (rowBack p q) .back
+backAt p q = pairCounts (rowForward p q) (rowBack p q) .back
 
 -- the same between a row and the first n rows of a table
 unfoldable pub rowSum : (Row → Row → ℕ) → List ℕ → Row → ℕ → ℕ
@@ -56,25 +54,25 @@ unfoldable pub rowsSum : (Row → Row → ℕ) → List ℕ → ℕ → ℕ → 
 rowsSum f table n i = sumBelow (λ k. rowSum f table (rowAt table k) n) i
 
 -- what a pair of rows adds: its words and its edges
-pub record PairKept (p q : Row) (ahead₀ behind₀ ahead behind : List ℕ) (r : Tally) : Type 0 where
-  pub aheadKept : ahead ≡ keptPair forwardWord p q ahead₀
-  pub behindKept : behind ≡ keptPair backWord p q behind₀
-  pub counted : r ≡ tallyOf (rowForward p q) (rowBack p q)
+pub record PairKept (p q : Row) (forwards₀ backs₀ forwards backs : List ℕ) (r : Counts) : Type 0 where
+  pub forwardsKept : forwards ≡ keptPair rowForwardWord p q forwards₀
+  pub backsKept : backs ≡ keptPair rowBackWord p q backs₀
+  pub counted : r ≡ pairCounts (rowForward p q) (rowBack p q)
 
 -- what a row adds, with each of the first j rows
-pub record RowKept (table : List ℕ) (p : Row) (j : ℕ) (ahead₀ behind₀ ahead behind : List ℕ) (edges back : ℕ) : Type 0 where
-  pub aheadKept : ahead ≡ keptRow forwardWord table p ahead₀ j
-  pub behindKept : behind ≡ keptRow backWord table p behind₀ j
+pub record RowKept (table : List ℕ) (p : Row) (j : ℕ) (forwards₀ backs₀ forwards backs : List ℕ) (edges back : ℕ) : Type 0 where
+  pub forwardsKept : forwards ≡ keptRow rowForwardWord table p forwards₀ j
+  pub backsKept : backs ≡ keptRow rowBackWord table p backs₀ j
   pub edgesCounted : edges ≡ rowSum edgesAt table p j
   pub backCounted : back ≡ rowSum backAt table p j
 
 -- what row i adds, with each of the first n rows
-abbrev pub RowAdded : List ℕ → ℕ → ℕ → List ℕ → List ℕ → List ℕ → List ℕ → Tally → Type 0
-RowAdded table n i ahead₀ behind₀ ahead behind r = RowKept table (rowAt table i) n ahead₀ behind₀ ahead behind (r .edges) (r .back)
+abbrev pub RowAdded : List ℕ → ℕ → ℕ → List ℕ → List ℕ → List ℕ → List ℕ → Counts → Type 0
+RowAdded table n i forwards₀ backs₀ forwards backs r = RowKept table (rowAt table i) n forwards₀ backs₀ forwards backs (r .edges) (r .back)
 
 -- what the first i rows give, with each of the first n rows
-pub record RowsKept (table : List ℕ) (n i : ℕ) (ahead behind : List ℕ) (edges back : ℕ) : Type 0 where
-  pub aheadKept : ahead ≡ keptRows forwardWord table n i
-  pub behindKept : behind ≡ keptRows backWord table n i
+pub record RowsKept (table : List ℕ) (n i : ℕ) (forwards backs : List ℕ) (edges back : ℕ) : Type 0 where
+  pub forwardsKept : forwards ≡ keptRows rowForwardWord table n i
+  pub backsKept : backs ≡ keptRows rowBackWord table n i
   pub edgesCounted : edges ≡ rowsSum edgesAt table n i
   pub backCounted : back ≡ rowsSum backAt table n i

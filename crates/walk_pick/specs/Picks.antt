@@ -8,16 +8,16 @@ use Rattle.spec_graph.specs.Edge.{loosens}
 use Rattle.place_row.specs.declared.Row.{Row}
 use Rattle.place_row.specs.RowTable.{rowForward, rowBack, tableRows}
 use Rattle.edge_count.specs.Slots.{tableCounts}
-use Rattle.walk_find.specs.Coding.{aheadWord, behindWord}
+use Rattle.edge_word.specs.Coding.{forwardWord, backWord}
 use Rattle.walk_pick.specs.declared.PickedEdges.{PickedEdges}
 
 -- the word of the forward edge between two rows, 0 where none stands; W4: by its kind the left row may be loose
-unfoldable pub forwardWord : Row → Row → ℕ
-forwardWord p q = cond (rowForward p q) (aheadWord (loosens (p .kind)) (p .place) (q .place)) 0
+unfoldable pub rowForwardWord : Row → Row → ℕ
+rowForwardWord p q = cond (rowForward p q) (forwardWord (loosens (p .kind)) (p .place) (q .place)) 0
 
 -- the word of the back edge between two rows, 0 where none stands
-unfoldable pub backWord : Row → Row → ℕ
-backWord p q = cond (rowBack p q) (behindWord (p .place) (q .place)) 0
+unfoldable pub rowBackWord : Row → Row → ℕ
+rowBackWord p q = cond (rowBack p q) (backWord (p .place) (q .place)) 0
 
 -- the greatest number that the elements give; 0 where there are none
 unfoldable pub greatest : {A : Type 0} → (A → ℕ) → List A → ℕ
@@ -43,8 +43,8 @@ wordsBetween word rows = map (λ x. between word rows (x / 64) (x % 64)) (number
 -- what is promised of a table of rows
 unfoldable pub picksOf : List ℕ → PickedEdges
 picksOf table = record {
-  ahead = wordsBetween forwardWord (tableRows table);
-  behind = wordsBetween backWord (tableRows table);
+  forwards = wordsBetween rowForwardWord (tableRows table);
+  backs = wordsBetween rowBackWord (tableRows table);
   edges = tableCounts table .edges;
   back = tableCounts table .back;
 }

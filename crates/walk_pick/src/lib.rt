@@ -1,85 +1,44 @@
 // One pass over a table of places: its edges counted, and for each pair of nodes the edge that stands for all.
 
 ghost use mathlib.Core.Path.{_≡_};
-ghost use mathlib.Core.Bool.{cond};
 ghost use Prim.Native.Nat.{_≤_, _<_};
-ghost use Rattle.spec_graph.specs.Edge.{loosens};
-ghost use Rattle.walk_find.specs.Coding.{aheadWord, behindWord};
 ghost use Rattle.walk_pick.specs.Picks.{picksOf};
-ghost use Rattle.walk_pick.specs.PickSteps.{keptAt, hasEntries, tallyOf, PairKept, RowAdded};
+ghost use Rattle.walk_pick.specs.PickSteps.{keptAt, hasEntries, PairKept, RowAdded};
+use edge_count::Counts;
+use edge_count::pair_counts;
+use edge_kinds::LOOSE;
+use edge_kinds::kind_facts;
 use edge_test::back_stands;
 use edge_test::forward_stands;
+use edge_word::NODES;
+use edge_word::PAIRS;
+use edge_word::PLACES;
+use edge_word::back_word;
+use edge_word::forward_word;
 use place_fetch::row_at;
 use place_fetch::row_count;
 use place_row::Row;
-use spec_text::StatementKind;
 
 // The tables for the detector, the word for nodes u and v at u * 64 + v, and how many edges and back edges there are.
 pub struct PickedEdges {
-    pub ahead: [u64; 4096],
-    pub behind: [u64; 4096],
+    pub forwards: [u64; PAIRS],
+    pub backs: [u64; PAIRS],
     pub edges: u64,
     pub back: u64,
-}
-
-// How many edges there are, and how many of them are back edges.
-struct Tally {
-    edges: u64,
-    back: u64,
-}
-
-// Whether a place of this kind is loose: an edge that leaves it makes a pair dangerous with any back edge after it (W4).
-fn is_loose(k: StatementKind) -> bool
-    ensures { λ r. ⌜ r ≡ loosens k ⌝ }
-{
-    match k {
-        StatementKind::Is => false,
-        StatementKind::Ks => true,
-        StatementKind::Ps => true,
-        StatementKind::Ku => false,
-        StatementKind::Pu => true,
-        StatementKind::Kd => false,
-        StatementKind::Pd => true,
-    }
 }
 
 // Whether the tables have room for a row's edges: its node is below 64 and its place below 1024.
 fn has_entries(p: Row) -> bool
     ensures { λ r. ⌜ r ≡ hasEntries p ⌝ }
 {
-    if p.node < 64 {
-        return p.place < 1024;
+    if p.node < NODES as u64 {
+        return p.place < PLACES;
     }
     false
 }
 
-// The word of a forward edge from place i to place j, 0 where none stands. The greater the word, the more back edges make a dangerous pair with it.
-fn ahead_word(stands: bool, loose: bool, i: u64, j: u64) -> u64
-    requires { ⌜ (i < 1024) × (j < 1024) ⌝ }
-    ensures { λ r. ⌜ r ≡ cond stands (aheadWord loose i j) 0 ⌝ }
-{
-    if stands {
-        if loose {
-            return 2097152 + j * 1024 + i;
-        }
-        return 1048576 + j * 1024 + i;
-    }
-    0
-}
-
-// The word of a back edge from place k to place l, 0 where none stands. The greater the word, the earlier the place that it leaves.
-fn behind_word(stands: bool, k: u64, l: u64) -> u64
-    requires { ⌜ (k < 1024) × (l < 1024) ⌝ }
-    ensures { λ r. ⌜ r ≡ cond stands (behindWord k l) 0 ⌝ }
-{
-    if stands {
-        return 1048576 + (1023 - k) * 1024 + l;
-    }
-    0
-}
-
 // Keeps at x the greater of the word that stands there and the word given.
-fn keep_word(words: &mut [u64; 4096], x: usize, word: u64)
+fn keep_word(words: &mut [u64; PAIRS], x: usize, word: u64)
     requires { ⌜ x < 4096 ⌝ }
     ensures { λ _. ⌜ now (words .exit) ≡ keptAt (now (words .entry)) x word ⌝ }
 {
@@ -88,38 +47,22 @@ fn keep_word(words: &mut [u64; 4096], x: usize, word: u64)
     }
 }
 
-// How many edges stand between two rows, by whether a forward and a back edge does.
-fn tally_of(forward: bool, back: bool) -> Tally
-    ensures { λ r. ⌜ r ≡ tallyOf forward back ⌝ }
-{
-    if forward {
-        if back {
-            return Tally { edges: 2, back: 1 };
-        }
-        return Tally { edges: 1, back: 0 };
-    }
-    if back {
-        return Tally { edges: 1, back: 1 };
-    }
-    Tally { edges: 0, back: 0 }
-}
-
 // Counts the edges from row p to row q, and keeps their words for the nodes of the two where the tables have room.
-fn pick_pair(p: Row, q: Row, ahead: &mut [u64; 4096], behind: &mut [u64; 4096]) -> Tally
-    ensures { λ r. ⌜ PairKept p q (now (ahead .entry)) (now (behind .entry)) (now (ahead .exit)) (now (behind .exit)) r ⌝ }
+fn pick_pair(p: Row, q: Row, forwards: &mut [u64; PAIRS], backs: &mut [u64; PAIRS]) -> Counts
+    ensures { λ r. ⌜ PairKept p q (now (forwards .entry)) (now (backs .entry)) (now (forwards .exit)) (now (backs .exit)) r ⌝ }
 {
     let f = forward_stands(p, q);
     let b = back_stands(p, q);
-    let t = tally_of(f, b);
+    let t = pair_counts(f, b);
     if has_entries(p) {
         if has_entries(q) {
-            let x = (p.node * 64 + q.node) as usize;
+            let x = (p.node * NODES as u64 + q.node) as usize;
             let k = p.kind;
-            let loose = is_loose(k);
-            let w = ahead_word(f, loose, p.place, q.place);
-            keep_word(ahead, x, w);
-            let v = behind_word(b, p.place, q.place);
-            keep_word(behind, x, v);
+            let loose = kind_facts(k) & LOOSE != 0;
+            let w = forward_word(f, loose, p.place, q.place);
+            keep_word(forwards, x, w);
+            let v = back_word(b, p.place, q.place);
+            keep_word(backs, x, v);
             return t;
         }
     }
@@ -131,24 +74,24 @@ fn pick_row(
     table: &[u64],
     n: usize,
     i: usize,
-    ahead: &mut [u64; 4096],
-    behind: &mut [u64; 4096],
-) -> Tally
+    forwards: &mut [u64; PAIRS],
+    backs: &mut [u64; PAIRS],
+) -> Counts
     requires { ⌜ n ≤ 512 ⌝ }
-    ensures { λ r. ⌜ RowAdded (now (table .entry)) n i (now (ahead .entry)) (now (behind .entry)) (now (ahead .exit)) (now (behind .exit)) r ⌝ }
+    ensures { λ r. ⌜ RowAdded (now (table .entry)) n i (now (forwards .entry)) (now (backs .entry)) (now (forwards .exit)) (now (backs .exit)) r ⌝ }
 {
     let p = row_at(table, i);
-    let mut edges: u64 = 0;
-    let mut back: u64 = 0;
+    let mut edges: usize = 0;
+    let mut back: usize = 0;
     let mut j: usize = 0;
     while j < n {
         let q = row_at(table, j);
-        let t = pick_pair(p, q, ahead, behind);
+        let t = pick_pair(p, q, forwards, backs);
         edges += t.edges;
         back += t.back;
         j += 1;
     }
-    Tally { edges, back }
+    Counts { edges, back }
 }
 
 // Counts the edges of a table, and picks for each pair of nodes below 64 the forward and the back edge that stand for all.
@@ -156,21 +99,21 @@ pub fn pick_edges(table: &[u64]) -> PickedEdges
     ensures { λ r. ⌜ r ≡ picksOf (now (table .entry)) ⌝ }
 {
     let n = row_count(table);
-    let mut ahead = [0u64; 4096];
-    let mut behind = [0u64; 4096];
-    let mut edges: u64 = 0;
-    let mut back: u64 = 0;
+    let mut forwards = [0u64; PAIRS];
+    let mut backs = [0u64; PAIRS];
+    let mut edges: usize = 0;
+    let mut back: usize = 0;
     let mut i: usize = 0;
     while i < n {
-        let t = pick_row(table, n, i, &mut ahead, &mut behind);
+        let t = pick_row(table, n, i, &mut forwards, &mut backs);
         edges += t.edges;
         back += t.back;
         i += 1;
     }
     PickedEdges {
-        ahead,
-        behind,
-        edges,
-        back,
+        forwards,
+        backs,
+        edges: edges as u64,
+        back: back as u64,
     }
 }

@@ -1,23 +1,19 @@
 -- A row has two slots for each row that it may enter, and after j of these the counts are those of the slots up to there (pair-edges, pair-back);
 -- the slots past the last row are empty (row-counted).
-use mathlib.Core.Path.{_≡_, refl, ap, ap₂, sym, _∙_}
-use Prim.Native.Nat.{ℕ, _+_, _-_, _*_, _≤_, _<_}
-use native.Mathlib.Omega.{arith}
-use native.Mathlib.Nat.{le-antisymm}
-use Rattle.place_row.specs.RowTable.{rowForward, rowBack}
-use Rattle.edge_count.specs.Slots.{one, edgesBelow, backBelow}
-use Rattle.edge_count.specs.SlotLaws.{rows-few, one-le, edges-few, back-few, edges-start, back-start, pair-edges, pair-back, row-counted}
 use borrow.Author.Needs.{needs}
 use native.Mathlib.Omega.{arith}
-use mathlib.Core.Path.{_≡_, refl, ap, sym, _∙_}
-use Prim.Native.Nat.{ℕ, _+_, _-_, _*_, _≤_, _<_}
-use lib.ListN.{length, set, getD, length-set, take, drop}
+use mathlib.Core.Path.{_≡_, _∙_}
+use Prim.Native.Nat.{_+_, _-_, _*_, _≤_}
 use Rattle.edge_count.proofs.count_row.Statement.{statement}
 use Rattle.edge_count.proofs.count_row.Tie as tie
+use mathlib.Core.Path.{ap₂}
+use native.Mathlib.Nat.{le-antisymm}
+use Rattle.place_row.specs.RowTable.{rowForward, rowBack}
+use Rattle.edge_count.specs.Slots.{pairCounts, edgesBelow, backBelow}
+use Rattle.edge_count.specs.SlotLaws.{rows-few, pair-most, edges-few, back-few, edges-start, back-start, pair-edges, pair-back, row-counted}
 
 abbrev Inv-loop : tie.InvT-loop
-Inv-loop table n i p edges₀ back₀ j₀ edges back j = (j ≤ n) × (edges ≡ edgesBelow table (i * 1024 + j * 2)) × (back ≡ backBelow table
-    (i * 1024 + j * 2))
+Inv-loop table n i p edges₀ back₀ j₀ edges back j = (j ≤ n) × (edges ≡ edgesBelow table (i * 1024 + j * 2)) × (back ≡ backBelow table (i * 1024 + j * 2))
 
 abbrev μ-loop : tie.MeasureT-loop
 μ-loop table n i p edges₀ back₀ j₀ edges back j = n - j
@@ -34,87 +30,60 @@ row-at-requires-2 c κs = search needs
 forward-stands-requires : tie.Need-forward-stands-requires Inv-loop μ-loop
 forward-stands-requires c κs = search needs
 
-one-edge-requires : tie.Need-one-edge-requires Inv-loop μ-loop
-one-edge-requires c κs = search needs
-
 back-stands-requires : tie.Need-back-stands-requires Inv-loop μ-loop
 back-stands-requires c κs = search needs
 
-one-edge-requires-2 : tie.Need-one-edge-requires-2 Inv-loop μ-loop
-one-edge-requires-2 c κs = search needs
+pair-counts-requires : tie.Need-pair-counts-requires Inv-loop μ-loop
+pair-counts-requires c κs = search needs
 
 add-edges : tie.Need-add-edges Inv-loop μ-loop
 add-edges c =
-    let few = rows-few _ _ (c .before .before .before .before .before .before .before .before .before .pre .rows) in
-    let low = c .before .before .before .before .before .before .before .before .before .pre .inside in
+    let c6 = c .before .before .before .before .before .before in
+    let start = c6 .before .before .before in
+    let few = rows-few _ _ (start .pre .rows) in
+    let low = start .pre .inside in
     let l = c .before .before .before .before .before .loop-test .taken in
-    let e = edges-few _ _ _ (c .before .before .before .before .before .before .loop .inv .1) in
-    let k = back-few _ _ _ (c .before .before .before .before .before .before .loop .inv .2) in
-    let o = one-le (c .before .before .before .forward-stands .result) in
-    let u = one-le (c .before .back-stands .result) in
-    let r = c .before .before .one-edge .ensures in
-    let s = c .one-edge2 .ensures in
-    record { fits = omega arith }
-
-add-edges-2 : tie.Need-add-edges-2 Inv-loop μ-loop
-add-edges-2 c =
-    let few = rows-few _ _ (c .before .before .before .before .before .before .before .before .before .pre .rows) in
-    let low = c .before .before .before .before .before .before .before .before .before .pre .inside in
-    let l = c .before .before .before .before .before .loop-test .taken in
-    let e = edges-few _ _ _ (c .before .before .before .before .before .before .loop .inv .1) in
-    let k = back-few _ _ _ (c .before .before .before .before .before .before .loop .inv .2) in
-    let o = one-le (c .before .before .before .forward-stands .result) in
-    let u = one-le (c .before .back-stands .result) in
-    let r = c .before .before .one-edge .ensures in
-    let s = c .one-edge2 .ensures in
-    record { fits = omega arith }
+    let e = edges-few _ _ _ (c6 .loop .inv .1) in
+    let most = pair-most _ _ (c .before .pair-counts .ensures) in
+    record { fits = omega (arith, most .0) }
 
 add-back : tie.Need-add-back Inv-loop μ-loop
 add-back c =
-    let few = rows-few _ _ (c .before .before .before .before .before .before .before .before .before .pre .rows) in
-    let low = c .before .before .before .before .before .before .before .before .before .pre .inside in
-    let l = c .before .before .before .before .before .loop-test .taken in
-    let e = edges-few _ _ _ (c .before .before .before .before .before .before .loop .inv .1) in
-    let k = back-few _ _ _ (c .before .before .before .before .before .before .loop .inv .2) in
-    let o = one-le (c .before .before .before .forward-stands .result) in
-    let u = one-le (c .before .back-stands .result) in
-    let r = c .before .before .one-edge .ensures in
-    let s = c .one-edge2 .ensures in
-    record { fits = omega arith }
+    let c7 = c .before .before .before .before .before .before .before in
+    let start = c7 .before .before .before in
+    let few = rows-few _ _ (start .pre .rows) in
+    let low = start .pre .inside in
+    let l = c .before .before .before .before .before .before .loop-test .taken in
+    let k = back-few _ _ _ (c7 .loop .inv .2) in
+    let most = pair-most _ _ (c .before .before .pair-counts .ensures) in
+    record { fits = omega (arith, most .1) }
 
 add-j : tie.Need-add-j Inv-loop μ-loop
 add-j c =
-    let few = rows-few _ _ (c .before .before .before .before .before .before .before .before .before .pre .rows) in
-    let low = c .before .before .before .before .before .before .before .before .before .pre .inside in
-    let l = c .before .before .before .before .before .loop-test .taken in
-    let e = edges-few _ _ _ (c .before .before .before .before .before .before .loop .inv .1) in
-    let k = back-few _ _ _ (c .before .before .before .before .before .before .loop .inv .2) in
-    let o = one-le (c .before .before .before .forward-stands .result) in
-    let u = one-le (c .before .back-stands .result) in
-    let r = c .before .before .one-edge .ensures in
-    let s = c .one-edge2 .ensures in
+    let few = rows-few _ _ (c .before .before .before .before .before .before .before .before .before .before .pre .rows) in
+    let l = c .before .before .before .before .before .before .loop-test .taken in
     record { fits = omega arith }
 
 loop-less : tie.Need-loop-less Inv-loop μ-loop
 loop-less c = search needs
 
 loop-again : tie.Need-loop-again Inv-loop μ-loop
-loop-again c = (
-  omega arith,
-  pair-edges _ _ _ _ (c .before .before .before .before .before .before .before .before .before .pre .rows)
-      (c .before .before .before .before .before .loop-test .taken) _ _ _ (c .before .before .before .before .before .before .loop .inv .1)
-      (c .before .before .one-edge .ensures ∙ ap one (c .before .before .before .forward-stands .ensures ∙ ap₂ rowForward
-      (c .before .before .before .before .before .before .before .row-at .ensures)
-      (c .before .before .before .before .row-at2 .ensures)))
-      (c .one-edge2 .ensures ∙ ap one (c .before .back-stands .ensures ∙ ap₂ rowBack
-      (c .before .before .before .before .before .before .before .row-at .ensures)
-      (c .before .before .before .before .row-at2 .ensures))),
-  pair-back _ _ _ _ (c .before .before .before .before .before .before .before .before .before .pre .rows)
-      (c .before .before .before .before .before .loop-test .taken) _ _ (c .before .before .before .before .before .before .loop .inv .2)
-      (c .one-edge2 .ensures ∙ ap one (c .before .back-stands .ensures ∙ ap₂ rowBack
-      (c .before .before .before .before .before .before .before .row-at .ensures)
-      (c .before .before .before .before .row-at2 .ensures))),
-)
+loop-again c =
+    let c3 = c .before .before .before in
+    let c4 = c3 .before in
+    let c5 = c4 .before in
+    let c6 = c5 .before in
+    let c7 = c6 .before in
+    let c8 = c7 .before in
+    let left = c8 .row-at .ensures in
+    let right = c5 .row-at2 .ensures in
+    let told = c .before .before .pair-counts .ensures
+    ∙ ap₂ pairCounts (c4 .forward-stands .ensures ∙ ap₂ rowForward left right) (c3 .back-stands .ensures ∙ ap₂ rowBack left right) in
+    let rows = c8 .before .before .pre .rows in (
+      omega arith,
+      pair-edges _ _ _ _ rows (c6 .loop-test .taken) _ (c7 .loop .inv .1) told,
+      pair-back _ _ _ _ rows (c6 .loop-test .taken) _ (c7 .loop .inv .2) told,
+    )
 
 returns : tie.Need-returns Inv-loop μ-loop
 returns c =
@@ -131,11 +100,9 @@ count-row-spec =
     loop-holds
     row-at-requires-2
     forward-stands-requires
-    one-edge-requires
     back-stands-requires
-    one-edge-requires-2
+    pair-counts-requires
     add-edges
-    add-edges-2
     add-back
     add-j
     loop-less

@@ -1,21 +1,10 @@
 -- A node of the layer stays (go-stays); another goes along its edge to the lowest node of the layer that it is joined to (go-along).
-use Rattle.walk_find.specs.Paths.{lowest-below}
-use lib.Bits.{bitAnd}
-use Rattle.walk_find.specs.Paths.{lowest-small, go-stays, go-along}
-use Rattle.walk_find.specs.EdgeTable.{goOn, writing, putStep, aheadStep, lowest}
-use native.Mathlib.Omega.{arith}
-use mathlib.Core.Path.{_≡_, refl, ap, sym, _∙_}
-use Prim.Native.Nat.{ℕ, _+_, _-_, _*_, _≤_, _<_}
-use lib.ListN.{length, set, getD, length-set, take, drop}
+use mathlib.Core.Path.{refl}
 use borrow.Author.Needs.{needs}
 use Rattle.walk_find.proofs.go_on.Statement.{statement}
 use Rattle.walk_find.proofs.go_on.Tie as tie
-use Rattle.walk_find.proofs.go_on.Reads as reads
-use Rattle.walk_find.proofs.go_on.Lts as lts
-use Rattle.walk_find.proofs.has_bit.Reads as has-bit-reads
-use Rattle.walk_find.proofs.lowest_in.Reads as lowest-in-reads
-use Rattle.walk_find.proofs.put_ahead.Reads as put-ahead-reads
-use Rattle.word_list.proofs.word_at.Reads as word-at-reads
+use Rattle.walk_find.specs.TableWalk.{lowest}
+use Rattle.walk_find.specs.WayLaws.{go-stays, go-along}
 
 has-bit-requires : tie.Need-has-bit-requires
 has-bit-requires c κs = search needs
@@ -23,41 +12,45 @@ has-bit-requires c κs = search needs
 returns : tie.Need-returns
 returns c = go-stays _ _ _ _ _ _ (c .before .has-bit .ensures) (c .if1 .taken)
 
-mul-lowest-in : tie.Need-mul-lowest-in
-mul-lowest-in c = search needs
+mul-x : tie.Need-mul-x
+mul-x c = search needs
 
-element-copy-out-lowest-in : tie.Need-element-copy-out-lowest-in
-element-copy-out-lowest-in c = search needs
+element-copy-out-x : tie.Need-element-copy-out-x
+element-copy-out-x c = search needs
 
-lowest-in-requires : tie.Need-lowest-in-requires
-lowest-in-requires c κs = search needs
+cast-x : tie.Need-cast-x
+cast-x c = search needs
 
 mul-word-at : tie.Need-mul-word-at
 mul-word-at c = search needs
 
 add-word-at : tie.Need-add-word-at
-add-word-at c = let h = lowest-below _ _ (c .lowest-in .ensures) in record { fits = omega arith }
+add-word-at c = search needs
 
 word-at-requires : tie.Need-word-at-requires
 word-at-requires c κs = search needs
 
-put-ahead-requires : tie.Need-put-ahead-requires
-put-ahead-requires c κs = search needs
+forward-edge-requires : tie.Need-forward-edge-requires
+forward-edge-requires c κs = search needs
 
-add-t10 : tie.Need-add-t10
-add-t10 c = search needs
+put-words-requires : tie.Need-put-words-requires
+put-words-requires c κs = search needs
+
+add-steps : tie.Need-add-steps
+add-steps c = search needs
 
 same-length : tie.Need-same-length
 same-length c = search needs
 
 returns-2 : tie.Need-returns-2
+unfolding lowest
 returns-2 c =
-    let c4 = c .before .before .before .before in
+    let c2 = c .before .before in
+    let c4 = c2 .before .before in
     let c5 = c4 .before in
     let c7 = c5 .before .before in
-    let c8 = c7 .before in
-    go-along _ _ _ _ _ _ (c8 .has-bit .ensures) (c7 .if1 .left) (c5 .lowest-in .ensures) (c4 .word-at .ensures)
-    (c .before .before .put-ahead .ensures)
+    go-along _ _ _ _ _ _ (c7 .before .has-bit .ensures) (c7 .if1 .left) refl (c5 .word-at .ensures) (c4 .forward-edge .ensures)
+    (c2 .put-words .ensures)
 
 pub go-on-spec : {M : Type 1} → statement M
 go-on-spec =
@@ -65,13 +58,14 @@ go-on-spec =
     (tie.spec
     has-bit-requires
     returns
-    mul-lowest-in
-    element-copy-out-lowest-in
-    lowest-in-requires
+    mul-x
+    element-copy-out-x
+    cast-x
     mul-word-at
     add-word-at
     word-at-requires
-    put-ahead-requires
-    add-t10
+    forward-edge-requires
+    put-words-requires
+    add-steps
     same-length
     returns-2)

@@ -1,23 +1,16 @@
 -- The steps written and those of the way still to go are together the whole way, and there is room for them (`WayTurn`, way-turn); where no depth
 -- is left none is to go (way-end).
-use Rattle.walk_find.specs.EdgeTable.{wayOn, WayTurn}
-use Rattle.walk_find.specs.Paths.{way-first, way-turn, way-end}
+use Rattle.walk_find.specs.TableWalk.{wayOn, WayTurn}
+use Rattle.walk_find.specs.WayLaws.{way-first, way-turn, way-end}
 use borrow.Author.Needs.{needs}
-use native.Mathlib.Omega.{arith}
-use mathlib.Core.Path.{_≡_, refl, ap, sym, _∙_}
-use Prim.Native.Nat.{ℕ, _+_, _-_, _*_, _≤_, _<_}
-use lib.ListN.{length, set, getD, length-set, take, drop}
 use Rattle.walk_find.proofs.put_way.Statement.{statement}
 use Rattle.walk_find.proofs.put_way.Tie as tie
-use Rattle.walk_find.proofs.put_way.Reads as reads
-use Rattle.walk_find.proofs.put_way.Lts as lts
-use Rattle.walk_find.proofs.go_on.Reads as go-on-reads
 
 abbrev Inv-loop : tie.InvT-loop
-Inv-loop ahead rows layers w out₀ node₀ steps₀ d₀ out node steps d = WayTurn ahead rows layers (wayOn ahead rows layers 63 w) out₀ out node steps d
+Inv-loop forwards rows layers w out₀ node₀ steps₀ d₀ out node steps d = WayTurn forwards rows layers (wayOn forwards rows layers 63 w) out₀ out node steps d
 
 abbrev μ-loop : tie.MeasureT-loop
-μ-loop ahead rows layers w out₀ node₀ steps₀ d₀ out node steps d = d
+μ-loop forwards rows layers w out₀ node₀ steps₀ d₀ out node steps d = d
 
 loop-holds : tie.Need-loop-holds Inv-loop μ-loop
 loop-holds c = way-first (c .before .before .pre .0)

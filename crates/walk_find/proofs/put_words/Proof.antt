@@ -1,14 +1,11 @@
 -- The four stores are those of `putWords`, and each lies within the area, since a store leaves its length.
-use Rattle.walk_find.specs.EdgeTable.{putWords}
+use Rattle.walk_find.specs.TableWalk.{putWords}
 use native.Mathlib.Omega.{arith}
-use mathlib.Core.Path.{_≡_, refl, ap, sym, _∙_}
-use Prim.Native.Nat.{ℕ, _+_, _-_, _*_, _≤_, _<_}
-use lib.ListN.{length, set, getD, length-set, take, drop}
+use mathlib.Core.Path.{refl}
+use lib.ListN.{length-set}
 use borrow.Author.Needs.{needs}
 use Rattle.walk_find.proofs.put_words.Statement.{statement}
 use Rattle.walk_find.proofs.put_words.Tie as tie
-use Rattle.walk_find.proofs.put_words.Reads as reads
-use Rattle.walk_find.proofs.put_words.Lts as lts
 
 mul-out : tie.Need-mul-out
 mul-out c = search needs

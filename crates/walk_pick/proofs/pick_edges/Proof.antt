@@ -11,10 +11,10 @@ use Rattle.walk_pick.proofs.pick_edges.Statement.{statement}
 use Rattle.walk_pick.proofs.pick_edges.Tie as tie
 
 abbrev Inv-loop : tie.InvT-loop
-Inv-loop table n ahead₀ behind₀ edges₀ back₀ i₀ ahead behind edges back i = (i ≤ n) × RowsKept table n i ahead behind edges back
+Inv-loop table n forwards₀ backs₀ edges₀ back₀ i₀ forwards backs edges back i = (i ≤ n) × RowsKept table n i forwards backs edges back
 
 abbrev μ-loop : tie.MeasureT-loop
-μ-loop table n ahead₀ behind₀ edges₀ back₀ i₀ ahead behind edges back i = n - i
+μ-loop table n forwards₀ backs₀ edges₀ back₀ i₀ forwards backs edges back i = n - i
 
 row-count-requires : tie.Need-row-count-requires Inv-loop μ-loop
 row-count-requires c κs = search needs

@@ -13,8 +13,8 @@ forward-stands-requires c κs = search needs
 back-stands-requires : tie.Need-back-stands-requires
 back-stands-requires c κs = search needs
 
-tally-of-requires : tie.Need-tally-of-requires
-tally-of-requires c κs = search needs
+pair-counts-requires : tie.Need-pair-counts-requires
+pair-counts-requires c κs = search needs
 
 has-entries-requires : tie.Need-has-entries-requires
 has-entries-requires c κs = search needs
@@ -34,15 +34,11 @@ add-x c =
     let r = entries-small _ (c .before .before .before .has-entries2 .ensures) (c .before .before .if2 .taken) in
     record { fits = omega (arith, l .0, r .0) }
 
-is-loose-requires : tie.Need-is-loose-requires
-is-loose-requires c κs = search needs
+kind-facts-requires : tie.Need-kind-facts-requires
+kind-facts-requires c κs = search needs
 
-ahead-word-requires : tie.Need-ahead-word-requires
-ahead-word-requires c κs =
-    let l = entries-small _ (c .before .before .before .before .before .before .has-entries .ensures)
-    (c .before .before .before .before .before .if1 .taken) in
-    let r = entries-small _ (c .before .before .before .before .has-entries2 .ensures) (c .before .before .before .if2 .taken) in
-    (l .1, r .1)
+forward-word-requires : tie.Need-forward-word-requires
+forward-word-requires c κs = search needs
 
 keep-word-requires : tie.Need-keep-word-requires
 keep-word-requires c κs =
@@ -52,13 +48,8 @@ keep-word-requires c κs =
     (c .before .before .before .before .before .if2 .taken) in
     omega (arith, l .0, r .0)
 
-behind-word-requires : tie.Need-behind-word-requires
-behind-word-requires c κs =
-    let l = entries-small _ (c .before .before .before .before .before .before .before .before .before .has-entries .ensures)
-    (c .before .before .before .before .before .before .before .before .if1 .taken) in
-    let r = entries-small _ (c .before .before .before .before .before .before .before .has-entries2 .ensures)
-    (c .before .before .before .before .before .before .if2 .taken) in
-    (l .1, r .1)
+back-word-requires : tie.Need-back-word-requires
+back-word-requires c κs = search needs
 
 keep-word-requires-2 : tie.Need-keep-word-requires-2
 keep-word-requires-2 c κs =
@@ -83,25 +74,25 @@ returns c =
     pair-in _ _
     (c15 .forward-stands .ensures)
     (c14 .back-stands .ensures)
-    (c13 .tally-of .ensures)
+    (c13 .pair-counts .ensures)
     (sym (c12 .has-entries .ensures)
     ∙ c11 .if1 .taken)
     (sym (c10 .has-entries2 .ensures)
     ∙ c9 .if2 .taken)
-    (c6 .is-loose .ensures)
-    (c5 .ahead-word .ensures) (c .before .before .behind-word .ensures)
+    (c6 .kind-facts .ensures)
+    (c5 .forward-word .ensures) (c .before .before .back-word .ensures)
     (c3 .keep-word .ensures) (c .keep-word2 .ensures)
 
 returns-2 : tie.Need-returns-2
 returns-2 c =
     right-out _ _ (c .before .before .before .before .before .before .forward-stands .ensures)
-    (c .before .before .before .before .before .back-stands .ensures) (c .before .before .before .before .tally-of .ensures)
+    (c .before .before .before .before .before .back-stands .ensures) (c .before .before .before .before .pair-counts .ensures)
     (sym (c .before .has-entries2 .ensures) ∙ c .if2 .left)
 
 returns-3 : tie.Need-returns-3
 returns-3 c =
     left-out _ _ (c .before .before .before .before .forward-stands .ensures)
-    (c .before .before .before .back-stands .ensures) (c .before .before .tally-of .ensures)
+    (c .before .before .before .back-stands .ensures) (c .before .before .pair-counts .ensures)
     (sym (c .before .has-entries .ensures) ∙ c .if1 .left)
 
 pub pick-pair-spec : {M : Type 1} → statement M
@@ -110,15 +101,15 @@ pick-pair-spec =
     (tie.spec
     forward-stands-requires
     back-stands-requires
-    tally-of-requires
+    pair-counts-requires
     has-entries-requires
     has-entries-requires-2
     mul-x
     add-x
-    is-loose-requires
-    ahead-word-requires
+    kind-facts-requires
+    forward-word-requires
     keep-word-requires
-    behind-word-requires
+    back-word-requires
     keep-word-requires-2
     returns
     returns-2

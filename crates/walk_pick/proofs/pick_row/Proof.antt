@@ -9,10 +9,10 @@ use Rattle.walk_pick.proofs.pick_row.Statement.{statement}
 use Rattle.walk_pick.proofs.pick_row.Tie as tie
 
 abbrev Inv-loop : tie.InvT-loop
-Inv-loop table n i ahead₀ behind₀ p edges₀ back₀ j₀ ahead behind edges back j = (j ≤ n) × RowKept table p j ahead₀ behind₀ ahead behind edges back
+Inv-loop table n i forwards₀ backs₀ p edges₀ back₀ j₀ forwards backs edges back j = (j ≤ n) × RowKept table p j forwards₀ backs₀ forwards backs edges back
 
 abbrev μ-loop : tie.MeasureT-loop
-μ-loop table n i ahead₀ behind₀ p edges₀ back₀ j₀ ahead behind edges back j = n - j
+μ-loop table n i forwards₀ backs₀ p edges₀ back₀ j₀ forwards backs edges back j = n - j
 
 row-at-requires : tie.Need-row-at-requires Inv-loop μ-loop
 row-at-requires c κs = search needs

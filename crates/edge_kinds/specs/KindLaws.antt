@@ -1,0 +1,91 @@
+-- The table of facts is the believed tables of the graph, and a kind is read back from its number.
+use mathlib.Core.Bool.{Bool, true, false, cond, not}
+use mathlib.Core.Path.{_≡_, refl, sym, ap, subst, _∙_}
+use Prim.Native.Nat.{ℕ, _<_}
+use native.Mathlib.Omega.{arith}
+use lib.Dec.{eqb}
+use borrow.Author.Tests.{eq-eqb, ne-eqb}
+use Rattle.spec_base.specs.Basic.{all, numbers, meets}
+use Rattle.spec_text.specs.declared.StatementKind.{StatementKind}
+use Rattle.spec_text.specs.declared.StatementKind.the-variants.{Is, Ks, Ps, Ku, Pu, Kd, Pd}
+use Rattle.spec_graph.specs.Edge as E
+use Rattle.law_base.specs.ListLaws.{all-numbers}
+use Rattle.edge_kinds.specs.Kinds.{testsBit, insertBit, deleteBit, selectBit, shieldBit, looseBit, kindFacts, kindNumber, kindOf}
+
+-- ---- kinds and numbers
+
+-- the number of a kind tells the kind
+pub kindOf-number : (k : StatementKind) → kindOf (kindNumber k) ≡ k
+unfolding kindOf
+kindOf-number Is = refl
+kindOf-number Ks = refl
+kindOf-number Ps = refl
+kindOf-number Ku = refl
+kindOf-number Pu = refl
+kindOf-number Kd = refl
+kindOf-number Pd = refl
+
+pub number-named : (k : StatementKind) {x : ℕ} → x ≡ kindNumber k → k ≡ kindOf x
+number-named k e = sym (ap kindOf e ∙ kindOf-number k)
+
+-- there are seven
+pub number-small : (k : StatementKind) → kindNumber k < 7
+number-small Is = omega arith
+number-small Ks = omega arith
+number-small Ps = omega arith
+number-small Ku = omega arith
+number-small Pu = omega arith
+number-small Kd = omega arith
+number-small Pd = omega arith
+
+-- ---- what is told of every kind is computed once, over the numbers of all
+
+pub every-kind : (test : StatementKind → Bool) → all (λ n. test (kindOf n)) (numbers 7) ≡ true → (k : StatementKind) → test k ≡ true
+every-kind test h k =
+    subst (λ (k : StatementKind). test k ≡ true) (kindOf-number k) (all-numbers (λ n. test (kindOf n)) 7 h (kindNumber k) (number-small k))
+
+-- two tests say the same
+abbrev both : Bool → Bool → Bool
+both a b = cond a b (not b)
+
+both-same : (a b : Bool) → both a b ≡ true → a ≡ b
+both-same true true h = refl
+both-same true false h = sym h
+both-same false true h = h
+both-same false false h = refl
+
+-- the facts of a kind have this bit where the test passes
+abbrev Bit : ℕ → (StatementKind → Bool) → StatementKind → Type 0
+Bit bit test k = meets (kindFacts k) bit ≡ test k
+
+bit-of : (bit : ℕ) (test : StatementKind → Bool) → all (λ n. both (meets (kindFacts (kindOf n)) bit) (test (kindOf n))) (numbers 7) ≡ true
+    → (k : StatementKind) → Bit bit test k
+bit-of bit test h k = both-same _ (test k) (every-kind (λ k. both (meets (kindFacts k) bit) (test k)) h k)
+
+-- what the facts of a kind say: each bit is the table that the graph's definitions ask
+pub record Told (k : StatementKind) : Type 0 where
+  pub tests : Bit testsBit E.hasTests k
+  pub inserts : Bit insertBit E.inserts k
+  pub deletes : Bit deleteBit E.deletes k
+  pub selects : Bit selectBit E.selects k
+  pub shields : Bit shieldBit E.shields k
+  pub loosens : Bit looseBit E.loosens k
+
+pub told : (k : StatementKind) → Told k
+unfolding kindOf
+told k = record {
+  tests = bit-of testsBit E.hasTests refl k;
+  inserts = bit-of insertBit E.inserts refl k;
+  deletes = bit-of deleteBit E.deletes refl k;
+  selects = bit-of selectBit E.selects refl k;
+  shields = bit-of shieldBit E.shields refl k;
+  loosens = bit-of looseBit E.loosens refl k;
+}
+
+-- ---- code that has tested a bit by `facts & BIT == 0` knows what the bit tells
+
+pub bit-clear : {x : ℕ} {tells : Bool} → x ≡ 0 → not (eqb x 0) ≡ tells → tells ≡ false
+bit-clear {x} h e = sym e ∙ ap not (eq-eqb x 0 h)
+
+pub bit-set : {x : ℕ} {tells : Bool} → (x ≡ 0 → ⊥) → not (eqb x 0) ≡ tells → tells ≡ true
+bit-set {x} h e = sym e ∙ ap not (ne-eqb x 0 h)

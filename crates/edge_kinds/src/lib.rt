@@ -1,0 +1,65 @@
+// What rules E and W ask of a kind of statement, as one table, and a kind as a number in a row. Code over places and edges asks a kind nothing
+// else, so that a new kind of statement is a line here.
+
+use spec_text::StatementKind;
+ghost use mathlib.Core.Path.{_≡_};
+ghost use Rattle.edge_kinds.specs.Kinds.{kindFacts, kindNumber, kindOf};
+
+// The facts of a kind, a bit each. It has tests; it inserts, deletes, selects;
+pub const TESTS: u64 = 1;
+
+pub const INSERT: u64 = 2;
+
+pub const DELETE: u64 = 4;
+
+pub const SELECT: u64 = 8;
+
+// as a parent it shields (E3); a pair is dangerous where the first edge leaves it (W4).
+pub const SHIELD: u64 = 16;
+
+pub const LOOSE: u64 = 32;
+
+// The facts of a kind.
+pub fn kind_facts(k: StatementKind) -> u64
+    ensures { λ r. ⌜ r ≡ kindFacts k ⌝ }
+{
+    match k {
+        StatementKind::Is => INSERT + SHIELD,
+        StatementKind::Ks => SELECT + LOOSE,
+        StatementKind::Ps => TESTS + SELECT + LOOSE,
+        StatementKind::Ku => SHIELD,
+        StatementKind::Pu => TESTS + LOOSE,
+        StatementKind::Kd => DELETE + SHIELD,
+        StatementKind::Pd => TESTS + DELETE + LOOSE,
+    }
+}
+
+// The number of a kind in a row, 0 to 6.
+pub fn kind_number(k: StatementKind) -> u64
+    ensures { λ r. ⌜ r ≡ kindNumber k ⌝ }
+{
+    match k {
+        StatementKind::Is => 0,
+        StatementKind::Ks => 1,
+        StatementKind::Ps => 2,
+        StatementKind::Ku => 3,
+        StatementKind::Pu => 4,
+        StatementKind::Kd => 5,
+        StatementKind::Pd => 6,
+    }
+}
+
+// The kind that a number in a row names; numbers past the last name the last.
+pub fn kind_of(x: u64) -> StatementKind
+    ensures { λ r. ⌜ r ≡ kindOf x ⌝ }
+{
+    match x {
+        0 => StatementKind::Is,
+        1 => StatementKind::Ks,
+        2 => StatementKind::Ps,
+        3 => StatementKind::Ku,
+        4 => StatementKind::Pu,
+        5 => StatementKind::Kd,
+        _ => StatementKind::Pd,
+    }
+}

@@ -1,0 +1,56 @@
+-- After u turns the first u words are the rows of their nodes (list-turn); after 64 all are.
+use Rattle.walk_reach.specs.NodeWordLaws.{list-turn, last-turn}
+use Rattle.walk_reach.specs.Layers.{joinedRow, listBelow, joinedRows}
+use borrow.Author.Needs.{needs}
+use native.Mathlib.Omega.{arith}
+use mathlib.Core.Path.{_≡_, refl}
+use Prim.Native.Nat.{_-_, _≤_}
+use Rattle.walk_reach.proofs.joined_rows.Statement.{statement}
+use Rattle.walk_reach.proofs.joined_rows.Tie as tie
+
+abbrev Inv-loop : tie.InvT-loop
+Inv-loop forwards rows₀ u₀ rows u = (u ≤ 64) × (rows ≡ listBelow (joinedRow forwards) u)
+
+abbrev μ-loop : tie.MeasureT-loop
+μ-loop forwards rows₀ u₀ rows u = 64 - u
+
+loop-holds : tie.Need-loop-holds Inv-loop μ-loop
+unfolding listBelow
+loop-holds c = (omega arith, refl)
+
+joined-row-requires : tie.Need-joined-row-requires Inv-loop μ-loop
+joined-row-requires c κs = search needs
+
+mul-rows : tie.Need-mul-rows Inv-loop μ-loop
+mul-rows c = search needs
+
+array-write-rows : tie.Need-array-write-rows Inv-loop μ-loop
+array-write-rows c = search needs
+
+add-u : tie.Need-add-u Inv-loop μ-loop
+add-u c = search needs
+
+loop-less : tie.Need-loop-less Inv-loop μ-loop
+loop-less c = search needs
+
+loop-again : tie.Need-loop-again Inv-loop μ-loop
+loop-again c = (omega arith, list-turn _ _ (c .before .before .loop .inv .1) (c .joined-row .ensures) refl)
+
+returns : tie.Need-returns Inv-loop μ-loop
+unfolding joinedRows
+returns c = last-turn (listBelow (joinedRow _)) 64 _ (c .before .loop .inv .1) (c .before .loop .inv .0) (c .loop-test .left)
+
+pub joined-rows-spec : {M : Type 1} → statement M
+joined-rows-spec =
+    tie.close
+    (tie.spec
+    Inv-loop
+    μ-loop
+    loop-holds
+    joined-row-requires
+    mul-rows
+    array-write-rows
+    add-u
+    loop-less
+    loop-again
+    returns)

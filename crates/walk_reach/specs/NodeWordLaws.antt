@@ -1,0 +1,103 @@
+-- Words and lists that are filled one by one.
+use mathlib.Core.Path.{_≡_, refl, sym, ap, ap₂, _∙_}
+use mathlib.Core.Bool.{Bool, true, false, _||_}
+use mathlib.Core.List.{List}
+use mathlib.Core.Logic.{_⊎_, inl, inr}
+use Prim.Native.Nat.{ℕ, zero, suc, _+_, _*_, _%_, _^_, _≤_, _<_}
+use native.Mathlib.Nat.{one-mul, mod-eq-of-lt, not-suc-le-zero}
+use native.Mathlib.Numerals.{add-one}
+use native.Mathlib.Omega.{arith}
+use lib.Dec.{eqb}
+use lib.ListN.{length, getD, set, length-set, length-replicate}
+use lib.Pow.{pow-lt}
+use lib.Seq.{getD-set-same, getD-set-other}
+use borrow.Author.Tests.{eqb-true, eqb-false, eq-eqb, ne-eqb}
+use Rattle.spec_base.specs.Basic.{has}
+use Rattle.law_base.specs.BoolLaws.{decide}
+use Rattle.law_base.specs.SetLaws.{has-empty, has-bitOr, has-bit}
+use Rattle.walk_reach.specs.Layers.{withNode, wordBelow, listBelow}
+
+-- ---- turn by turn
+
+-- one bit, shifted
+pub bit-shifted : (k : ℕ) → k < 64 → 1 * 2 ^ k % 18446744073709551616 ≡ 2 ^ k
+bit-shifted k h = rw one-mul (mod-eq-of-lt (pow-lt h))
+
+-- a turn of a loop that fills a word
+pub word-turn : (test : ℕ → Bool) (k : ℕ) {word more : ℕ} {b : Bool} → word ≡ wordBelow test k → b ≡ test k → more ≡ withNode word b k
+    → more ≡ wordBelow test (k + 1)
+unfolding wordBelow
+word-turn test k p q r = rw add-one (r ∙ ap₂ (λ (w : ℕ) (b : Bool). withNode w b k) p q)
+
+-- a turn of a loop that fills a list
+pub list-turn : (f : ℕ → ℕ) (k : ℕ) {list more : List ℕ} {x : ℕ} → list ≡ listBelow f k → x ≡ f k → more ≡ set list k x
+    → more ≡ listBelow f (k + 1)
+unfolding listBelow
+list-turn f k p q r = rw add-one (r ∙ ap₂ (λ (l : List ℕ) (x : ℕ). set l k x) p q)
+
+-- the end of a loop over the numbers below n
+pub last-turn : {A : Type 0} (f : ℕ → A) (n k : ℕ) {x : A} → x ≡ f k → k ≤ n → n ≤ k → x ≡ f n
+last-turn f n k e h l = let same : k ≡ n = omega arith in e ∙ ap f same
+
+-- ---- what they hold
+
+or-none : (b : Bool) → b || false ≡ b
+or-none true = refl
+or-none false = refl
+
+with-same : (word : ℕ) (b : Bool) (j : ℕ) → has (withNode word b j) j ≡ has word j || b
+unfolding withNode
+with-same word true j = has-bitOr word (2 ^ j) j ∙ ap (λ (c : Bool). has word j || c) (has-bit j j ∙ eq-eqb j j refl)
+with-same word false j = sym (or-none (has word j))
+
+with-other : (word : ℕ) (b : Bool) (j k : ℕ) → (k ≡ j → ⊥) → has (withNode word b j) k ≡ has word k
+unfolding withNode
+with-other word true j k h =
+    has-bitOr word (2 ^ j) k ∙ ap (λ (c : Bool). has word k || c) (has-bit j k ∙ ne-eqb k j h) ∙ or-none (has word k)
+with-other word false j k h = refl
+
+module _ (test : ℕ → Bool) where
+  -- a word filled so has no number from n on
+  pub word-out : (n k : ℕ) → n ≤ k → has (wordBelow test n) k ≡ false
+  unfolding wordBelow
+  word-out zero k h = has-empty k
+  word-out (suc n) k h = with-other (wordBelow test n) (test n) n k (λ e. let z : ⊥ = omega arith in z) ∙ word-out n k (omega arith)
+
+  -- and of the numbers below n those that pass the test
+  pub word-in : (n k : ℕ) → k < n → has (wordBelow test n) k ≡ test k
+  unfolding wordBelow
+  word-in zero k h = absurd (not-suc-le-zero h)
+  word-in (suc n) k h = go (word-in n k) (decide (eqb k n))
+    where
+      go : (k < n → has (wordBelow test n) k ≡ test k) → (eqb k n ≡ true) ⊎ (eqb k n ≡ false) → has (withNode (wordBelow test n) (test n) n) k ≡ test k
+      go rest (inl e) =
+          let same : n ≡ k = sym (eqb-true k n e) in
+          ap (λ (i : ℕ). has (withNode (wordBelow test n) (test n) n) i) (sym same) ∙ with-same (wordBelow test n) (test n) n
+          ∙ ap (λ (c : Bool). c || test n) (word-out n n (omega arith)) ∙ ap test same
+      go rest (inr e) =
+          let apart = eqb-false k n e in with-other (wordBelow test n) (test n) n k apart ∙ rest (omega arith)
+
+  -- none where none passes
+  pub word-none : ((k : ℕ) → test k ≡ false) → (n : ℕ) → wordBelow test n ≡ 0
+  unfolding wordBelow withNode
+  word-none none zero = refl
+  word-none none (suc n) = rw (none n) (word-none none n)
+
+list-length : (f : ℕ → ℕ) (n : ℕ) → length (listBelow f n) ≡ 64
+unfolding listBelow
+list-length f zero = length-replicate {A = ℕ} 64 0
+list-length f (suc n) = length-set (listBelow f n) n (f n) ∙ list-length f n
+
+-- a list filled so holds what was given
+pub list-at : (f : ℕ → ℕ) (n i : ℕ) → n ≤ 64 → i < n → getD (listBelow f n) i 0 ≡ f i
+unfolding listBelow
+list-at f zero i h l = absurd (not-suc-le-zero l)
+list-at f (suc n) i h l = go (λ k. list-at f n i (omega arith) k) (decide (eqb i n))
+  where
+    go : (i < n → getD (listBelow f n) i 0 ≡ f i) → (eqb i n ≡ true) ⊎ (eqb i n ≡ false) → getD (set (listBelow f n) n (f n)) i 0 ≡ f i
+    go rest (inl e) =
+        let same : n ≡ i = sym (eqb-true i n e) in
+        let long = list-length f n in
+        ap (λ (k : ℕ). getD (set (listBelow f n) n (f n)) k 0) (sym same) ∙ getD-set-same (listBelow f n) n (f n) 0 (omega arith) ∙ ap f same
+    go rest (inr e) =
+        let apart = eqb-false i n e in getD-set-other (listBelow f n) n i (f n) 0 apart ∙ rest (omega arith)
