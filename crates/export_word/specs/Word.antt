@@ -1,7 +1,5 @@
 -- The one word that answers an export. Bit 31 tells a refusal; then its number and its line follow. Believed.
-use mathlib.Core.Path.{_≡_}
-use Prim.Native.Nat.{ℕ, _+_, _*_, _/_, _%_, _<_}
-use native.Mathlib.Omega.{arith}
+use Prim.Native.Nat.{ℕ, _+_, _*_, _%_}
 use Rattle.spec_text.specs.declared.Line.{Line}
 use Rattle.verdict_told.specs.Told.{Told}
 
@@ -25,8 +23,3 @@ unfoldable pub verdictWord : Told → ℕ
 verdictWord (Told.refused number) = refusalWord number 0
 verdictWord (Told.robust c) = c .edges % 1048576
 verdictWord (Told.danger c steps) = 1073741824 + c .edges % 1048576
-
--- a refusal's word gives back its number and its line
-pub word-back : (number line : ℕ) → number < 32768 → line < 65536
-    → (refusalWord number line / 65536 % 32768 ≡ number) × (refusalWord number line % 65536 ≡ line)
-word-back number line h k = (omega arith, omega arith)
