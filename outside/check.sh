@@ -2,7 +2,7 @@
 # check.sh PROGRAM [UNFOLDINGS EDGES]: runs a verdict program over all examples and over the vectors of verdict and reader; and
 # programs that print listings, as `outside unfoldings` and `outside edges` do, over the other vectors. All folders are run.
 # The vectors of reader, unfoldings and edges live in crates/inspect, where the gate runs them; here they are spread into folders.
-# The copies that the gate runs of the examples and of the vectors of verdict must agree with them, and so must what is expected of crates/areas.
+# The copies that the gate runs must agree with their homes (data.sh).
 here="$(CDPATH= cd -- "$(dirname -- "$0")" && pwd)"
 root="$(CDPATH= cd -- "$here/.." && pwd)"
 check="$here/target/check"
@@ -16,13 +16,5 @@ failed=0
 "$check" reader "$program" "$vectors/reader" || failed=1
 [ -z "$2" ] || "$check" same "$2" "$vectors/unfoldings" || failed=1
 [ -z "$3" ] || "$check" same "$3" "$vectors/edges" || failed=1
-"$here/gather-vectors.sh" "$vectors" "$here/target/inspect" || failed=1
-"$here/gather-areas.sh" "$here/target/areas" || failed=1
-for file in inspect/args inspect/stdout inspect/data areas/args areas/stdout areas/data; do
-    diff -r "$here/target/$file" "$root/crates/$file" > "$here/target/differs" || {
-        echo "crates/$file is not what the scripts gather:"
-        head -5 "$here/target/differs"
-        failed=1
-    }
-done
+"$here/data.sh" --check || failed=1
 exit $failed

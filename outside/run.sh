@@ -1,8 +1,8 @@
 #!/bin/sh
-# run.sh PROGRAM [SEED [INSPECT]]: everything but the timings, some two minutes (with RATTLE_LIB also the exports, by `records`): builds, checks this implementation against itself, then
-# the program on all examples and vectors and on 20,000 generated texts, every edge record and every unfolding of 2,000 of them by the
-# program inspect (beside PROGRAM unless named), then brute force against demand 3; texts that arrive in pieces and inputs and outputs that fail;
-# and the script judge, with a stand-in for rt.
+# run.sh PROGRAM [SEED [INSPECT]]: everything but the timings, some two minutes (with RATTLE_LIB also the exports, by `records`): builds, checks this
+# implementation against itself, then the program on all examples and vectors and on 20,000 generated texts, every edge record and every unfolding
+# of 2,000 of them by the program inspect (beside PROGRAM unless named), then brute force against demand 3; texts that arrive in pieces and inputs
+# and outputs that fail; and the script judge, with a stand-in for rt.
 here="$(CDPATH= cd -- "$(dirname -- "$0")" && pwd)"
 program="${1:?usage: run.sh PROGRAM [SEED [INSPECT]]}"
 seed="${2:-1}"
@@ -20,7 +20,7 @@ failed=0
 texts="$here/../examples"
 data="$here/../crates/inspect/data"
 "$here/target/pieces" "$program" "$texts/contact.txt" "$texts/contact-robust.txt" "$texts/tpcc.txt" "$texts/station-empty.txt" \
-    "$here/../crates/verdict_danger/stdin" "$here/../crates/verdict_refused/stdin" \
+    "$texts/station-predicate-twice.txt" "$texts/station-17-programs.txt" \
     "$data/read-bytes-32768.txt" "$data/read-bytes-32769.txt" "$data/read-bytes-70000.txt" || failed=1
 "$here/judge-test.sh" || failed=1
 [ -z "${RATTLE_LIB:-}" ] || "$here/target/records" "$seed" 300 || failed=1

@@ -1,4 +1,4 @@
-//! What lent areas hold afterwards (document 01, "Refused because of the state", "Unfoldings", "Edges"), as the program `areas` prints it:
+//! What lent areas hold afterwards (document 01, "Refused because of the state", "Unfoldings", "Edges"), as `inspect --areas` prints it:
 //! edges counted, by number and put into eight records; unfoldings and verdict with and without room; of a text's value and of
 //! values that no text gives.
 
@@ -50,15 +50,15 @@ fn accepted(value: &Value) -> Result<Accepted, u8> {
 fn put_record(out: &mut String, edge: &Edge) {
     let Edge { node, leaves, into, enters, sharing, lowest, .. } = edge;
     let (flow, letter) = (edge.flow as char, edge.letter as char);
-    let _ = writeln!(out, " {node} {leaves} {into} {enters} {flow} {letter} {sharing} {lowest}");
+    let _ = writeln!(out, "{node} {leaves} {into} {enters} {flow} {letter} {sharing} {lowest}");
 }
 
 fn show_number(out: &mut String, value: &Result<Accepted, u8>, k: usize) {
     let refusal = value.as_ref().err().copied().unwrap_or(0);
-    let _ = write!(out, "edge {k} {refusal}");
+    let _ = write!(out, "edge {k} {refusal} ");
     match value.as_ref().ok().and_then(|accepted| accepted.edges.get(k)) {
         Some(edge) => put_record(out, edge),
-        None => out.push_str(" none\n"),
+        None => out.push_str("none\n"),
     }
 }
 
@@ -106,7 +106,7 @@ fn show_unfoldings(out: &mut String, value: &Result<Accepted, u8>, room: usize) 
     let _ = writeln!(out, "unfold {room} {refusal} {nodes} : {}", cells.join(" "));
 }
 
-/// The last number says whether a cell behind the walk has changed: never.
+/// The last number says whether a cell after the walk has changed: never.
 fn show_verdict(out: &mut String, value: &Result<Accepted, u8>, room: usize) {
     let _ = match value {
         Err(refusal) => writeln!(out, "verdict {room} {refusal} 0 0 0 0"),
@@ -135,7 +135,7 @@ fn show_value(out: &mut String, value: &Value) {
 pub fn areas(text: &[u8]) -> String {
     let workload = match read(text) {
         Ok(workload) => workload,
-        Err(refusal) => return format!("refused {} {}\n", refusal.number, refusal.line),
+        Err(refusal) => return format!("refused line\n{} {}\n", refusal.number, refusal.line),
     };
     let plain = || Value { count: workload.count, lines: workload.lines };
     let relation = |writes| Line { kind: RL, reads: 3, writes, ..EMPTY_LINE };
@@ -146,7 +146,7 @@ pub fn areas(text: &[u8]) -> String {
     value.lines[value.count].kind = LO;
     value.count += 1;
     show_value(&mut out, &value);
-    out.push_str("a relation in the cell behind the last line\n");
+    out.push_str("a relation in the cell after the last line\n");
     value = plain();
     value.lines[value.count] = relation(0);
     show_value(&mut out, &value);

@@ -1,4 +1,4 @@
-//! Damaged texts from a seed: lines changed, dropped, doubled or swapped, so that the faults behind the form are met too; and bytes
+//! Damaged texts from a seed: lines changed, dropped, doubled or swapped, so that the faults after the form are met too; and bytes
 //! changed, with every sort of wrong field, missing 0A, forbidden bytes and too many bytes.
 
 use crate::generator::{valid, Size};
@@ -7,7 +7,7 @@ use crate::random::Random;
 use crate::reader::NAMES_LINE;
 use crate::workload::*;
 
-// ---- damage to lines, so that the faults behind the form are met too
+// ---- damage to lines, so that the faults after the form are met too
 
 pub fn damaged_lines(random: &mut Random, size: Size) -> Vec<u8> {
     let mut lines = valid(random, size);
@@ -68,7 +68,7 @@ fn change_set(random: &mut Random, lines: &mut [Line]) {
     }
 }
 
-/// A link drawn without looking at its rules, behind a program that has statements.
+/// A link drawn without looking at its rules, after a program that has statements.
 fn change_link(random: &mut Random, lines: &mut Vec<Line>) {
     let keys = lines.iter().filter(|line| line.kind == FK).count();
     let ends: Vec<usize> = (1..=lines.len())
@@ -115,7 +115,7 @@ pub fn damaged_bytes(random: &mut Random, size: Size) -> Vec<u8> {
             if random.chance(1, 8) {
                 text.clear();
             } else {
-                // A forbidden byte behind a fault of another line: the whole-text tests come first.
+                // A forbidden byte after a fault of another line: the whole-text tests come first.
                 change_field(random, &mut text);
                 let at = random.below(text.len());
                 text[at] = *random.pick(b"AZ_\t\r\x00\xff,{");
@@ -138,7 +138,7 @@ fn pad(random: &mut Random, text: &mut Vec<u8>) {
     }
 }
 
-/// One field of one line behind the names becomes another token, right or wrong.
+/// One field of one line after the names becomes another token, right or wrong.
 fn change_field(random: &mut Random, text: &mut Vec<u8>) {
     let starts: Vec<usize> = (NAMES_LINE.len()..text.len()).filter(|&at| matches!(text[at - 1], b' ' | b'\n')).collect();
     if starts.is_empty() {

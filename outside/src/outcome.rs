@@ -60,7 +60,7 @@ pub fn check_report(text: &[u8], ran: &Ran) -> Result<String, String> {
         return Ok("danger".to_string());
     }
     if !rest.is_empty() {
-        return Err(format!("extra bytes behind the report: {rest:?}"));
+        return Err(format!("extra bytes after the report: {rest:?}"));
     }
     Ok(if word == "robust" { "robust".to_string() } else { format!("refused {word}") })
 }

@@ -212,7 +212,7 @@ fn kind_of(letters: &[u8]) -> Option<u8> {
     })
 }
 
-/// A space and a `-`, or a space and digits in a base, of at most so many; and the place behind. What follows is tested by the next field.
+/// A space and a `-`, or a space and digits in a base, of at most so many; and the place after. What follows is tested by the next field.
 /// The text ends with 0A and no field passes one, so `at` always lies within the text.
 fn digits_field<const BASE: u64>(text: &[u8], at: usize, present: bool, most: usize) -> Option<(u64, usize)> {
     if text[at] != b' ' {

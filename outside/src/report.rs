@@ -59,7 +59,7 @@ pub fn unfolded(text: &[u8]) -> Result<Unfolded, Refusal> {
     Ok(Unfolded { workload, unfoldings, spots })
 }
 
-/// `node program start length statements`: one line for each unfolding, its statements' ids behind it.
+/// `node program start length statements`: one line for each unfolding, its statements' ids after it.
 pub fn list_unfoldings(text: &[u8]) -> String {
     let unfolded = match unfolded(text) {
         Ok(unfolded) => unfolded,

@@ -116,9 +116,9 @@ fn add_chain_node(lines: &mut Vec<Line>, node: usize, nodes: usize, next: &mut u
         lines.push(statement(kind, *next, rel, reads, writes, 0));
         *next += 1;
     };
-    let behind = if node > 0 { 1 << node } else { 0 };
+    let back = if node > 0 { 1 << node } else { 0 };
     let ahead = if node + 1 < nodes { 1 << (node + 1) } else { 0 };
-    add(KU, 0, 0, behind | ahead);
+    add(KU, 0, 0, back | ahead);
     if node == 0 {
         add(KD, 1, 0, 1);
     }

@@ -1,4 +1,4 @@
-//! Unfoldings, the nodes of the graph (document 01, "Unfoldings"): counted first, then written one behind the other.
+//! Unfoldings, the nodes of the graph (document 01, "Unfoldings"): counted first, then written one after the other.
 //!
 //! How many unfoldings a run has from a line on is kept for each line; number k of a run is then found by
 //! division, leftmost choice first, so that nothing is listed twice and nothing is allocated.
@@ -24,7 +24,7 @@ pub struct Node {
     pub length: u16,
 }
 
-/// All unfoldings: nodes in order, their places one behind the other.
+/// All unfoldings: nodes in order, their places one after the other.
 pub struct Unfoldings {
     pub nodes: usize,
     pub node: [Node; MAX_NODES],
@@ -72,7 +72,7 @@ fn either(a: Count, b: Count) -> Count {
     capped(a.unfoldings + b.unfoldings, a.statements + b.statements)
 }
 
-fn one_behind_the_other(a: Count, b: Count) -> Count {
+fn one_after_the_other(a: Count, b: Count) -> Count {
     capped(a.unfoldings * b.unfoldings, a.statements * b.unfoldings + b.statements * a.unfoldings)
 }
 
@@ -109,7 +109,7 @@ fn measure(lines: &[Line], shape: &mut Shape) -> Count {
     let mut open = [0usize; 2 * MAX_DEPTH];
     let mut depth = 0;
     for at in (0..lines.len()).rev() {
-        let behind = shape.rest[at + 1];
+        let after = shape.rest[at + 1];
         shape.rest[at] = match lines[at].kind {
             EN | EL => {
                 open[depth] = at;
@@ -120,21 +120,21 @@ fn measure(lines: &[Line], shape: &mut Shape) -> Count {
                 depth -= 1;
                 let end = open[depth];
                 shape.partner[at] = end as u16;
-                let twice = one_behind_the_other(behind, behind);
-                one_behind_the_other(either(ONE, either(behind, twice)), shape.rest[end + 1])
+                let twice = one_after_the_other(after, after);
+                one_after_the_other(either(ONE, either(after, twice)), shape.rest[end + 1])
             }
             BR => {
                 depth -= 2;
                 let (end, middle) = (open[depth], open[depth + 1]);
                 shape.partner[at] = middle as u16;
                 shape.partner[middle] = end as u16;
-                one_behind_the_other(either(behind, shape.rest[middle + 1]), shape.rest[end + 1])
+                one_after_the_other(either(after, shape.rest[middle + 1]), shape.rest[end + 1])
             }
             PR => {
-                total = either(total, behind);
+                total = either(total, after);
                 ONE
             }
-            kind if is_statement(kind) => one_behind_the_other(Count { unfoldings: 1, statements: 1 }, behind),
+            kind if is_statement(kind) => one_after_the_other(Count { unfoldings: 1, statements: 1 }, after),
             _ => ONE,
         };
     }
@@ -159,13 +159,13 @@ fn write_run(lines: &[Line], shape: &Shape, at: usize, k: u64, turns: u8, loops:
             at += 1;
         } else if kind == LO || kind == BR {
             let end = end_of(shape, kind, at);
-            let behind = shape.rest[end + 1].unfoldings;
+            let after = shape.rest[end + 1].unfoldings;
             if kind == LO {
-                write_loop(lines, shape, at + 1, k / behind, turns, loops, out);
+                write_loop(lines, shape, at + 1, k / after, turns, loops, out);
             } else {
-                write_branch(lines, shape, at, k / behind, turns, loops, out);
+                write_branch(lines, shape, at, k / after, turns, loops, out);
             }
-            k %= behind;
+            k %= after;
             at = end + 1;
         } else {
             return;

@@ -1,5 +1,4 @@
 pub mod Stages
 pub mod StageLaws
-pub mod RefusalLaws
 pub mod TextEdges
 pub mod TextEdgesLaws

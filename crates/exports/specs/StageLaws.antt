@@ -2,13 +2,13 @@
 use mathlib.Core.Bool.{cond}
 use mathlib.Core.List.{List}
 use mathlib.Core.Path.{_≡_, refl, sym, ap, subst, _∙_}
-use Prim.Native.Nat.{ℕ, _+_, _*_, _%_}
+use Prim.Native.Nat.{ℕ}
 use lib.Dec.{eqb}
 use borrow.Author.Tests.{eq-eqb, ne-eqb}
 use Rattle.text_read.specs.declared.Parsed.{Parsed}
 use Rattle.unfold.specs.declared.Unfolded.{Unfolded}
-use Rattle.exports.specs.Stages.{refusalWord, lineSum, middleLine, readWord, placesTold, unfoldWord, verdictWord}
-use Rattle.exports.specs.Stages.{Unfolds, Judges, UnfoldStage, VerdictStage}
+use Rattle.export_word.specs.Word.{refusalWord, valueWord}
+use Rattle.exports.specs.Stages.{middleLine, readWord, nodesTold, unfoldWord, Unfolds, Judges, UnfoldStage, VerdictStage}
 
 -- ---- the numbers
 
@@ -23,9 +23,9 @@ pub nodes-refused : {r : ℕ} (u : Unfolded) → (u .refusal ≡ 0 → ⊥) → 
 unfolding unfoldWord
 nodes-refused u other e = e ∙ told-refused _ _ _ other
 
-pub nodes-taken : {places : ℕ} (u : Unfolded) → u .refusal ≡ 0 → places ≡ placesTold u → u .count % 256 * 65536 + places ≡ unfoldWord u
+pub nodes-taken : {r : ℕ} (u : Unfolded) → u .refusal ≡ 0 → r ≡ nodesTold u → r ≡ unfoldWord u
 unfolding unfoldWord
-nodes-taken u taken e = ap (λ (n : ℕ). u .count % 256 * 65536 + n) e ∙ told-taken _ _ _ taken
+nodes-taken u taken e = e ∙ told-taken _ _ _ taken
 
 -- ---- from a text on
 
@@ -34,7 +34,7 @@ module _ {p q : Parsed} {r : ℕ} (same : p ≡ q) where
   unfolding readWord
   read-refused other e = subst (λ (x : Parsed). r ≡ readWord x) same (e ∙ told-refused _ _ _ other)
 
-  pub read-taken : p .number ≡ 0 → r ≡ lineSum (middleLine (p .work)) * 65536 + p .work .count % 65536 → r ≡ readWord q
+  pub read-taken : p .number ≡ 0 → r ≡ valueWord (middleLine (p .work)) (p .work .count) → r ≡ readWord q
   unfolding readWord
   read-taken taken e = subst (λ (x : Parsed). r ≡ readWord x) same (e ∙ told-taken _ _ _ taken)
 

@@ -1,4 +1,4 @@
--- What the exports answer, as one number each. Bit 31 tells a refusal; then its number and its line follow. Believed.
+-- What the exports that are timed answer and leave in the area. Believed, with the words of export_word.
 use mathlib.Core.Bool.{cond}
 use mathlib.Core.List.{List}
 use mathlib.Core.Path.{_≡_}
@@ -15,40 +15,30 @@ use Rattle.unfold.specs.declared.Unfolded.{Unfolded}
 use Rattle.unfold.specs.UnfoldSettled.{Settled}
 use Rattle.verdict_told.specs.Told.{Told}
 use Rattle.verdict_of.specs.Verdict.{Judged}
+use Rattle.export_word.specs.Word.{refusalWord, valueWord, nodesWord, verdictWord}
 
 -- what a text gives: its workload value, or a refusal's number and line
 abbrev pub given : List ℕ → Parsed
 given text = parsedAs (read text)
 
-abbrev pub refusalWord : ℕ → ℕ → ℕ
-refusalWord number line = 2147483648 + number * 65536 + line % 65536
-
--- a line's values in one number, so that a caller depends on all of them
-abbrev pub lineSum : Line → ℕ
-lineSum l = (l .id + l .rel + l .to + l .reads % 4096 + l .writes % 4096 + l .tests % 4096) % 16384
-
 -- the line in the middle: there always is one among the 1616 cells, so nothing stands for none
 abbrev pub middleLine : Workload → Line
 middleLine w = getD (w .lines) (w .count / 2 % 1616) (record { kind = Rl; id = 0; rel = 0; to = 0; reads = 0; writes = 0; tests = 0 })
 
--- the number of lines, and the values of the line in the middle
+-- the values of the line in the middle, and the number of lines
 unfoldable pub readWord : Parsed → ℕ
-readWord p =
-    cond (eqb (p .number) 0) (lineSum (middleLine (p .work)) * 65536 + p .work .count % 65536) (refusalWord (p .number) (p .line))
+readWord p = cond (eqb (p .number) 0) (valueWord (middleLine (p .work)) (p .work .count)) (refusalWord (p .number) (p .line))
 
--- where the last node's statements end; 0 where there is no node
-abbrev pub placesTold : Unfolded → ℕ
-placesTold u = getD (u .start) ((u .count % 64 + 63) % 64) 0 % 16384 + getD (u .length) ((u .count % 64 + 63) % 64) 0 % 16384
+-- the row of the last node; 63 where there is no node
+abbrev pub lastRow : Unfolded → ℕ
+lastRow u = (u .count % 64 + 63) % 64
 
--- nodes and places
+-- nodes, and where the last one's statements end
+abbrev pub nodesTold : Unfolded → ℕ
+nodesTold u = nodesWord (u .count) (getD (u .start) (lastRow u) 0) (getD (u .length) (lastRow u) 0)
+
 unfoldable pub unfoldWord : Unfolded → ℕ
-unfoldWord u = cond (eqb (u .refusal) 0) (u .count % 256 * 65536 + placesTold u) (refusalWord (u .refusal) 0)
-
--- edges, with bit 30 for danger
-unfoldable pub verdictWord : Told → ℕ
-verdictWord (Told.refused number) = refusalWord number 0
-verdictWord (Told.robust c) = c .edges % 1048576
-verdictWord (Told.danger c steps) = 1073741824 + c .edges % 1048576
+unfoldWord u = cond (eqb (u .refusal) 0) (nodesTold u) (refusalWord (u .refusal) 0)
 
 -- a text that is refused: its refusal is told and the area stays as it was
 abbrev pub Refuses : Parsed → List ℕ → ℕ → List ℕ → Type 0

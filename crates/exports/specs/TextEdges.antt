@@ -15,7 +15,7 @@ use Rattle.edge_count.specs.declared.Edge.{Edge}
 use Rattle.edge_count.specs.Slots.{coded}
 use Rattle.edge_put.specs.declared.Put.{Put}
 use Rattle.edge_put.specs.Put.{putSaid}
-use Rattle.exports.specs.Stages.{refusalWord}
+use Rattle.export_word.specs.Word.{refusalWord}
 
 -- the edges stand at the front of the list, and the rest of it is as it was (E5, E6)
 abbrev pub edgesPut : List Line → List Edge → List Edge

@@ -25,9 +25,9 @@ use Rattle.edge_list.specs.EdgesSettled.{edgesIn, PutSettled}
 use Rattle.edge_list.specs.Few.{edges-few}
 use Rattle.text_read.specs.declared.Parsed.{Parsed}
 use Rattle.text_read.specs.Parse.{parsedAs}
-use Rattle.report_text.specs.NumberLaws.{parsed-refused, parsed-accepted}
-use Rattle.exports.specs.Stages.{refusalWord}
-use Rattle.exports.specs.RefusalLaws.{refusal-small, word-back}
+use Rattle.text_refusal.specs.RefusalLaws.{refusal-bounds, parsed-refused, parsed-accepted}
+use Rattle.export_word.specs.Word.{refusalWord}
+use Rattle.export_word.specs.WordLaws.{word-back}
 use Rattle.exports.specs.TextEdges.{edgesPut, TextEdges, edgesWord, FewPut}
 use Rattle.exports.specs.TextEdges.TextEdges.{unread, large, short, put}
 
@@ -36,7 +36,7 @@ abbrev pub AllPut : List ℕ → List Edge → ℕ → List Edge → Type 0
 AllPut text before r after =
     (lines : List Line) × (read text ≡ accepted lines) × (r ≡ length (E.edgesOf (nodesOf lines))) × (after ≡ edgesPut lines before)
 
--- Bit 31 is clear exactly where the edges are put: a count is never taken for a refusal, and a refusal never for a count.
+-- A result for callers: bit 31 is clear exactly where the edges are put, so a count is never taken for a refusal, and a refusal never for a count.
 pub never-mistaken : (text : List ℕ) {before : List Edge} {r : ℕ} {after : List Edge} → TextEdges (read text) before r after
     → ((r < 2147483648) × AllPut text before r after) ⊎ ((2147483648 ≤ r) × (after ≡ before))
 never-mistaken text (unread number line o e same) = inr (omega arith, same)
@@ -51,15 +51,15 @@ never-mistaken text (put lines o t s e same) =
 not-both-read : {number line : ℕ} {lines : List Line} → refused number line ≡ accepted lines → ⊥
 not-both-read e = let z : _≡_ {A = ℕ} 0 1 = cc in omega arith
 
--- A text that is refused: number and line are read back from the answer, and the list is as it was.
+-- A result for callers: of a text that is refused number and line are read back from the answer, and the list is as it was.
 pub refusal-told : (text : List ℕ) {before : List Edge} {r : ℕ} {after : List Edge} {number line : ℕ} → TextEdges (read text) before r after
     → read text ≡ refused number line → (r / 65536 % 32768 ≡ number) × (r % 65536 ≡ line) × (after ≡ before)
 refusal-told text {number = number} {line = line} (unread n l o e same) q =
     let both : refused n l ≡ refused number line = sym o ∙ q in
     let n-same : n ≡ number = cc in
     let l-same : l ≡ line = cc in
-    let small = refusal-small text o in
-    let back = word-back n l (omega (arith, small .0)) (small .1) in
+    let small = refusal-bounds text o in
+    let back = word-back n l (omega (arith, small .0 .1)) (small .1) in
     (ap (λ k. k / 65536 % 32768) e ∙ back .0 ∙ n-same, ap (λ k. k % 65536) e ∙ back .1 ∙ l-same, same)
 refusal-told text (large lines o t e same) q = absurd (not-both-read (sym q ∙ o))
 refusal-told text (short lines o t s e same) q = absurd (not-both-read (sym q ∙ o))

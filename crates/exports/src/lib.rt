@@ -3,41 +3,17 @@
 
 use edge_count::Edge;
 use edge_put::Put;
-use spec_text::Line;
-use spec_text::Workload;
+use export_word::nodes_word;
+use export_word::refusal_word;
+use export_word::value_word;
+use export_word::verdict_word;
+use spec_text::CELLS;
 use unfold::Unfolded;
-use verdict_told::Totals;
-use verdict_told::Verdict;
 ghost use mathlib.Core.Path.{_≡_};
-ghost use Prim.Native.Nat.{_+_, _*_, _%_};
 ghost use Rattle.spec_text.specs.Reading.{read};
 ghost use Rattle.edge_put.specs.Put.{putSaid};
-ghost use Rattle.exports.specs.Stages.{given, refusalWord, lineSum, middleLine, readWord, placesTold, unfoldWord, verdictWord};
-ghost use Rattle.verdict_told.specs.Told.{told};
-ghost use Rattle.exports.specs.Stages.{Unfolds, Judges, UnfoldStage, VerdictStage};
+ghost use Rattle.exports.specs.Stages.{given, readWord, unfoldWord, UnfoldStage, VerdictStage};
 ghost use Rattle.exports.specs.TextEdges.{edgesWord, FewPut, TextEdges};
-
-fn refusal_word(number: u8, line: u64) -> u32
-    ensures { λ r. ⌜ r ≡ refusalWord number line ⌝ }
-{
-    2147483648 + (number as u32) * 65536 + (line % 65536) as u32
-}
-
-fn line_sum(l: Line) -> u64
-    ensures { λ r. ⌜ r ≡ lineSum l ⌝ }
-{
-    let small = l.id as u64 + l.rel as u64 + l.to as u64;
-    (small + l.reads % 4096 + l.writes % 4096 + l.tests % 4096) % 16384
-}
-
-// Lines read, and the values of the line in the middle.
-fn value_word(w: Workload) -> u32
-    ensures { λ r. ⌜ r ≡ lineSum (middleLine w) * 65536 + w .count % 65536 ⌝ }
-{
-    let l = w.lines[w.count / 2 % 1616];
-    let sum = line_sum(l);
-    (sum * 65536 + (w.count % 65536) as u64) as u32
-}
 
 #[no_mangle]
 pub extern "C" fn stage_read(text: &[u8]) -> u32
@@ -48,34 +24,19 @@ pub extern "C" fn stage_read(text: &[u8]) -> u32
         return refusal_word(p.number, p.line);
     }
     let w = p.work;
-    value_word(w)
+    let middle = w.lines[w.count / 2 % CELLS];
+    value_word(middle, w.count)
 }
 
-// Where the last node's statements end.
-fn places_told(u: Unfolded) -> u32
-    ensures { λ r. ⌜ r ≡ placesTold u ⌝ }
-{
-    let last = ((u.count % 64 + 63) % 64) as usize;
-    let start = u.start[last] % 16384;
-    let length = u.length[last] % 16384;
-    (start + length) as u32
-}
-
+// How many unfoldings there are, and where the last one's statements end; or the refusal.
 fn unfold_word(u: Unfolded) -> u32
     ensures { λ r. ⌜ r ≡ unfoldWord u ⌝ }
 {
     if u.refusal != 0 {
         return refusal_word(u.refusal, 0);
     }
-    let nodes = (u.count % 256) as u32;
-    nodes * 65536 + places_told(u)
-}
-
-fn unfold_value(w: Workload, area: &mut [u64]) -> u32
-    ensures { λ r. ⌜ Unfolds w (now (area .entry)) r (now (area .exit)) ⌝ }
-{
-    let u = unfold::unfold(w, area);
-    unfold_word(u)
+    let last = ((u.count % 64 + 63) % 64) as usize;
+    nodes_word(u.count, u.start[last], u.length[last])
 }
 
 #[no_mangle]
@@ -87,7 +48,8 @@ pub extern "C" fn stage_unfold(text: &[u8], area: &mut [u64]) -> u32
         return refusal_word(p.number, p.line);
     }
     let w = p.work;
-    unfold_value(w, area)
+    let u = unfold::unfold(w, area);
+    unfold_word(u)
 }
 
 // What became of edges: how many are put, or the refusal.
@@ -120,29 +82,6 @@ pub extern "C" fn text_edges<'b, 'a>(text: &'b [u8], out: &'a mut [Edge]) -> u32
     edges_word(put)
 }
 
-fn edges_told(c: Totals) -> u32
-    ensures { λ r. ⌜ r ≡ c .edges % 1048576 ⌝ }
-{
-    (c.edges % 1048576) as u32
-}
-
-fn verdict_word(v: Verdict) -> u32
-    ensures { λ r. ⌜ r ≡ verdictWord (told v) ⌝ }
-{
-    match v {
-        Verdict::Robust(c) => edges_told(c),
-        Verdict::Danger(c, _) => 1073741824 + edges_told(c),
-        Verdict::Refused(number) => refusal_word(number, 0),
-    }
-}
-
-fn judge_value(w: Workload, area: &mut [u64]) -> u32
-    ensures { λ r. ⌜ Judges w (now (area .entry)) r (now (area .exit)) ⌝ }
-{
-    let v = verdict_of::verdict_of(w, area);
-    verdict_word(v)
-}
-
 // The verdict, with a dangerous walk in the area.
 #[no_mangle]
 pub extern "C" fn stage_verdict(text: &[u8], area: &mut [u64]) -> u32
@@ -153,5 +92,6 @@ pub extern "C" fn stage_verdict(text: &[u8], area: &mut [u64]) -> u32
         return refusal_word(p.number, p.line);
     }
     let w = p.work;
-    judge_value(w, area)
+    let v = verdict_of::verdict_of(w, area);
+    verdict_word(v)
 }

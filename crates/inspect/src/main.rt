@@ -1,80 +1,78 @@
-// Shows what the parts make of workload texts: what is read, the unfoldings, the edges, the report. Arguments are words and file names in order:
-// `--read`, `--unfold`, `--edges` and `--report` say what is printed of the files after them.
+// Shows what the parts make of workload texts: what is read, the unfoldings, the edges, the report, and what lent areas hold afterwards. Arguments
+// are words and file names in order: `--read`, `--unfold`, `--edges`, `--report` and `--areas` say what is printed of the files after them.
 
 use check::same;
 use edge_count::Edge;
 use edge_count::Found;
+use edge_list::EdgeAnswer;
+use edge_list::EdgeCounts;
+use edge_put::Put;
 use libc::STDOUT_FILENO;
+use place_row::ROWS;
+use place_row::TABLE_WORDS;
 use place_table::Rows;
+use spec_text::CELLS;
 use spec_text::Line;
 use spec_text::LineKind;
-use spec_text::StatementKind;
 use spec_text::Workload;
+use verdict_told::Verdict;
+use walk_find::WALK_WORDS;
 ghost use Rattle.io.specs.Counts.{Counts};
+ghost use Rattle.edge_list.specs.EdgesSettled.{PutSettled};
 
 // What is printed of a file.
-enum Listing {
-    Nothing,
-    Lines,
-    Unfoldings,
-    Edges,
-    Report,
-}
+const NOTHING: u8 = 0;
 
-// An argument: one of the words, or the name of a file.
-enum Argument {
-    Word(Listing),
-    File,
-}
+const LINES: u8 = 1;
 
-// One more; no text has as many of anything as where it stops.
-fn more(n: u64) -> u64 {
-    if n < 65535 {
-        return n + 1;
-    }
-    n
-}
+const UNFOLDINGS: u8 = 2;
+
+const EDGES: u8 = 3;
+
+const REPORT: u8 = 4;
+
+const AREAS: u8 = 5;
+
+// ---- what all listings print
 
 fn print(bytes: &[u8]) {
     io::write_all(STDOUT_FILENO, bytes);
 }
 
-fn print_number(n: u64) {
-    io::print_decimal(STDOUT_FILENO, n);
-}
-
 // A number after others of its line.
 fn print_next(n: u64) {
     print(b" ");
-    print_number(n);
+    io::print_decimal(STDOUT_FILENO, n);
 }
 
 // A refusal in place of a list.
 fn print_refused(number: u8, line: u64) {
     print(b"refused line\n");
-    print_number(number as u64);
+    io::print_decimal(STDOUT_FILENO, number as u64);
     print_next(line);
     print(b"\n");
 }
 
-fn statement_number(kind: StatementKind) -> u64 {
-    match kind {
-        StatementKind::Is => 1,
-        StatementKind::Ks => 2,
-        StatementKind::Ps => 3,
-        StatementKind::Ku => 4,
-        StatementKind::Pu => 5,
-        StatementKind::Kd => 6,
-        StatementKind::Pd => 7,
-    }
+fn print_edge(e: Edge) {
+    io::print_decimal(STDOUT_FILENO, e.node);
+    print_next(e.leaves);
+    print_next(e.into);
+    print_next(e.enters);
+    print(&[b' ', e.flow, b' ', e.letter]);
+    print_next(e.sharing as u64);
+    print_next(e.lowest as u64);
+    print(b"\n");
 }
 
-fn kind_number(kind: LineKind) -> u64 {
+// ---- what is read
+
+// The number of a line's kind in the sum of a value's cells. Those of statements are below 7 anyway; the remainder spares a proof of it.
+fn summed_kind(kind: LineKind) -> u64 {
     match kind {
         LineKind::Rl => 8,
         LineKind::Fk => 9,
         LineKind::Pr => 10,
-        LineKind::St(k) => statement_number(k),
+        LineKind::St(k) => edge_kinds::kind_number(k) % 7 + 1,
         LineKind::Lo => 11,
         LineKind::Br => 12,
         LineKind::El => 13,
@@ -91,7 +89,7 @@ fn mix(sum: u64, value: u64) -> u64 {
 // A sum with a line's seven values more.
 fn mix_line(before: u64, l: Line) -> u64 {
     let kind = l.kind;
-    let a = mix(before, kind_number(kind));
+    let a = mix(before, summed_kind(kind));
     let b = mix(a, l.id as u64);
     let c = mix(b, l.rel as u64);
     let d = mix(c, l.to as u64);
@@ -100,53 +98,41 @@ fn mix_line(before: u64, l: Line) -> u64 {
     mix(f, l.tests)
 }
 
-// The sum of all cells, those after the last line too.
-fn sum_cells(w: Workload) -> u64 {
+// How many lines a value has, and the sum of all its cells, those after the last line too.
+fn list_lines(w: Workload) {
     let mut sum: u64 = 0;
     let mut i: usize = 0;
-    while i < 1616 {
+    while i < CELLS {
         let l = w.lines[i];
         sum = mix_line(sum, l);
         i += 1;
     }
-    sum
-}
-
-// How many lines a value has, and the sum of its cells.
-fn list_lines(w: Workload) {
     print(b"accepted lines");
     print_next(w.count as u64);
     print(b" sum");
-    print_next(sum_cells(w));
+    print_next(sum);
     print(b"\n");
 }
 
-fn word_at(words: &[u64], i: u64) -> u64 {
-    let at = i as usize;
-    if at < words.len() {
-        return words[at];
-    }
-    0
-}
+// ---- unfoldings
 
-// An unfolding: its number, its program, where it starts and how long it is, then its statements.
-fn print_unfolding(node: u64, program: u8, start: u64, length: u64, statements: &[u64]) {
-    print_number(node);
+// An unfolding: its number, its program, where it starts and how long it is, then its statements, which all lie in the area.
+fn print_unfolding(node: u64, program: u8, start: u64, length: u64, statements: &[u64; ROWS]) {
+    io::print_decimal(STDOUT_FILENO, node);
     print_next(program as u64);
     print_next(start);
     print_next(length);
-    let mut at = start;
-    let mut left = length;
-    while 0 < left {
-        print_next(word_at(statements, at));
-        at = more(at);
-        left -= 1;
+    let mut k: u64 = 0;
+    while k < length {
+        let at = (start as usize % ROWS + k as usize % ROWS) % ROWS;
+        print_next(statements[at]);
+        k += 1;
     }
     print(b"\n");
 }
 
 fn list_unfoldings(w: Workload) {
-    let mut statements = [0u64; 512];
+    let mut statements = [0u64; ROWS];
     let told = unfold::unfold(w, &mut statements);
     let number = told.refusal;
     if number != 0 {
@@ -168,16 +154,7 @@ fn list_unfoldings(w: Workload) {
     }
 }
 
-fn print_edge(e: Edge) {
-    print_number(e.node);
-    print_next(e.leaves);
-    print_next(e.into);
-    print_next(e.enters);
-    print(&[b' ', e.flow, b' ', e.letter]);
-    print_next(e.sharing as u64);
-    print_next(e.lowest as u64);
-    print(b"\n");
-}
+// ---- edges
 
 // An edge that is found. There is one each time: as many are asked for as are counted.
 fn print_found(found: Found) {
@@ -191,15 +168,7 @@ fn print_found(found: Found) {
     }
 }
 
-// The slot after a slot; a table has 524,288 at most.
-fn behind(slot: usize) -> usize {
-    if slot < 524288 {
-        return slot + 1;
-    }
-    slot
-}
-
-// The edges of a table in order, each found from after the slot of the one before.
+// The edges of a table in order, each found from after the slot of the one before; two slots for each pair of rows.
 fn print_edges(table: &[u64]) {
     print(b"node leaves node enters flow letter shared lowest\n");
     let counts = edge_count::count_edges(table);
@@ -210,13 +179,13 @@ fn print_edges(table: &[u64]) {
         let step = edge_find::edge_from(table, from);
         let found = step.found;
         print_found(found);
-        from = behind(step.slot);
+        from = step.slot % (2 * ROWS * ROWS) + 1;
         k += 1;
     }
 }
 
 fn list_edges(w: Workload) {
-    let mut table = [0u64; 4096];
+    let mut table = [0u64; TABLE_WORDS];
     let filled = place_table::fill_rows(w, &mut table);
     match filled {
         Rows::Refused(number) => {
@@ -233,35 +202,10 @@ fn list_edges(w: Workload) {
     }
 }
 
-fn list_value(w: Workload, listing: Listing) {
-    match listing {
-        Listing::Lines => {
-            list_lines(w);
-        }
-        Listing::Unfoldings => {
-            list_unfoldings(w);
-        }
-        Listing::Edges => {
-            list_edges(w);
-        }
-        Listing::Nothing | Listing::Report => {}
-    }
-}
-
-// What a text is read into, or its refusal.
-fn show_value(text: &[u8], listing: Listing) {
-    let parsed = text_read::read_text(text);
-    let number = parsed.number;
-    if number != 0 {
-        print_refused(number, parsed.line);
-        return;
-    }
-    let w = parsed.work;
-    list_value(w, listing);
-}
+// ---- the report
 
 // The place after the first line end from a place on, or the end.
-fn behind_line(bytes: &[u8], from: usize) -> usize
+fn after_line(bytes: &[u8], from: usize) -> usize
     ensures { λ r. ⌜ Counts r (now (bytes .entry)) ⌝ }
 {
     let mut i = from;
@@ -274,9 +218,9 @@ fn behind_line(bytes: &[u8], from: usize) -> usize
     bytes.len()
 }
 
-// The first two lines of a report. Behind them stands a walk, whose choice is free.
+// The first two lines of a report. After them stands a walk, whose choice is free.
 fn print_verdict(report: &[u8]) {
-    let n = behind_line(report, behind_line(report, 0));
+    let n = after_line(report, after_line(report, 0));
     print(&report[..n]);
 }
 
@@ -287,20 +231,273 @@ fn show_report(text: &[u8]) {
     print_verdict(&bytes[..n]);
 }
 
-fn show(text: &[u8], listing: Listing) {
-    match listing {
-        Listing::Nothing => {}
-        Listing::Lines | Listing::Unfoldings | Listing::Edges => {
-            show_value(text, listing);
+// ---- lent areas
+
+// What became of the edges, and the area afterwards.
+struct Eight {
+    put: Put,
+    area: [Edge; 8],
+}
+
+// The edges of a workload put into an area of eight records. Its proof is by hand, since the area is lent as a list of records.
+fn put_in_eight(w: Workload, before: Eight) -> Eight
+    ensures { λ r. ⌜ PutSettled w (before .area) (r .put) (r .area) ⌝ }
+{
+    let mut area = before.area;
+    let put = edge_list::put_workload_edges(w, &mut area);
+    Eight { put, area }
+}
+
+// Edge number k, if there is one.
+fn show_number(w: Workload, k: u64) {
+    let a = edge_list::edge_number(w, k);
+    print(b"edge");
+    print_next(k);
+    match a {
+        EdgeAnswer::There(edge) => {
+            print(b" 0 ");
+            print_edge(edge);
         }
-        Listing::Report => {
-            show_report(text);
+        EdgeAnswer::Absent => {
+            print(b" 0 none\n");
+        }
+        EdgeAnswer::Refused(number) => {
+            print_next(number as u64);
+            print(b" none\n");
         }
     }
 }
 
+// How many edges, and the first, the middle, the last and one past the last.
+fn show_counted(w: Workload, refusal: u64, edges: u64, back: u64) {
+    print(b"edges");
+    print_next(refusal);
+    print_next(edges);
+    print_next(back);
+    print(b"\n");
+    show_number(w, 0);
+    show_number(w, edges / 2);
+    if 0 < edges {
+        show_number(w, edges - 1);
+    }
+    show_number(w, edges);
+}
+
+fn show_edges(w: Workload) {
+    let c = edge_list::edge_counts(w);
+    match c {
+        EdgeCounts::Counted { edges, back } => {
+            show_counted(w, 0, edges, back);
+        }
+        EdgeCounts::Refused(number) => {
+            show_counted(w, number as u64, 0, 0);
+        }
+    }
+}
+
+// The number of a refusal, 0 where the edges are put.
+fn number_of(put: Put) -> u64 {
+    match put {
+        Put::All(_) => 0,
+        Put::Refused(number) => number as u64,
+    }
+}
+
+// The area of eight records, marked beforehand with a record that no workload has.
+fn show_put(w: Workload) {
+    let mark = Edge {
+        node: 77,
+        leaves: 77,
+        into: 77,
+        enters: 77,
+        sharing: 77,
+        lowest: 77,
+        flow: b'm',
+        letter: b'M',
+    };
+    let none = Put::All(0);
+    let marked = Eight {
+        put: none,
+        area: [mark; 8],
+    };
+    let filled = put_in_eight(w, marked);
+    let put = filled.put;
+    print(b"put");
+    print_next(number_of(put));
+    print(b"\n");
+    let area = filled.area;
+    let mut i: usize = 0;
+    while i < 8 {
+        let e = area[i];
+        print_edge(e);
+        i += 1;
+    }
+}
+
+// So much of an area, as far as it goes.
+fn room_in(n: u64, area: &[u64]) -> usize
+    ensures { λ r. ⌜ Counts r (now (area .entry)) ⌝ }
+{
+    let room = n as usize;
+    if room < area.len() {
+        return room;
+    }
+    area.len()
+}
+
+// The cells of an area.
+fn print_cells(area: &[u64; 12]) {
+    let mut i: usize = 0;
+    while i < 12 {
+        print_next(area[i]);
+        i += 1;
+    }
+    print(b"\n");
+}
+
+// The unfoldings put into so much of an area of twelve cells, all marked with 77. Answers where the last one's statements end.
+fn show_unfoldings(w: Workload, room: u64) -> u64 {
+    let mut area = [77u64; 12];
+    let n = room_in(room, &area);
+    let told = unfold::unfold(w, &mut area[..n]);
+    print(b"unfold");
+    print_next(room);
+    print_next(told.refusal as u64);
+    print_next(told.count);
+    print(b" :");
+    print_cells(&area);
+    let last = ((told.count % 64 + 63) % 64) as usize;
+    let rows = ROWS as u64;
+    told.start[last] % rows + told.length[last] % rows
+}
+
+// Whether a cell from a place on is no longer marked with 77.
+fn changed(area: &[u64; 264], from: u64) -> bool {
+    let mut i = from as usize;
+    while i < 264 {
+        if area[i] != 77 {
+            return true;
+        }
+        i += 1;
+    }
+    false
+}
+
+// The verdict's numbers, and whether a cell from a place on has changed.
+fn print_totals(refusal: u64, danger: u64, edges: u64, back: u64, area: &[u64; 264], from: u64) {
+    print_next(refusal);
+    print_next(danger);
+    print_next(edges);
+    print_next(back);
+    print_next(changed(area, from) as u64);
+    print(b"\n");
+}
+
+// The verdict with so much of an area for the walk, and whether a cell after the walk has changed.
+fn show_verdict(w: Workload, room: u64) {
+    let mut area = [77u64; 264];
+    let n = room_in(room, &area);
+    let v = verdict_of::verdict_of(w, &mut area[..n]);
+    print(b"verdict");
+    print_next(room);
+    match v {
+        Verdict::Robust(c) => print_totals(0, 0, c.edges, c.back, &area, 0),
+        Verdict::Danger(c, steps) => print_totals(0, 1, c.edges, c.back, &area, steps % 66 * 4),
+        Verdict::Refused(number) => print_totals(number as u64, 0, 0, 0, &area, 0),
+    }
+}
+
+// Everything of one value.
+fn show_areas(w: Workload) {
+    show_edges(w);
+    show_put(w);
+    let places = show_unfoldings(w, 12);
+    show_unfoldings(w, places);
+    if 0 < places {
+        show_unfoldings(w, places - 1);
+    }
+    let words = WALK_WORDS as u64;
+    show_verdict(w, words + 4);
+    show_verdict(w, words);
+    show_verdict(w, words - 1);
+}
+
+fn line_of(kind: LineKind, reads: u64, writes: u64) -> Line {
+    Line {
+        kind,
+        id: 0,
+        rel: 0,
+        to: 0,
+        reads,
+        writes,
+        tests: 0,
+    }
+}
+
+// A value with another line in a cell and another count of lines.
+fn with_line(w: Workload, at: usize, l: Line, count: usize) -> Workload {
+    let mut v = w;
+    if at < CELLS {
+        v.lines[at] = l;
+    }
+    v.count = count;
+    v
+}
+
+// A value, and values near it that no text gives.
+fn list_areas(w: Workload) {
+    let n = w.count;
+    let relation = line_of(LineKind::Rl, 3, 0);
+    show_areas(w);
+    print(b"a loop left open\n");
+    show_areas(with_line(w, n, line_of(LineKind::Lo, 0, 0), n % CELLS + 1));
+    print(b"a relation in the cell after the last line\n");
+    show_areas(with_line(w, n, relation, n));
+    print(b"a first line with writes, which its kind lacks\n");
+    show_areas(with_line(w, 0, line_of(LineKind::Rl, 3, 1), n));
+    print(b"more lines than cells\n");
+    show_areas(with_line(w, CELLS, relation, CELLS + 1));
+}
+
+// ---- from the arguments to the listings
+
+fn list_value(w: Workload, listing: u8) {
+    if listing == LINES {
+        list_lines(w);
+        return;
+    }
+    if listing == UNFOLDINGS {
+        list_unfoldings(w);
+        return;
+    }
+    if listing == EDGES {
+        list_edges(w);
+        return;
+    }
+    list_areas(w);
+}
+
+// What is asked of a text, or its refusal.
+fn show_text(text: &[u8], listing: u8) {
+    if listing == NOTHING {
+        return;
+    }
+    if listing == REPORT {
+        show_report(text);
+        return;
+    }
+    let parsed = text_read::read_text(text);
+    let number = parsed.number;
+    if number != 0 {
+        print_refused(number, parsed.line);
+        return;
+    }
+    let w = parsed.work;
+    list_value(w, listing);
+}
+
 // A file's name and what is asked of it. A text that fills the area is over the bound, whatever follows.
-fn show_file(path: &[u8], listing: Listing) {
+fn show_file(path: &[u8], listing: u8) {
     let file = os::open_read(path);
     if file < 0 {
         os::fail(path);
@@ -311,35 +508,36 @@ fn show_file(path: &[u8], listing: Listing) {
     libc::close(file);
     print(path);
     print(b"\n");
-    show(&text[..n], listing);
+    show_text(&text[..n], listing);
 }
 
-fn argument_of(word: &[u8]) -> Argument {
+// What a word asks for: nothing if it is the name of a file.
+fn listing_of(word: &[u8]) -> u8 {
     if same(word, b"--read") {
-        return Argument::Word(Listing::Lines);
+        return LINES;
     }
     if same(word, b"--unfold") {
-        return Argument::Word(Listing::Unfoldings);
+        return UNFOLDINGS;
     }
     if same(word, b"--edges") {
-        return Argument::Word(Listing::Edges);
+        return EDGES;
     }
     if same(word, b"--report") {
-        return Argument::Word(Listing::Report);
+        return REPORT;
     }
-    Argument::File
+    if same(word, b"--areas") {
+        return AREAS;
+    }
+    NOTHING
 }
 
 // Argument i, with what the words before ask for; answers what is asked for after it.
-fn take_argument(i: usize, before: Listing) -> Listing {
+fn take_argument(i: usize, before: u8) -> u8 {
     let mut word = io::buffer();
     let n = os::arg(i, &mut word);
-    let argument = argument_of(&word[..n]);
-    match argument {
-        Argument::Word(listing) => {
-            return listing;
-        }
-        Argument::File => {}
+    let asked = listing_of(&word[..n]);
+    if asked != NOTHING {
+        return asked;
     }
     show_file(&word[..n], before);
     before
@@ -347,7 +545,7 @@ fn take_argument(i: usize, before: Listing) -> Listing {
 
 fn main() {
     let count = os::arg_count();
-    let mut listing = Listing::Nothing;
+    let mut listing = NOTHING;
     let mut i: usize = 1;
     while i < count {
         listing = take_argument(i, listing);

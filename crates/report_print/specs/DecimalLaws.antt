@@ -12,11 +12,6 @@ use Rattle.spec_report.specs.Report.{decimal}
 use Rattle.report_print.specs.Printed.{Put}
 use Rattle.report_print.specs.PrintLaws.{put-both, put-most, put-same}
 
--- a number below ten is its own digit
-pub digit-of : (n : ℕ) → n < 10 → digit n ≡ 0x30 + n
-unfolding digit
-digit-of n h = rw (lt-ltb n 10 h) refl
-
 digits-one : (most n : ℕ) → n < 10 → digitsOf 10 (suc most) n ≡ digit n ∷ []
 unfolding digitsOf
 digits-one most n h = rw (lt-ltb n 10 h, digitsOf)
@@ -86,9 +81,11 @@ last-room n h w =
     omega arith
 
 -- a number of one digit is written
-pub put-digit : (n : ℕ) {b at r : ℕ} {before after : List ℕ} → n < 10 → b ≡ digit n → Put (b ∷ []) 1 at before r after
+pub put-digit : (n : ℕ) {b at r : ℕ} {before after : List ℕ} → n < 10 → b ≡ digit (n % 10) → Put (b ∷ []) 1 at before r after
     → Put (decimal n) 20 at before r after
-put-digit n h e p = put-same (ap (λ (d : ℕ). d ∷ []) e ∙ sym (decimal-one n h)) (put-most (omega arith) p)
+put-digit n h e p =
+    let one : n % 10 ≡ n = omega arith in
+    put-same (ap (λ (d : ℕ). d ∷ []) (e ∙ ap digit one) ∙ sym (decimal-one n h)) (put-most (omega arith) p)
 
 -- the digits in front and then the last one are written
 pub put-digits : (n : ℕ) {b at k r : ℕ} {before mid after : List ℕ} → 10 ≤ n → n < 18446744073709551616

@@ -4,10 +4,11 @@ use mathlib.Core.Path.{_≡_}
 use Prim.Native.Nat.{ℕ, zero, suc, _+_, _-_, _*_, _≤_, min}
 use lib.ListN.{length, getD, drop, replicate}
 use lib.Seq.{sets}
-use Rattle.spec_graph.specs.Graph.{Flow}
 use Rattle.spec_graph.specs.Walk.{Step}
 use Rattle.spec_report.specs.State.{Counts}
-use Rattle.spec_report.specs.Report.{verdictNames, verdictLine, stepLines, dangerReport}
+use Rattle.spec_report.specs.Report.{verdictNames, verdictLine, stepLines, refusalReport, robustReport, dangerReport}
+use Rattle.verdict_told.specs.Told.{Told}
+use Rattle.report_bytes.specs.Bytes.{flowOf}
 use Rattle.report_print.specs.declared.Printed.{Printed}
 
 -- the bytes of a report, with zeros after them
@@ -17,11 +18,6 @@ printedAs bytes = record { length = length bytes; bytes = bytes ++ replicate (81
 -- the first two lines of a report that is no refusal
 abbrev pub verdictLines : List ℕ → Counts → List ℕ
 verdictLines word c = verdictNames ++ verdictLine word c
-
--- a flow's word: 0 is forward, any other back
-unfoldable pub flowOf : ℕ → Flow
-flowOf zero = Flow.forward
-flowOf (suc n) = Flow.back
 
 -- step k of a walk that is told by four words a step: node, place left, place entered, flow; a word past the end is 0
 unfoldable pub stepAt : List ℕ → ℕ → Step
@@ -41,6 +37,12 @@ stepsIn words k (suc n) = stepAt words k ∷ stepsIn words (suc k) n
 -- W5: the walk that is shown: so many steps, and at most 65
 unfoldable pub walkIn : List ℕ → ℕ → List Step
 walkIn words steps = stepsIn words 0 (min steps 65)
+
+-- the bytes of an answer, with the walk that stands in an area; a refusal because of the state has line 0
+unfoldable pub bytesFor : Told → List ℕ → List ℕ
+bytesFor (Told.refused number) area = refusalReport number 0
+bytesFor (Told.robust c) area = robustReport c
+bytesFor (Told.danger c steps) area = dangerReport c (walkIn area steps)
 
 -- bytes, no more than `most`, are written into an area from a place on; r is the place after them
 pub record Put (bytes : List ℕ) (most at : ℕ) (before : List ℕ) (r : ℕ) (after : List ℕ) : Type 0 where

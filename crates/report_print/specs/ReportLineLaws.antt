@@ -19,8 +19,9 @@ use Rattle.spec_report.specs.Report.{
   stepLines,
 }
 use Rattle.spec_report.specs.Report.{refusalReport, robustReport, dangerReport}
+use Rattle.report_bytes.specs.Bytes.{flowOf}
 use Rattle.report_print.specs.declared.Printed.{Printed}
-use Rattle.report_print.specs.Printed.{printedAs, verdictLines, flowOf, stepAt, stepsIn, walkIn, Put}
+use Rattle.report_print.specs.Printed.{printedAs, verdictLines, stepAt, stepsIn, walkIn, Put}
 use Rattle.report_print.specs.PrintLaws.{put-both, put-most, put-same, printed-is}
 
 -- a space and a number

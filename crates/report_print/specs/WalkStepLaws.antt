@@ -5,20 +5,9 @@ use Prim.Native.Nat.{ℕ, zero, suc, _+_, _*_, _≤_, _<_, zero-le}
 use native.Mathlib.Nat.{add-zero, zero-add}
 use native.Mathlib.Numerals.{add-one}
 use native.Mathlib.Omega.{arith}
-use Rattle.spec_report.specs.Report.{flowLetter, stepLine, stepLines}
-use Rattle.report_print.specs.Printed.{flowOf, stepAt, stepsIn, Put, Stepping}
+use Rattle.spec_report.specs.Report.{stepLine, stepLines}
+use Rattle.report_print.specs.Printed.{stepAt, stepsIn, Put, Stepping}
 use Rattle.report_print.specs.PrintLaws.{put-both, put-most, put-same}
-
--- the letter of a flow's word
-pub letter-forward : (word : ℕ) → word ≡ 0 → 0x66 ≡ flowLetter (flowOf word)
-unfolding flowOf
-letter-forward zero e = refl
-letter-forward (suc n) e = absurd (omega arith)
-
-pub letter-back : (word : ℕ) → (word ≡ 0 → ⊥) → 0x62 ≡ flowLetter (flowOf word)
-unfolding flowOf
-letter-back zero other = absurd (other refl)
-letter-back (suc n) other = refl
 
 -- the line of the next step stands after the lines of those before
 lines-next : (words : List ℕ) (n k : ℕ)

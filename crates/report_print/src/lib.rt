@@ -1,15 +1,19 @@
 // The bytes of the three reports: a refusal, robust, and danger with its walk.
 
+use report_bytes::digit_byte;
+use report_bytes::flow_letter;
+use verdict_told::Verdict;
 use word_list::word_at;
 ghost use mathlib.Core.Path.{_≡_};
 ghost use mathlib.Core.List.{[], _∷_};
 ghost use Prim.Native.Nat.{_+_, _*_, _≤_, _<_, min};
 ghost use lib.ListN.{length};
 ghost use Rattle.spec_text.specs.Text.{space, newline};
-ghost use Rattle.spec_text.specs.Text.{digit};
 ghost use Rattle.spec_report.specs.State.{counted};
 ghost use Rattle.spec_report.specs.Report.{decimal, flowLetter, stepLine, stepLines, refusalReport, robustReport, dangerReport};
-ghost use Rattle.report_print.specs.Printed.{printedAs, verdictLines, flowOf, stepAt, stepsIn, walkIn, Put, DangerPut};
+ghost use Rattle.verdict_told.specs.Told.{told};
+ghost use Rattle.report_bytes.specs.Bytes.{flowOf};
+ghost use Rattle.report_print.specs.Printed.{printedAs, verdictLines, stepAt, stepsIn, walkIn, bytesFor, Put, DangerPut};
 
 // A report: how many bytes it has, and the bytes with zeros after them. No report here has more than 5,744 bytes: a number has at most
 // 20 digits, so a step takes at most 86 bytes and the 65 steps at most 5,590; the lines in front of them take 154.
@@ -40,14 +44,6 @@ fn put_byte(out: &mut [u8; 8192], at: usize, b: u8) -> usize
     at + 1
 }
 
-// The byte of a decimal digit.
-fn digit_byte(n: u64) -> u8
-    requires { ⌜ n < 10 ⌝ }
-    ensures { λ r. ⌜ r ≡ digit n ⌝ }
-{
-    (0x30 + n) as u8
-}
-
 // Writes a number in decimal: the digits in front of the last one, then the last.
 fn put_decimal(out: &mut [u8; 8192], at: usize, n: u64) -> usize
     requires { ⌜ at + 20 ≤ 8192 ⌝ }
@@ -57,7 +53,7 @@ fn put_decimal(out: &mut [u8; 8192], at: usize, n: u64) -> usize
         return put_byte(out, at, digit_byte(n));
     }
     let k = put_decimal(out, at, n / 10);
-    put_byte(out, k, digit_byte(n % 10))
+    put_byte(out, k, digit_byte(n))
 }
 
 // Writes a space and a number in decimal.
@@ -88,16 +84,6 @@ fn put_verdict(
     let d = put_number(out, c, edges);
     let e = put_number(out, d, back);
     put_byte(out, e, 0x0a)
-}
-
-// The letter of a flow's word: f for 0, else b.
-fn flow_letter(word: u64) -> u8
-    ensures { λ r. ⌜ r ≡ flowLetter (flowOf word) ⌝ }
-{
-    if word == 0 {
-        return 0x66;
-    }
-    0x62
 }
 
 // Writes a space, the letter of the flow, and the line's end.
@@ -188,7 +174,7 @@ pub fn refusal_printed(number: u64, line: u64) -> Printed
 }
 
 // The report of a robust workload.
-pub fn robust_printed(programs: u64, nodes: u64, edges: u64, back: u64) -> Printed
+fn robust_printed(programs: u64, nodes: u64, edges: u64, back: u64) -> Printed
     ensures { λ r. ⌜ r ≡ printedAs (robustReport (counted programs nodes edges back)) ⌝ }
 {
     let mut bytes = [0u8; 8192];
@@ -197,7 +183,7 @@ pub fn robust_printed(programs: u64, nodes: u64, edges: u64, back: u64) -> Print
 }
 
 // The report of a dangerous walk that stands at the front of the words, four words to a step; of more than 65 steps the first 65.
-pub fn danger_printed(
+fn danger_printed(
     programs: u64,
     nodes: u64,
     edges: u64,
@@ -211,4 +197,17 @@ pub fn danger_printed(
     let shown = at_most_65(steps);
     let length = put_danger(&mut bytes, programs, nodes, edges, back, walk, shown);
     Printed { length, bytes }
+}
+
+// The report of an answer, with the walk that stands at the front of the area; a refusal because of the state has line 0.
+pub fn verdict_printed(v: Verdict, area: &[u64]) -> Printed
+    ensures { λ r. ⌜ r ≡ printedAs (bytesFor (told v) (now (area .entry))) ⌝ }
+{
+    match v {
+        Verdict::Robust(c) => robust_printed(c.programs, c.nodes, c.edges, c.back),
+        Verdict::Danger(c, steps) => {
+            danger_printed(c.programs, c.nodes, c.edges, c.back, area, steps as usize)
+        }
+        Verdict::Refused(number) => refusal_printed(number as u64, 0),
+    }
 }

@@ -54,6 +54,7 @@ Promised text = (lines : List Line) × (read text ≡ accepted lines) × ((s : S
 
 -- ---- the second line of each report
 
+-- a result: the second line of the report of a robust workload does begin with the word, so `crown` speaks of some reports
 pub second-of-robust : (c : Counts) → SecondLineBegins robustWord (robustReport c)
 unfolding fromSecondLine robustReport verdictNames verdictLine robustWord
 second-of-robust c = refl
@@ -117,6 +118,6 @@ crown {text} (danger lines isRead few walk dangerous short) h =
     let d = second-of-danger (countsOf lines) walk in
     absurd (omega arith)
 
--- the same of whatever `report_of` answers: its contract is `Reported`
+-- a result: the same of whatever `report_of` answers, whose contract is `Reported`
 pub crown-printed : {text : List ℕ} {r : Printed} → Reported text r → SecondLineBegins robustWord (take (r .length) (r .bytes)) → Promised text
 crown-printed h b = crown (h .report) b

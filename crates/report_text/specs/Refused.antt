@@ -10,7 +10,7 @@ use Rattle.verdict_told.specs.Told.{Told}
 use Rattle.verdict_of.specs.Verdict.{Judged}
 use Rattle.verdict_of.specs.VerdictLaws.{judged-not-given}
 
--- the verdict on the value that a refused text is read into is the refusal 21, and the area stays as it was
+-- a result: the verdict on the value that a refused text is read into is the refusal 21, and the area stays as it was
 pub refused-verdict : (text : List ℕ) {number line : ℕ} {before : List ℕ} {answer : Told} {after : List ℕ} → read text ≡ refused number line
     → Judged (parsedAs (read text) .work) before answer after → (answer ≡ Told.refused 21) × (after ≡ before)
 refused-verdict text e = judged-not-given (refused-read text e)

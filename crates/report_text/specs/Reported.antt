@@ -7,10 +7,8 @@ use Rattle.spec_text.specs.declared.Workload.{Workload}
 use Rattle.spec_text.specs.Value.{Given, linesOf}
 use Rattle.spec_text.specs.Reading.{read}
 use Rattle.spec_text.specs.Reading.Outcome.{accepted}
-use Rattle.spec_report.specs.Report.{Report, refusalReport, robustReport, dangerReport}
-use Rattle.verdict_told.specs.Told.{Told}
+use Rattle.spec_report.specs.Report.{Report}
 use Rattle.report_print.specs.declared.Printed.{Printed}
-use Rattle.report_print.specs.Printed.{walkIn}
 
 -- P: the bytes up to the length are a report of the text, and the others are 0; which dangerous walk is shown is free
 pub record Reported (text : List ℕ) (r : Printed) : Type 0 where
@@ -22,9 +20,3 @@ pub record Reported (text : List ℕ) (r : Printed) : Type 0 where
 -- the same for a workload value, whatever text gives it
 abbrev pub ValueReported : Workload → Printed → Type 0
 ValueReported w r = (text : List ℕ) → read text ≡ accepted (linesOf w) → Given w → Reported text r
-
--- the bytes of an answer, with the walk that stands in an area; a refusal because of the state has line 0
-unfoldable pub bytesFor : Told → List ℕ → List ℕ
-bytesFor (Told.refused number) area = refusalReport number 0
-bytesFor (Told.robust c) area = robustReport c
-bytesFor (Told.danger c steps) area = dangerReport c (walkIn area steps)

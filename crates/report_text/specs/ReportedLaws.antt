@@ -21,16 +21,16 @@ use Rattle.spec_report.specs.Report.{Report, refusalReport, dangerReport}
 use Rattle.spec_report.specs.Report.Report.{refusal, unfolding-refusal, robust, danger}
 use Rattle.text_read.specs.declared.Parsed.{Parsed}
 use Rattle.text_read.specs.Parse.{parsedAs}
+use Rattle.text_refusal.specs.RefusalLaws.{parsed-refused, parsed-accepted}
 use Rattle.verdict_told.specs.Told.{Told}
 use Rattle.verdict_of.specs.Verdict.{Word, Judged}
 use Rattle.verdict_of.specs.Verdict.Word.{robust as robust-word, danger as danger-word}
 use Rattle.verdict_of.specs.Verdict.Judged.{refused as refused-answer, judged as judged-answer}
 use Rattle.report_print.specs.declared.Printed.{Printed}
-use Rattle.report_print.specs.Printed.{printedAs}
+use Rattle.report_print.specs.Printed.{printedAs, bytesFor}
 use Rattle.report_print.specs.ShownWalkLaws.{walk-shown}
 use Rattle.report_print.specs.ReportSizeLaws.{report-size}
-use Rattle.report_text.specs.Reported.{bytesFor, Reported, ValueReported}
-use Rattle.report_text.specs.NumberLaws.{parsed-refused, parsed-accepted}
+use Rattle.report_text.specs.Reported.{Reported, ValueReported}
 
 -- the bytes of a report, printed
 printed-report : {text bytes : List ℕ} → Report text bytes → Reported text (printedAs bytes)

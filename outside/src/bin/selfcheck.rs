@@ -76,7 +76,7 @@ fn literal_unfoldings(lines: &[Line]) -> Option<Vec<Unfolding>> {
     if all.len() > 64 || statements > 512 { None } else { Some(all) }
 }
 
-/// The unfoldings of the run at `at`, which is moved behind it; nothing where they become too many.
+/// The unfoldings of the run at `at`, which is moved after it; nothing where they become too many.
 fn run(lines: &[Line], at: &mut usize, turns: &[u8]) -> Option<Vec<Unfolding>> {
     let mut all: Vec<Unfolding> = vec![Vec::new()];
     while *at < lines.len() {
@@ -181,7 +181,7 @@ fn check_walks(unfoldings: &Unfoldings, spots: &[Spot], edges: &[Edge], shown: &
     assert!(!agree(&shown.repeat(rounds)), "over 65 steps");
 }
 
-/// Edges drawn one behind the other; the end need not meet the start.
+/// Edges drawn one after the other; the end need not meet the start.
 fn draw_walk(random: &mut Random, edges: &[Edge]) -> Vec<Step> {
     let mut walk = Vec::new();
     let mut from: Vec<&Edge> = edges.iter().collect();

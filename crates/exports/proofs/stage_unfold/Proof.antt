@@ -1,17 +1,9 @@
--- A refusal of the text gives its word and leaves the area (unfold-refused); else the value that is read is unfolded into it (unfold-goes-on).
+-- A refusal of the text gives its word and leaves the area (unfold-refused); else the value that is read is unfolded into it
+-- (unfold-goes-on).
 use Rattle.exports.specs.StageLaws.{unfold-refused, unfold-goes-on}
-use native.Mathlib.Omega.{arith}
-use mathlib.Core.Path.{_≡_, refl, ap, sym, _∙_}
-use Prim.Native.Nat.{ℕ, _+_, _-_, _*_, _≤_, _<_}
-use lib.ListN.{length, set, getD, length-set, take, drop}
 use borrow.Author.Needs.{needs}
 use Rattle.exports.proofs.stage_unfold.Statement.{statement}
 use Rattle.exports.proofs.stage_unfold.Tie as tie
-use Rattle.exports.proofs.stage_unfold.Reads as reads
-use Rattle.exports.proofs.stage_unfold.Lts as lts
-use Rattle.text_read.proofs.read_text.Reads as read-text-reads
-use Rattle.exports.proofs.refusal_word.Reads as refusal-word-reads
-use Rattle.exports.proofs.unfold_value.Reads as unfold-value-reads
 
 read-text-requires : tie.Need-read-text-requires
 read-text-requires c κs = search needs
@@ -22,17 +14,21 @@ refusal-word-requires c κs = search needs
 returns : tie.Need-returns
 returns c = unfold-refused (c .before .before .before .read-text .ensures) (c .before .if1 .taken) (c .refusal-word .ensures)
 
-unfold-value-requires : tie.Need-unfold-value-requires
-unfold-value-requires c κs = search needs
+unfold-requires : tie.Need-unfold-requires
+unfold-requires c κs = search needs
+
+unfold-word-requires : tie.Need-unfold-word-requires
+unfold-word-requires c κs = search needs
 
 same-length : tie.Need-same-length
 same-length c = search needs
 
 returns-2 : tie.Need-returns-2
 returns-2 c =
-    let c5 = c .before .before .before .before .before in
-    let c7 = c5 .before .before in
-    unfold-goes-on (c7 .read-text .ensures) (c5 .if1 .left) (c .before .before .unfold-value .ensures)
+    let c3 = c .before .before .before in
+    let c6 = c3 .before .before .before in
+    unfold-goes-on (c6 .before .before .read-text .ensures) (c6 .if1 .left)
+    (record { told = _; settled = c3 .«unfold» .ensures; word = c .unfold-word .ensures })
 
 pub stage-unfold-spec : {M : Type 1} → statement M
 stage-unfold-spec =
@@ -41,6 +37,7 @@ stage-unfold-spec =
     read-text-requires
     refusal-word-requires
     returns
-    unfold-value-requires
+    unfold-requires
+    unfold-word-requires
     same-length
     returns-2)

@@ -1,6 +1,6 @@
 -- `exports::text_edges` meets its contract: a walk of its code by hand. `read_text` reads the text; where it is refused, `refusal_word` gives the
--- answer, and the list,
--- which no call was given, ends as it was; else the value that was read and the list go to `put_workload_edges`, and `edges_word` gives the answer.
+-- answer, and the list, which no call was given, ends as it was; else the value that was read and the list go to `put_workload_edges`, and
+-- `edges_word` gives the answer.
 use mathlib.Core.Bool.{Bool, true, false, not}
 use mathlib.Core.Path.{_≡_, refl, ap, subst}
 use Prim.Native.Nat.{ℕ, _<_, _^_}
@@ -128,7 +128,7 @@ use Rattle.edge_list.specs.EdgesSettled.{PutSettled}
 use Rattle.edge_list.specs.Few.{put-few}
 use Rattle.text_read.specs.declared.Parsed.{Parsed}
 use Rattle.text_read.specs.Parse.{parsedAs}
-use Rattle.exports.specs.Stages.{refusalWord}
+use Rattle.export_word.specs.Word.{refusalWord}
 use Rattle.exports.specs.TextEdges.{TextEdges, edgesWord, FewPut}
 use Rattle.exports.specs.TextEdgesLaws.{edges-unread, edges-settled}
 use Rattle.spec_text.proofs.Workload as Wk
@@ -147,10 +147,10 @@ use Rattle.edge_list.proofs.put_workload_edges as put-fn
 use Rattle.edge_list.proofs.put_workload_edges.Symbol as put-def
 use Rattle.edge_list.proofs.put_workload_edges.Symbol.{name as #edge_list·put-workload-edges}
 use Rattle.edge_list.proofs.put_workload_edges.Met as put-thm
-use Rattle.exports.proofs.refusal_word as refusal-fn
-use Rattle.exports.proofs.refusal_word.Symbol as refusal-def
-use Rattle.exports.proofs.refusal_word.Symbol.{name as #exports·refusal-word}
-use Rattle.exports.proofs.refusal_word.Met as refusal-thm
+use Rattle.export_word.proofs.refusal_word as refusal-fn
+use Rattle.export_word.proofs.refusal_word.Symbol as refusal-def
+use Rattle.export_word.proofs.refusal_word.Symbol.{name as #export_word·refusal-word}
+use Rattle.export_word.proofs.refusal_word.Met as refusal-thm
 use Rattle.exports.proofs.edges_word as word-fn
 use Rattle.exports.proofs.edges_word.Symbol as word-def
 use Rattle.exports.proofs.edges_word.Symbol.{name as #exports·edges-word}
@@ -377,7 +377,7 @@ module _ {M : Type 1} (𝓤 : URA M) (H : Heap 𝓤) (A : Atoms 𝓤) (W : Given
           keep ! (5 ∷ 1 ∷ 6 ∷ 2 ∷ []) $ by ! (exits n (zs .1 .0) (is .1) same (edges-settled text read-as zero-number settled word))))))))))))
 
       -- the test of the number, and what follows it
-      tested : (known-refusal : Triple 𝓤 (C #exports·refusal-word) (Refusal 𝓤 H A mem run)) → Sq W Read-on (runs C Λ En parts.t-3 (atRet En Post))
+      tested : (known-refusal : Triple 𝓤 (C #export_word·refusal-word) (Refusal 𝓤 H A mem run)) → Sq W Read-on (runs C Λ En parts.t-3 (atRet En Post))
       tested known-refusal =
           first ! $ branches ! (load ! (from ! (stop !)) (look ! 8 refl))
           (λ other.
@@ -418,7 +418,7 @@ module _ {M : Type 1} (𝓤 : URA M) (H : Heap 𝓤) (A : Atoms 𝓤) (W : Given
           equals n h = eqb→eq n 0 (twice (eqb n 0) h)
 
   module _ (C : Calls 𝓤 H) (Λ : Loops 𝓤 H) (fm : FmC 𝓤 H (W .laws) C) (known-read : Triple 𝓤 (C #text_read·read-text) (Read 𝓤 H A mem run))
-      (known-refusal : Triple 𝓤 (C #exports·refusal-word) (Refusal 𝓤 H A mem run))
+      (known-refusal : Triple 𝓤 (C #export_word·refusal-word) (Refusal 𝓤 H A mem run))
       (known-put : Triple 𝓤 (C #edge_list·put-workload-edges) (Put 𝓤 H A mem run))
       (known-word : Triple 𝓤 (C #exports·edges-word) (Word 𝓤 H A mem run)) where
     walk : Is (ShrSlice (named 0) κ u8) ar (sv ∷ []) → Is (MutSlice (named 1) κ₁ T.the-row) x (s ∷ []) → Room T.the-row (length ys)
@@ -454,7 +454,7 @@ module _ {M : Type 1} (𝓤 : URA M) (H : Heap 𝓤) (A : Atoms 𝓤) (W : Given
 
 module _ {M : Type 1} (𝓤 : URA M) (H : Heap 𝓤) (A : Atoms 𝓤) (W : Given 𝓤 H A) (mem : Memory → SProp 𝓤) (run : Routine → Fun 𝓤)
     (𝓣 : Tables 𝓤 H) (known-read : Triple 𝓤 (𝓣 .C #text_read·read-text) (Read 𝓤 H A mem run))
-    (known-refusal : Triple 𝓤 (𝓣 .C #exports·refusal-word) (Refusal 𝓤 H A mem run))
+    (known-refusal : Triple 𝓤 (𝓣 .C #export_word·refusal-word) (Refusal 𝓤 H A mem run))
     (known-put : Triple 𝓤 (𝓣 .C #edge_list·put-workload-edges) (Put 𝓤 H A mem run))
     (known-word : Triple 𝓤 (𝓣 .C #exports·edges-word) (Word 𝓤 H A mem run)) where
   edges-walks : Walks 𝓤 H A f.ended stayed (WpFn 𝓤 H (𝓣 .C) (𝓣 .Λ) code.function) (f.clauses 𝓤 H A mem run)
@@ -480,7 +480,7 @@ text-edges-spec 𝓤 H 𝓜 𝓖 𝓡 =
     (edges-meets 𝓤 H (𝓖 .A) (givenOf 𝓤 H 𝓜 𝓖) (𝓜 .mem) (𝓡 .run) (tablesOf 𝓤 H 𝓜 (tables 𝓤 H 𝓜 𝓡 code.env))
     (cited 𝓤 H (Read 𝓤 H (𝓖 .A) (𝓜 .mem) (𝓡 .run)) 𝓜 𝓡 code.env #text_read·read-text read-def.routine code.calls-text-read·read-text
     (read-thm.met 𝓤 H 𝓜 𝓖 𝓡))
-    (cited 𝓤 H (Refusal 𝓤 H (𝓖 .A) (𝓜 .mem) (𝓡 .run)) 𝓜 𝓡 code.env #exports·refusal-word refusal-def.routine code.calls-exports·refusal-word
+    (cited 𝓤 H (Refusal 𝓤 H (𝓖 .A) (𝓜 .mem) (𝓡 .run)) 𝓜 𝓡 code.env #export_word·refusal-word refusal-def.routine code.calls-export-word·refusal-word
     (refusal-thm.met 𝓤 H 𝓜 𝓖 𝓡))
     (cited 𝓤 H (Put 𝓤 H (𝓖 .A) (𝓜 .mem) (𝓡 .run)) 𝓜 𝓡 code.env #edge_list·put-workload-edges put-def.routine
     code.calls-edge-list·put-workload-edges (put-thm.met 𝓤 H 𝓜 𝓖 𝓡))

@@ -49,9 +49,6 @@ mul-print-unfolding-2 c = search needs
 array-read-print-unfolding-3 : tie.Need-array-read-print-unfolding-3 Inv-loop μ-loop
 array-read-print-unfolding-3 c = search needs
 
-slice-aggregate-print-unfolding : tie.Need-slice-aggregate-print-unfolding Inv-loop μ-loop
-slice-aggregate-print-unfolding c = search needs
-
 print-unfolding-requires : tie.Need-print-unfolding-requires Inv-loop μ-loop
 print-unfolding-requires c κs = search needs
 
@@ -86,7 +83,6 @@ list-unfoldings-spec =
     array-read-print-unfolding-2
     mul-print-unfolding-2
     array-read-print-unfolding-3
-    slice-aggregate-print-unfolding
     print-unfolding-requires
     add-i
     loop-less

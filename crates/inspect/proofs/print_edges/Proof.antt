@@ -28,8 +28,17 @@ edge-from-requires c κs = search needs
 print-found-requires : tie.Need-print-found-requires Inv-loop μ-loop
 print-found-requires c κs = search needs
 
-behind-requires : tie.Need-behind-requires Inv-loop μ-loop
-behind-requires c κs = search needs
+mul-from : tie.Need-mul-from Inv-loop μ-loop
+mul-from c = search needs
+
+mul-from-2 : tie.Need-mul-from-2 Inv-loop μ-loop
+mul-from-2 c = search needs
+
+rem-from : tie.Need-rem-from Inv-loop μ-loop
+rem-from c = search needs
+
+add-from : tie.Need-add-from Inv-loop μ-loop
+add-from c = search needs
 
 add-k : tie.Need-add-k Inv-loop μ-loop
 add-k c = search needs
@@ -55,7 +64,10 @@ print-edges-spec =
     loop-holds
     edge-from-requires
     print-found-requires
-    behind-requires
+    mul-from
+    mul-from-2
+    rem-from
+    add-from
     add-k
     loop-less
     loop-again

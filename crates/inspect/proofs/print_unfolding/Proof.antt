@@ -1,18 +1,17 @@
--- It is safe and ends: the measure is the number of statements left to print.
+-- It is safe and ends: the place of a statement is taken within the area, and the measure is the number of statements left to print.
 use borrow.Author.Needs.{needs}
-use Prim.Native.Nat.{_≤_}
-use lib.ListN.{length}
+use Prim.Native.Nat.{_-_, _≤_}
 use Rattle.inspect.proofs.print_unfolding.Statement.{statement}
 use Rattle.inspect.proofs.print_unfolding.Tie as tie
 
 abbrev Inv-loop : tie.InvT-loop
-Inv-loop node program start length statements at₀ left₀ t8 at left = left ≤ length
+Inv-loop node program start length statements k₀ t8 k = k ≤ length
 
 abbrev μ-loop : tie.MeasureT-loop
-μ-loop node program start length statements at₀ left₀ t8 at left = left
+μ-loop node program start length statements k₀ t8 k = length - k
 
-print-number-requires : tie.Need-print-number-requires Inv-loop μ-loop
-print-number-requires c κs = search needs
+print-decimal-requires : tie.Need-print-decimal-requires Inv-loop μ-loop
+print-decimal-requires c κs = search needs
 
 print-next-requires : tie.Need-print-next-requires Inv-loop μ-loop
 print-next-requires c κs = search needs
@@ -26,17 +25,20 @@ print-next-requires-3 c κs = search needs
 loop-holds : tie.Need-loop-holds Inv-loop μ-loop
 loop-holds c = search needs
 
-word-at-requires : tie.Need-word-at-requires Inv-loop μ-loop
-word-at-requires c κs = search needs
+add-at : tie.Need-add-at Inv-loop μ-loop
+add-at c = search needs
+
+mul-print-next : tie.Need-mul-print-next Inv-loop μ-loop
+mul-print-next c = search needs
+
+element-copy-out-print-next : tie.Need-element-copy-out-print-next Inv-loop μ-loop
+element-copy-out-print-next c = search needs
 
 print-next-requires-4 : tie.Need-print-next-requires-4 Inv-loop μ-loop
 print-next-requires-4 c κs = search needs
 
-more-requires : tie.Need-more-requires Inv-loop μ-loop
-more-requires c κs = search needs
-
-sub-left : tie.Need-sub-left Inv-loop μ-loop
-sub-left c = search needs
+add-k : tie.Need-add-k Inv-loop μ-loop
+add-k c = search needs
 
 loop-less : tie.Need-loop-less Inv-loop μ-loop
 loop-less c = search needs
@@ -59,15 +61,16 @@ print-unfolding-spec =
     (tie.spec
     Inv-loop
     μ-loop
-    print-number-requires
+    print-decimal-requires
     print-next-requires
     print-next-requires-2
     print-next-requires-3
     loop-holds
-    word-at-requires
+    add-at
+    mul-print-next
+    element-copy-out-print-next
     print-next-requires-4
-    more-requires
-    sub-left
+    add-k
     loop-less
     loop-again
     slice-aggregate-print

@@ -11,7 +11,7 @@ use borrow.Fn.PlainCycle.{Measures, is, falls, and}
 use Rattle.report_print.proofs.put_decimal.Reads as put-decimal
 use Rattle.report_print.proofs.put_decimal.Kinds as put-decimal-kinds
 use Rattle.report_print.proofs.+put_decimal.Lts-put_decimal as put-decimal-lts
-use Rattle.report_print.proofs.digit_byte.Reads as digit-byte-reads
+use Rattle.report_bytes.proofs.digit_byte.Reads as digit-byte-reads
 use Rattle.report_print.proofs.put_byte.Reads as put-byte-reads
 use Rattle.report_print.proofs.+put_decimal.{statement}
 use Rattle.report_print.proofs.+put_decimal.Tie.{close}

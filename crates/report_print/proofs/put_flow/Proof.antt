@@ -9,7 +9,7 @@ use Rattle.report_print.proofs.put_flow.Statement.{statement}
 use Rattle.report_print.proofs.put_flow.Tie as tie
 use Rattle.report_print.proofs.put_flow.Reads as reads
 use Rattle.report_print.proofs.put_flow.Lts as lts
-use Rattle.report_print.proofs.flow_letter.Reads as flow-letter-reads
+use Rattle.report_bytes.proofs.flow_letter.Reads as flow-letter-reads
 use Rattle.report_print.proofs.put_byte.Reads as put-byte-reads
 
 put-byte-requires : tie.Need-put-byte-requires

@@ -1,0 +1,1 @@
+// Laws alone: the number and the line of a refused text.
