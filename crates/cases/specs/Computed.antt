@@ -13,7 +13,7 @@ use Rattle.spec_text.specs.declared.Line.{Line}
 use Rattle.spec_text.specs.Reading.{Outcome, read}
 use Rattle.spec_text.specs.Reading.Outcome.{refused, accepted}
 use Rattle.spec_text.specs.Quoted.{readBytes}
-use Rattle.spec_graph.specs.Program.{statementOf, behind, runOf, linksOf, programsOf}
+use Rattle.spec_graph.specs.Program.{statementOf, inFrontOf, runOf, linksOf, programsOf}
 use Rattle.spec_graph.specs.Unfolding.{inside, occurrences, pairs, unfoldings, nodesOfProgram, nodesFrom, nodesOf}
 use Rattle.spec_graph.specs.Edge.{W, R, T, holds, sameRelation, leads, binds, guarded, shielded, forward, back, placesFrom, placesOf, letterOf}
 use Rattle.spec_graph.specs.Edge.{shared, edgeOf, edgesBetween, edgesOf, placeAt, graphOf}
@@ -127,7 +127,7 @@ passes-holds text (isDanger p n e b) h =
 unfoldable pub allPass : List Case → Bool
 unfolding
     passes agrees passesLines passesOutcome refuses sameCounts readBytes countsOf tooMany statementsIn summaryGraph
-    statementOf behind runOf linksOf programsOf inside occurrences pairs flatMap unfoldings nodesOfProgram nodesFrom nodesOf
+    statementOf inFrontOf runOf linksOf programsOf inside occurrences pairs flatMap unfoldings nodesOfProgram nodesFrom nodesOf
     W R T holds sameRelation leads binds guarded shielded forward back placesFrom placesOf letterOf shared edgeOf edgesBetween edgesOf placeAt
     graphOf onesIn trailingZeros leavesFor joins joinedTo grow reachedFrom opens closesAt dangerTest
 allPass table = all (λ c. passes (c .text) (c .expected)) table

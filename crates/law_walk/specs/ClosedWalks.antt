@@ -148,9 +148,9 @@ hop-pair g h next fits q e fits′ first first′ =
 
     never : (passed ≡ false) × (g .loose (h .node) (h .leaves) ≡ false) → ⊥
     never (a, b) =
-        let behind = ltb-false (q .0 .leaves) (h .enters) (or-false (isBack (stepOf (h, next) .flow)) _ a .1) in
+        let notEarlier = ltb-false (q .0 .leaves) (h .enters) (or-false (isBack (stepOf (h, next) .flow)) _ a .1) in
         let waits = fits .firm b in
-        let left : h .commit < next .left = fits .after waits (rw e behind) in
+        let left : h .commit < next .left = fits .after waits (rw e notEarlier) in
         let before = fits′ .early earlier in
         let same = ap (λ (x : Hop). x .left) e in
         omega arith

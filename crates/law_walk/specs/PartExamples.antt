@@ -12,7 +12,7 @@ use Rattle.spec_text.specs.declared.LineKind.{LineKind}
 use Rattle.spec_text.specs.declared.LineKind.the-variants.{Rl, Pr, St}
 use Rattle.spec_text.specs.declared.StatementKind.the-variants.{Ks, Ku}
 use Rattle.spec_graph.specs.Graph.{Flow}
-use Rattle.spec_graph.specs.Program.{statementOf, behind, runOf, programsOf, linksOf}
+use Rattle.spec_graph.specs.Program.{statementOf, inFrontOf, runOf, programsOf, linksOf}
 use Rattle.spec_graph.specs.Unfolding.{Node, inside, occurrences, pairs, unfoldings, nodesOfProgram, nodesFrom, nodesOf}
 use Rattle.spec_graph.specs.Edge.{W, R, T, holds, sameRelation, leads, binds, guarded, shielded, forward, back, placeAt, graphOf}
 use Rattle.spec_graph.specs.Walk.{Step, isEdge, dangerousPair, isDangerous, DangerousWalk}
@@ -39,7 +39,7 @@ lines =
     ∷ []
 
 nodes : List Node
-unfolding lines statementOf behind runOf linksOf programsOf inside occurrences pairs flatMap unfoldings nodesOfProgram nodesFrom nodesOf
+unfolding lines statementOf inFrontOf runOf linksOf programsOf inside occurrences pairs flatMap unfoldings nodesOfProgram nodesFrom nodesOf
 nodes = nodesOf lines
 
 abbrev step : ℕ → ℕ → ℕ → Flow → Step

@@ -12,7 +12,7 @@ use Rattle.spec_text.specs.declared.LineKind.{LineKind}
 use Rattle.spec_text.specs.declared.LineKind.the-variants.{Rl, Pr, St}
 use Rattle.spec_text.specs.declared.StatementKind.the-variants.{Is, Ks, Ps, Ku}
 use Rattle.spec_graph.specs.Graph.{Flow, Graph}
-use Rattle.spec_graph.specs.Program.{statementOf, behind, runOf, programsOf, linksOf}
+use Rattle.spec_graph.specs.Program.{statementOf, inFrontOf, runOf, programsOf, linksOf}
 use Rattle.spec_graph.specs.Unfolding.{inside, occurrences, pairs, unfoldings, nodesOfProgram, nodesFrom, nodesOf}
 use Rattle.spec_graph.specs.Edge.{W, R, T, holds, sameRelation, leads, binds, guarded, shielded, forward, back, placeAt, graphOf}
 use Rattle.law_walk.specs.ClosedWalks.{Hop, Fits}
@@ -125,7 +125,7 @@ abbrev line : LineKind → ℕ → ℕ → ℕ → ℕ → ℕ → ℕ → Line
 line k a b c r w t = record { kind = k; id = a; rel = b; to = c; reads = r; writes = w; tests = t }
 
 robust : List Line → Bool
-unfolding statementOf behind runOf linksOf programsOf inside occurrences pairs flatMap unfoldings nodesOfProgram nodesFrom nodesOf
+unfolding statementOf inFrontOf runOf linksOf programsOf inside occurrences pairs flatMap unfoldings nodesOfProgram nodesFrom nodesOf
     W R T holds sameRelation leads binds guarded shielded forward back placeAt graphOf
     leavesFor joins joinedTo grow reachedFrom opens closesAt dangerTest
 robust lines = not (dangerTest (graphOf (nodesOf lines)))

@@ -10,7 +10,7 @@ use Rattle.spec_text.specs.declared.Line.{Line}
 use Rattle.spec_text.specs.declared.LineKind.{LineKind}
 use Rattle.spec_text.specs.declared.LineKind.the-variants.{Rl, Fk, Pr, St, Lo, Br, El, En, Li}
 use Rattle.spec_text.specs.declared.StatementKind.{StatementKind}
-use Rattle.spec_graph.specs.Program.{Statement, Item, Run, Program, Parsed, statementOf, behind, runOf, linksOf, programsOf}
+use Rattle.spec_graph.specs.Program.{Statement, Item, Run, Program, Parsed, statementOf, inFrontOf, runOf, linksOf, programsOf}
 use Rattle.spec_graph.specs.Program.Item.{statement, loop, branch}
 use Rattle.spec_graph.specs.Program.Run.{done, next}
 use Rattle.spec_graph.specs.Unfolding.{Execution, ItemExecution, Turns, Occurrence, inside, occurrences, itemOccurrences, turnOccurrences}
@@ -86,9 +86,9 @@ module _ (P : Statement → Type 0) where
     pub run : AllRun (p .run)
     pub rest : OnLines (p .rest)
 
-  reads-behind : (x : Item) (p : Parsed) → AllItem x → Reads p → Reads (behind x p)
-  unfolding behind
-  reads-behind x p h r = record { run = (h, r .run); rest = r .rest }
+  reads-in-front : (x : Item) (p : Parsed) → AllItem x → Reads p → Reads (inFrontOf x p)
+  unfolding inFrontOf
+  reads-in-front x p h r = record { run = (h, r .run); rest = r .rest }
 
   pub run-holds : (n : ℕ) (lines : List Line) → OnLines lines → Reads (runOf n lines)
   unfolding runOf
@@ -102,12 +102,12 @@ module _ (P : Statement → Type 0) where
       parsed : LineKind → Parsed
       parsed kind =
           elim kind [
-            | St k ↦ behind (statement (statementOf k l)) (runOf n lines)
-            | Lo ↦ let body = runOf n lines in behind (loop (body .run)) (runOf n (tail (body .rest)))
+            | St k ↦ inFrontOf (statement (statementOf k l)) (runOf n lines)
+            | Lo ↦ let body = runOf n lines in inFrontOf (loop (body .run)) (runOf n (tail (body .rest)))
             | Br ↦
                 let one = runOf n lines in
                 let two = runOf n (tail (one .rest)) in
-                behind (branch (one .run) (two .run)) (runOf n (tail (two .rest)))
+                inFrontOf (branch (one .run) (two .run)) (runOf n (tail (two .rest)))
             | Rl ↦ here
             | Fk ↦ here
             | Pr ↦ here
@@ -121,16 +121,16 @@ module _ (P : Statement → Type 0) where
 
       go : (c : LineKind) → l .kind ≡ c → ((lines : List Line) → OnLines lines → Reads (runOf n lines)) → Reads (parsed c)
       go (St k) e again =
-          reads-behind (statement (statementOf k l)) (runOf n lines) (h k l (List·Memᴰ·head refl) e) (again lines (fewer l lines h))
+          reads-in-front (statement (statementOf k l)) (runOf n lines) (h k l (List·Memᴰ·head refl) e) (again lines (fewer l lines h))
       go Lo e again =
           let body = again lines (fewer l lines h) in
           let onward = rest-of (runOf n lines .rest) (body .rest) in
-          reads-behind (loop (runOf n lines .run)) (runOf n (tail (runOf n lines .rest))) (body .run) (again (tail (runOf n lines .rest)) onward)
+          reads-in-front (loop (runOf n lines .run)) (runOf n (tail (runOf n lines .rest))) (body .run) (again (tail (runOf n lines .rest)) onward)
       go Br e again =
           let one = again lines (fewer l lines h) in
           let after = tail (runOf n lines .rest) in
           let two = again after (rest-of (runOf n lines .rest) (one .rest)) in
-          reads-behind (branch (runOf n lines .run) (runOf n after .run)) (runOf n (tail (runOf n after .rest))) (one .run, two .run)
+          reads-in-front (branch (runOf n lines .run) (runOf n after .run)) (runOf n (tail (runOf n after .rest))) (one .run, two .run)
           (again (tail (runOf n after .rest)) (rest-of (runOf n after .rest) (two .rest)))
       go Rl e again = stops
       go Fk e again = stops

@@ -9,7 +9,7 @@ use Rattle.spec_text.specs.declared.LineKind.{LineKind}
 use Rattle.spec_text.specs.declared.LineKind.the-variants.{Rl, Fk, Pr, St, Lo, Br, El, En, Li}
 use Rattle.spec_text.specs.declared.StatementKind.the-variants.{Is, Ks, Ps, Ku, Pu, Kd, Pd}
 use Rattle.spec_graph.specs.Graph.{Flow, Graph, isBack}
-use Rattle.spec_graph.specs.Program.{statementOf, behind, runOf, programsOf, linksOf}
+use Rattle.spec_graph.specs.Program.{statementOf, inFrontOf, runOf, programsOf, linksOf}
 use Rattle.spec_graph.specs.Unfolding.{inside, occurrences, pairs, unfoldings, nodesOfProgram, nodesFrom, nodesOf}
 use Rattle.spec_graph.specs.Edge.{Letter, Edge, W, R, T, holds, sameRelation, leads, binds, guarded, shielded, forward, back}
 use Rattle.spec_graph.specs.Edge.{placesFrom, placesOf, letterOf, shared, edgeOf, edgesBetween, edgesOf, placeAt, graphOf}
@@ -70,7 +70,7 @@ li id rel to = line Li id rel to 0 0 0
 
 -- its nodes: of each the program's number and the ids of the statements; whoever unfolds this can compute unfoldings
 unfoldable pub nodes : List Line → List (ℕ × List ℕ)
-unfolding statementOf behind runOf linksOf programsOf inside occurrences pairs flatMap unfoldings nodesOfProgram nodesFrom nodesOf
+unfolding statementOf inFrontOf runOf linksOf programsOf inside occurrences pairs flatMap unfoldings nodesOfProgram nodesFrom nodesOf
 nodes lines = map (λ n. (n .program, map (λ o. o .statement .id) (n .places))) (nodesOf lines)
 
 -- the ids of the statements of each node, for a workload of one program with these lines

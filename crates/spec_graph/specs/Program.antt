@@ -46,22 +46,22 @@ pub record Parsed : Type 0 where
   pub rest : List Line
 
 -- an item in front of a run
-unfoldable pub behind : Item → Parsed → Parsed
-behind x p = record { run = next x (p .run); rest = p .rest }
+unfoldable pub inFrontOf : Item → Parsed → Parsed
+inFrontOf x p = record { run = next x (p .run); rest = p .rest }
 
 -- T8: the run that begins at the first line, up to the first line that is neither a statement's nor inside a block of its own.
--- Behind a loop's body stands its `en`, after a first arm its `el`, after a second arm its `en`. The number bounds the lines.
+-- After a loop's body stands its `en`, after a first arm its `el`, after a second arm its `en`. The number bounds the lines.
 unfoldable pub runOf : ℕ → List Line → Parsed
 runOf zero lines = record { run = done; rest = lines }
 runOf (suc n) [] = record { run = done; rest = [] }
 runOf (suc n) (l ∷ lines) =
     elim (l .kind) [
-      | St k ↦ behind (statement (statementOf k l)) (runOf n lines)
-      | Lo ↦ let body = runOf n lines in behind (loop (body .run)) (runOf n (tail (body .rest)))
+      | St k ↦ inFrontOf (statement (statementOf k l)) (runOf n lines)
+      | Lo ↦ let body = runOf n lines in inFrontOf (loop (body .run)) (runOf n (tail (body .rest)))
       | Br ↦
           let one = runOf n lines in
           let two = runOf n (tail (one .rest)) in
-          behind (branch (one .run) (two .run)) (runOf n (tail (two .rest)))
+          inFrontOf (branch (one .run) (two .run)) (runOf n (tail (two .rest)))
       | Rl ↦ record { run = done; rest = l ∷ lines }
       | Fk ↦ record { run = done; rest = l ∷ lines }
       | Pr ↦ record { run = done; rest = l ∷ lines }

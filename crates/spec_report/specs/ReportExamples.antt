@@ -18,7 +18,7 @@ use Rattle.spec_text.specs.Text.{digit, digitsOf}
 use Rattle.spec_text.specs.Value.{valueOf, linesOf}
 use Rattle.spec_text.specs.Quoted.{bytes, text, readBytes}
 use Rattle.spec_graph.specs.Graph.{Flow}
-use Rattle.spec_graph.specs.Program.{statementOf, behind, runOf, linksOf, programsOf}
+use Rattle.spec_graph.specs.Program.{statementOf, inFrontOf, runOf, linksOf, programsOf}
 use Rattle.spec_graph.specs.Unfolding.{inside, occurrences, pairs, unfoldings, nodesOfProgram, nodesFrom, nodesOf}
 use Rattle.spec_graph.specs.Edge.{W, R, T, holds, sameRelation, leads, binds, guarded, shielded, forward, back, placesFrom, placesOf, letterOf}
 use Rattle.spec_graph.specs.Edge.{shared, edgeOf, edgesBetween, edgesOf, placeAt, graphOf}
@@ -45,7 +45,7 @@ updates n = replicate n (line (St Ku))
 
 many : List Line → Bool
 unfolding
-    line branches updates statementsIn tooMany statementOf behind runOf linksOf programsOf inside occurrences pairs flatMap unfoldings nodesOfProgram
+    line branches updates statementsIn tooMany statementOf inFrontOf runOf linksOf programsOf inside occurrences pairs flatMap unfoldings nodesOfProgram
     nodesFrom nodesOf
 many lines = tooMany lines
 

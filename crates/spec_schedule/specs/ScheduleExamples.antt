@@ -8,7 +8,7 @@ use Prim.Native.Nat.{ℕ, suc, _+_, _*_, _%_}
 use Rattle.spec_text.specs.declared.Line.{Line}
 use Rattle.spec_text.specs.declared.LineKind.{LineKind}
 use Rattle.spec_text.specs.declared.StatementKind.{StatementKind}
-use Rattle.spec_graph.specs.Program.{Statement, Program, statementOf, behind, runOf, linksOf, programsOf, Run}
+use Rattle.spec_graph.specs.Program.{Statement, Program, statementOf, inFrontOf, runOf, linksOf, programsOf, Run}
 use Rattle.spec_graph.specs.Unfolding.{Occurrence, inside, occurrences}
 use Rattle.spec_graph.specs.Edge.{W, R, T, leads, binds}
 use Rattle.spec_schedule.specs.Event.{Action, Event, by, writesTo, pastAt, writesOf, committed, seen, source, existence, visible}
@@ -49,7 +49,7 @@ event i k p action r t x = record { transaction = i; number = k; place = p; acti
 
 -- opens what a workload and its transactions compute with
 unfoldable pub openWorkload : Bool
-unfolding statementOf behind runOf linksOf programsOf inside occurrences flatMap W R T leads binds
+unfolding statementOf inFrontOf runOf linksOf programsOf inside occurrences flatMap W R T leads binds
     performedFrom performed onTuple operationsOf operations numbered eventsOf linkKept keysKept
 openWorkload = true
 
@@ -246,13 +246,13 @@ delete-twice : rules (does 0 0 delete 0 ∷ does 0 1 delete 0 ∷ []) ≡ false
 unfolding openRules
 delete-twice = refl
 
-nothing-behind : deletesLast (does 0 0 delete 0 ∷ []) (does 0 1 write 0) ≡ false
+nothing-after : deletesLast (does 0 0 delete 0 ∷ []) (does 0 1 write 0) ≡ false
 unfolding openRules
-nothing-behind = refl
+nothing-after = refl
 
-other-behind : deletesLast (does 0 0 delete 0 ∷ []) (does 0 1 write 1) ≡ true
+other-after : deletesLast (does 0 0 delete 0 ∷ []) (does 0 1 write 1) ≡ true
 unfolding openRules
-other-behind = refl
+other-after = refl
 
 -- H6: what is read is visible in the version seen
 read-visible : rules (does 0 0 read 0 ∷ []) ≡ true
@@ -685,10 +685,10 @@ link-refused s e m =
 
 -- ---- H8: a schedule holds all operations of transactions of the workload's programs, and nothing else
 
-commit-behind : (i k : ℕ) (l : List Operation) (o : Operation) → numbered i k (l ++ (o ∷ [])) ≡ [] → ⊥
+commit-after : (i k : ℕ) (l : List Operation) (o : Operation) → numbered i k (l ++ (o ∷ [])) ≡ [] → ⊥
 unfolding numbered
-commit-behind i k [] o e = omega (arith, ap length e)
-commit-behind i k (p ∷ l) o e = omega (arith, ap length e)
+commit-after i k [] o e = omega (arith, ap length e)
+commit-after i k (p ∷ l) o e = omega (arith, ap length e)
 
 -- each transaction has its events
 none-left-out : {lines : List Line} (s : Schedule lines) → s .events ≡ [] → s .transactions ≡ []
@@ -699,7 +699,7 @@ none-left-out s e = go (s .transactions) refl
     go [] h = refl
     go (x ∷ l) h =
         absurd
-        (commit-behind 0 0 (flatMap operationsOf (performed x)) _
+        (commit-after 0 0 (flatMap operationsOf (performed x)) _
         (sym (s .whole 0 x (ap (λ m. getElem? m 0) h)) ∙ ap (keep (by 0)) e))
 
 -- each event is of a transaction
@@ -762,33 +762,33 @@ unfolding openRules
 state-start a = refl
 
 -- transaction 0 writes tuple 0 and commits, then transaction 1 reads it
-abbrev readBehind : List Event
-readBehind = does 0 0 write 0 ∷ does 0 1 commit 0 ∷ does 1 0 read 0 ∷ []
+abbrev readAfter : List Event
+readAfter = does 0 0 write 0 ∷ does 0 1 commit 0 ∷ does 1 0 read 0 ∷ []
 
 -- X4: the read takes the write, so not the start
-read-same : SameRead readBehind 2 (does 1 0 read 0) (λ r t. does 0 0 write 0 ∷ [])
+read-same : SameRead readAfter 2 (does 1 0 read 0) (λ r t. does 0 0 write 0 ∷ [])
 unfolding openRules
 read-same a h = refl
 
-read-other : SameRead readBehind 2 (does 1 0 read 0) (λ r t. []) → ⊥
+read-other : SameRead readAfter 2 (does 1 0 read 0) (λ r t. []) → ⊥
 unfolding openRules
 read-other f = Option·some-ne-none _ (f 0 refl)
 
 -- transaction 0 writes tuple 5 and commits, then transaction 1 tests its attribute
-abbrev testBehind : List Event
-testBehind = does 0 0 write 5 ∷ does 0 1 commit 0 ∷ does 1 0 predicateRead 0 ∷ []
+abbrev testAfter : List Event
+testAfter = does 0 0 write 5 ∷ does 0 1 commit 0 ∷ does 1 0 predicateRead 0 ∷ []
 
 -- X5: the predicate read takes the write of a tested attribute of every tuple of the relation, so not the start
-test-other : SamePredicateRead testBehind 2 (does 1 0 predicateRead 0) (λ r t. []) → ⊥
+test-other : SamePredicateRead testAfter 2 (does 1 0 predicateRead 0) (λ r t. []) → ⊥
 unfolding openRules
 test-other f = Option·some-ne-none _ (f .attributes 5 0 refl)
 
 -- transaction 0 inserts tuple 5 and commits, then transaction 1 reads by a predicate that tests nothing
-abbrev existsBehind : List Event
-existsBehind = event 0 0 0 insert 0 5 0xffff_ffff_ffff_ffff ∷ does 0 1 commit 0 ∷ event 1 0 0 predicateRead 0 0 0 ∷ []
+abbrev existsAfter : List Event
+existsAfter = event 0 0 0 insert 0 5 0xffff_ffff_ffff_ffff ∷ does 0 1 commit 0 ∷ event 1 0 0 predicateRead 0 0 0 ∷ []
 
 -- X5: the predicate read takes existence too
-exists-other : SamePredicateRead existsBehind 2 (event 1 0 0 predicateRead 0 0 0) (λ r t. []) → ⊥
+exists-other : SamePredicateRead existsAfter 2 (event 1 0 0 predicateRead 0 0 0) (λ r t. []) → ⊥
 unfolding openRules
 exists-other f = Option·some-ne-none _ (f .exists 5)
 

@@ -11,7 +11,7 @@ use Rattle.spec_text.specs.declared.LineKind.{LineKind}
 use Rattle.spec_text.specs.declared.LineKind.the-variants.{Rl, Fk, Pr, St, Lo, Br, El, En, Li}
 use Rattle.spec_text.specs.declared.StatementKind.{StatementKind}
 use Rattle.spec_text.specs.Reading.{isStatement, isStatementOf, loop, firstArm, secondArm}
-use Rattle.spec_graph.specs.Program.{Parsed, runOf, behind}
+use Rattle.spec_graph.specs.Program.{Parsed, runOf, inFrontOf}
 use Rattle.unfold_laws.specs.Along.{asks, Along}
 use Rattle.unfold_laws.specs.Codes.{codeOf}
 use Rattle.unfold_laws.specs.CodesLaws.{run-ends, run-statement, run-loop, run-branch}
@@ -220,7 +220,7 @@ module _ (body : List Line) where
     tail-fewer (l ∷ lines) = omega arith
 
     run-stays : (n : ℕ) (parts : List ℕ) (lines : List Line) → length lines ≤ n → Inside body parts lines → Stays n parts lines
-    unfolding runOf Along asks codeOf behind
+    unfolding runOf Along asks codeOf inFrontOf
     run-stays zero parts [] m h = record { along = _; inside = h; ended = _; fewer = omega arith }
     run-stays zero parts (l ∷ lines) m h = absurd (omega arith)
     run-stays (suc n) parts [] m h = record { along = _; inside = h; ended = _; fewer = omega arith }

@@ -15,7 +15,7 @@ use Rattle.spec_text.specs.declared.LineKind.{LineKind}
 use Rattle.spec_text.specs.declared.LineKind.the-variants.{Rl, Fk, Pr, St, Lo, Br, El, En, Li}
 use Rattle.spec_text.specs.declared.StatementKind.{StatementKind}
 use Rattle.spec_text.specs.declared.StatementKind.the-variants.{Is}
-use Rattle.spec_graph.specs.Program.{Item, Run, Parsed, runOf, behind, statementOf}
+use Rattle.spec_graph.specs.Program.{Item, Run, Parsed, runOf, inFrontOf, statementOf}
 use Rattle.spec_graph.specs.Program.Item.{statement, loop, branch}
 use Rattle.spec_graph.specs.Program.Run.{done, next}
 use Rattle.unfold_laws.specs.declared.Counted.{Counted}
@@ -56,7 +56,7 @@ pub record CountsPlace (lines : List Line) (left : ℕ) (x : Item) (more : Run) 
 record Begins (lines : List Line) (n at : ℕ) : Type 0 where
   item : Item
   rest : List Line
-  read : runOf (suc n) (drop at lines) ≡ behind item (runOf n rest)
+  read : runOf (suc n) (drop at lines) ≡ inFrontOf item (runOf n rest)
   counted : CountsItem lines item rest (itemAt (countAt n (codesOf lines)) (codesOf lines) at)
 
 -- after a closing line
@@ -99,8 +99,8 @@ counts-branch lines p q c d h k =
     }
 
 counts-next : (lines : List Line) (x : Item) (rest : List Line) (p : Parsed) (c d : Counted) → CountsItem lines x rest c → Counts lines p d
-    → Counts lines (behind x p) (nextCounted c d)
-unfolding nextCounted countRun statementsRun behind
+    → Counts lines (inFrontOf x p) (nextCounted c d)
+unfolding nextCounted countRun statementsRun inFrontOf
 counts-next lines x rest p c d h k =
     record {
       counts = times-same (stopped (h .counts)) (stopped (k .counts));
@@ -132,18 +132,18 @@ run-ends n l lines En e h = rw (e, runOf) (rw (← e) refl)
 run-ends n l lines Li e h = rw (e, runOf) (rw (← e) refl)
 
 pub run-statement : (n : ℕ) (l : Line) (lines : List Line) (k : StatementKind) → l .kind ≡ St k
-    → runOf (suc n) (l ∷ lines) ≡ behind (statement (statementOf k l)) (runOf n lines)
+    → runOf (suc n) (l ∷ lines) ≡ inFrontOf (statement (statementOf k l)) (runOf n lines)
 unfolding runOf
 run-statement n l lines k e = rw (e, runOf) (rw (← e) refl)
 
 pub run-loop : (n : ℕ) (l : Line) (lines : List Line) → l .kind ≡ Lo
-    → runOf (suc n) (l ∷ lines) ≡ behind (loop (runOf n lines .run)) (runOf n (tail (runOf n lines .rest)))
+    → runOf (suc n) (l ∷ lines) ≡ inFrontOf (loop (runOf n lines .run)) (runOf n (tail (runOf n lines .rest)))
 unfolding runOf
 run-loop n l lines e = rw (e, runOf)
 
 pub run-branch : (n : ℕ) (l : Line) (lines : List Line) → l .kind ≡ Br
     → runOf (suc n) (l ∷ lines)
-    ≡ behind (branch (runOf n lines .run) (runOf n (tail (runOf n lines .rest)) .run)) (runOf n (tail (runOf n (tail (runOf n lines .rest)) .rest)))
+    ≡ inFrontOf (branch (runOf n lines .run) (runOf n (tail (runOf n lines .rest)) .run)) (runOf n (tail (runOf n (tail (runOf n lines .rest)) .rest)))
 unfolding runOf
 run-branch n l lines e = rw (e, runOf)
 
@@ -201,7 +201,7 @@ module _ (lines : List Line) where
   -- an item and the run after it
   counts-on : (n at : ℕ) (x : Item) (rest : List Line) (c : Counted) → CountsItem lines x rest c
       → ((e : ℕ) → Counts lines (runOf n (drop e lines)) (countAt n (codesOf lines) e))
-      → Counts lines (behind x (runOf n rest)) (nextCounted c (countAt n (codesOf lines) (c .end)))
+      → Counts lines (inFrontOf x (runOf n rest)) (nextCounted c (countAt n (codesOf lines) (c .end)))
   counts-on n at x rest c h onward =
       counts-next lines x rest (runOf n rest) c (countAt n (codesOf lines) (c .end)) h (rw (h .leaves) (onward (c .end)))
 
@@ -301,7 +301,7 @@ module _ (lines : List Line) where
   -- an item that the run at a place begins with: what is counted there is what it counts, up to the run after it
   begun : (n at : ℕ) (x : Item) (more : Run) → Begins lines n at → runOf (suc n) (drop at lines) .run ≡ next x more
       → CountsPlace lines n x more (itemAt (countAt n (codesOf lines)) (codesOf lines) at)
-  unfolding behind
+  unfolding inFrontOf
   begun n at x more b e =
       let same : _≡_ {A = Run} (next (b .item) (runOf n (b .rest) .run)) (next x more) = rw (b .read) at e in
       let first : b .item ≡ x = cc in

@@ -7,7 +7,7 @@ use Rattle.spec_text.specs.declared.LineKind.{LineKind}
 use Rattle.spec_text.specs.declared.LineKind.the-variants.{Pr, St}
 use Rattle.spec_text.specs.declared.StatementKind.the-variants.{Ps}
 use Rattle.spec_text.specs.Reading.{sort, isProgram, isStatement, isStatementOf, beforeStatement}
-use Rattle.spec_graph.specs.Program.{programsOf, runOf, linksOf, behind, statementOf}
+use Rattle.spec_graph.specs.Program.{programsOf, runOf, linksOf, inFrontOf, statementOf}
 use Rattle.spec_graph.specs.Unfolding.{nodesOf, nodesFrom, nodesOfProgram, unfoldings, occurrences, pairs}
 use Rattle.unfold_laws.specs.Seen.{seenAt}
 use Rattle.unfold_laws.specs.Places.{firstLine, ownLine, placeWord, nodeWords, placeWords}
@@ -23,5 +23,5 @@ two = begins 0 ∷ select ∷ begins 1 ∷ select ∷ []
 
 own-lines : placeWords two (nodesOf two) ≡ 1 ∷ 3 ∷ []
 unfolding two begins select placeWords nodeWords placeWord ownLine firstLine beforeStatement isProgram isStatement isStatementOf sort
-    nodesOf nodesFrom nodesOfProgram programsOf runOf linksOf behind statementOf unfoldings occurrences pairs flatMap seenAt
+    nodesOf nodesFrom nodesOfProgram programsOf runOf linksOf inFrontOf statementOf unfoldings occurrences pairs flatMap seenAt
 own-lines = refl

@@ -15,7 +15,7 @@ use Rattle.spec_text.specs.declared.Line.{Line}
 use Rattle.spec_text.specs.declared.LineKind.{LineKind}
 use Rattle.spec_text.specs.declared.LineKind.the-variants.{Rl, Fk, Pr, St, Lo, Br, El, En, Li}
 use Rattle.spec_text.specs.declared.StatementKind.{StatementKind}
-use Rattle.spec_graph.specs.Program.{Statement, Item, Run, runOf, behind, statementOf}
+use Rattle.spec_graph.specs.Program.{Statement, Item, Run, runOf, inFrontOf, statementOf}
 use Rattle.spec_graph.specs.Program.Item.{statement, loop, branch}
 use Rattle.spec_graph.specs.Unfolding.{Around, Occurrence, inside}
 use Rattle.spec_graph.specs.Edge.{leads}
@@ -262,12 +262,12 @@ module _ (P : List Line → Type 0) (Word : Statement → ℕ → Type 0) (mark 
 
   -- a statement and the run after it
   statement-next : (n at i k seen all : ℕ) (before : List Occurrence) (s : Statement) → at < length (codesOf lines)
-      → getD (codesOf lines) at 0 ≡ 0 → runOf (suc n) (drop at lines) ≡ behind (statement s) (runOf n (drop (at + 1) lines))
+      → getD (codesOf lines) at 0 ≡ 0 → runOf (suc n) (drop at lines) ≡ inFrontOf (statement s) (runOf n (drop (at + 1) lines))
       → Word s (getD words at 0) → getD marks at 0 ≡ mark s → Along P n (drop (at + 1) lines)
       → countRun (runOf (suc n) (drop at lines) .run) ≤ 512 → k < countRun (runOf (suc n) (drop at lines) .run)
       → Sees Word mark seen before i all → ((e : ℕ) → Written n e)
       → PlaceWords Word mark seen before (choose (runOf (suc n) (drop at lines) .run) i k) (writeAt (suc n) (codesOf lines) words marks all at k)
-  unfolding behind choose countRun
+  unfolding inFrontOf choose countRun
   statement-next n at i k seen all before s p c run word marked along small less sees onward =
       let codes = codesOf lines in
       let r = runOf n (drop (at + 1) lines) .run in
@@ -284,7 +284,7 @@ module _ (P : List Line → Type 0) (Word : Statement → ℕ → Type 0) (mark 
 
   -- a block and the run after it
   block-next : (n at i k seen all : ℕ) (before : List Occurrence) (x : Item) (rest : List Line) → at < length (codesOf lines)
-      → getD (codesOf lines) at 0 ≤ 2 → (getD (codesOf lines) at 0 ≡ 0 → ⊥) → runOf (suc n) (drop at lines) ≡ behind x (runOf n rest)
+      → getD (codesOf lines) at 0 ≤ 2 → (getD (codesOf lines) at 0 ≡ 0 → ⊥) → runOf (suc n) (drop at lines) ≡ inFrontOf x (runOf n rest)
       → rest ≡ drop (itemAt (countAt n (codesOf lines)) (codesOf lines) at .end) lines → Along P n rest
       → countRun (runOf (suc n) (drop at lines) .run) ≤ 512 → k < countRun (runOf (suc n) (drop at lines) .run) → Sees Word mark seen before i all
       → ((j : ℕ) (path : List Around) → Later (suc i) path → shown mark (chooseItem x i j) path ≡ 0)
@@ -292,7 +292,7 @@ module _ (P : List Line → Type 0) (Word : Statement → ℕ → Type 0) (mark 
       (writeBlock (writeAt n (codesOf lines) words marks all) (countAt n (codesOf lines)) (codesOf lines) at j))
       → ((e : ℕ) → Written n e)
       → PlaceWords Word mark seen before (choose (runOf (suc n) (drop at lines) .run) i k) (writeAt (suc n) (codesOf lines) words marks all at k)
-  unfolding behind choose countRun
+  unfolding inFrontOf choose countRun
   block-next n at i k seen all before x rest p c b run d along small less sees unseen item onward =
       let codes = codesOf lines in
       let more = itemAt (countAt n codes) codes at .end in

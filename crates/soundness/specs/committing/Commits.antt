@@ -33,15 +33,15 @@ module _ {start : ℕ → ℕ → Bool} {events : List Event} (lawful : Lawful s
       wrote : (isWrite (v .action) ≡ true) × (v .relation ≡ b .relation) × (v .tuple ≡ b .tuple)
       wrote = writesTo-parts (b .relation) (b .tuple) v (cover .writes)
 
-      behind : b .transaction ≢ v .transaction → m ≢ cover .position
-      behind d q =
+      elsewhere : b .transaction ≢ v .transaction → m ≢ cover .position
+      elsewhere d q =
           d (ap (λ (x : Event). x .transaction) (getElem?-same events m atb (ap (getElem? events) q ∙ cover .stands)))
 
       go : Dec (b .transaction ≡ v .transaction) → (v .transaction ≡ i) ⊎ (committed (pastAt events n) (v .transaction) ≡ true) → ci < n
       go (yes q) (inl k) = absurd (apart (q ∙ k))
       go (yes q) (inr k) = committed-before commits n (ap (committed (pastAt events n)) q ∙ k)
       go (no d) k =
-          let later : m < cover .position = omega (arith, behind d, cover .behind) in
+          let later : m < cover .position = omega (arith, elsewhere d, cover .notEarlier) in
           let after : ci < cover .position =
           no-dirty lawful later atb (cover .stands) wb (wrote .0) (record { relation = sym (wrote .1); tuple = sym (wrote .2) }) d commits in
           omega (arith, after, cover .before)

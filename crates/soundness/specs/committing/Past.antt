@@ -171,11 +171,11 @@ module _ (events : List Event) where
       latest : j ≡ n → Goal (pastAt events (suc n))
       latest e =
           subst Goal (sym (past-next events n (ap (getElem? events) (sym e) ∙ atv)))
-          (subst (List·Memᴰ w) (sym (from-keep-yes p q v (pastAt events n) qv pv)) (behind (ℕ-discrete k n)))
+          (subst (List·Memᴰ w) (sym (from-keep-yes p q v (pastAt events n) qv pv)) (stands (ℕ-discrete k n)))
         where
-          behind : Dec (k ≡ n) → List·Memᴰ w (v ∷ keep q (pastAt events n))
-          behind (yes d) = List·Memᴰ·head (getElem?-same events k atw (ap (getElem? events) (d ∙ sym e) ∙ atv))
-          behind (no d) = List·Memᴰ·tail (member-keep q (position-past events n k (omega arith) atw) qw)
+          stands : Dec (k ≡ n) → List·Memᴰ w (v ∷ keep q (pastAt events n))
+          stands (yes d) = List·Memᴰ·head (getElem?-same events k atw (ap (getElem? events) (d ∙ sym e) ∙ atv))
+          stands (no d) = List·Memᴰ·tail (member-keep q (position-past events n k (omega arith) atw) qw)
 
       go : (j < n → Goal (pastAt events n)) → Dec (j ≡ n) → (o : Option Event) → getElem? events n ≡ o → Goal (pastAt events (suc n))
       go rest (yes e) o at = latest e

@@ -24,7 +24,7 @@ pub record Covered (events : List Event) (n i r t k : ℕ) : Type 0 where
   pub position : ℕ
   pub event : Event
   pub stands : getElem? events position ≡ some event
-  pub behind : k ≤ position
+  pub notEarlier : k ≤ position
   pub before : position < n
   pub writes : writesTo r t event ≡ true
   pub known : (event .transaction ≡ i) ⊎ (committed (pastAt events n) (event .transaction) ≡ true)
@@ -92,7 +92,7 @@ module _ (events : List Event) (n i r t : ℕ) where
               position = u .3;
               event = u .0;
               stands = u .5;
-              behind = u .7;
+              notEarlier = u .7;
               before = u .4;
               writes = keep-member (writesTo r t) (pastAt events n) (u .1) .1;
               known = f (u .0) (u .2);

@@ -256,15 +256,15 @@ module _ (transactions : ℕ) (events : List Event) (numbered : Numbered events)
           let letter = outward (u .0) w (λ z. ahead-apart transactions order once g (sym z)) l h q in
           absurd (ahead-once transactions order once g (depends-ahead n (u .0) stands (u .1) letter))
 
-      behind : (w : Event) → List·Memᴰ w events → writesTo r t w ≡ true → p w ≡ true → Comes w e → List·Memᴰ w version
-      behind w m l h (inl g) = other w m l h g (decide (sees events n e w))
-      behind w m l h (inr g) =
+      seen-if-comes : (w : Event) → List·Memᴰ w events → writesTo r t w ≡ true → p w ≡ true → Comes w e → List·Memᴰ w version
+      seen-if-comes w m l h (inl g) = other w m l h g (decide (sees events n e w))
+      seen-if-comes w m l h (inr g) =
           let own = member-writesOf r t (earlier-past events numbered n stands (g .1)) l in
           own-seen past i r t own (eq-eqb (w .transaction) i (g .0))
 
       back : (w : Event) → List·Memᴰ w state → p w ≡ true → List·Memᴰ w version
       back w m h =
-          let u = writesOf-member r t (pastAt run k) m in behind w (past-event k (u .0)) (u .1) h (past-run k runs (u .0))
+          let u = writesOf-member r t (pastAt run k) m in seen-if-comes w (past-event k (u .0)) (u .1) h (past-run k runs (u .0))
 
   -- the latest write that passes p is the same at the end
   same-end : (p : Event → Bool) (r t : ℕ) → Sharing p r t

@@ -40,11 +40,11 @@ shared-out n (x ∷ marks) = go (ltb x n) (shared-out n marks)
     before : List ℕ
     before = keep (λ x. ltb x n) marks
 
-    behind : List ℕ
-    behind = keep (λ x. not (ltb x n)) marks
+    others : List ℕ
+    others = keep (λ x. not (ltb x n)) marks
 
-    go : (b : Bool) → length before + length (map (λ x. x - n) behind) ≡ length marks
-        → length (cond b (x ∷ before) before) + length (map (λ x. x - n) (cond (not b) (x ∷ behind) behind)) ≡ suc (length marks)
+    go : (b : Bool) → length before + length (map (λ x. x - n) others) ≡ length marks
+        → length (cond b (x ∷ before) before) + length (map (λ x. x - n) (cond (not b) (x ∷ others) others)) ≡ suc (length marks)
     go true h = omega arith
     go false h = omega arith
 
