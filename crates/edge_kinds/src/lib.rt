@@ -35,7 +35,7 @@ pub fn kind_facts(k: StatementKind) -> u64
     }
 }
 
-// Whether a kind has one of these facts. Code that asks a kind one thing calls this each time, which compiles to one test of the kind.
+// Whether a kind has one of these facts.
 pub fn kind_has(k: StatementKind, fact: u64) -> bool
     ensures { λ r. ⌜ r ≡ meets (kindFacts k) fact ⌝ }
 {

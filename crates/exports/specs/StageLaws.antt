@@ -8,7 +8,7 @@ use borrow.Author.Tests.{eq-eqb, ne-eqb}
 use Rattle.text_read.specs.declared.Parsed.{Parsed}
 use Rattle.unfold.specs.declared.Unfolded.{Unfolded}
 use Rattle.export_word.specs.Word.{refusalWord, valueWord}
-use Rattle.exports.specs.Stages.{middleLine, readWord, nodesTold, unfoldWord, Unfolds, Judges, UnfoldStage, VerdictStage}
+use Rattle.exports.specs.Stages.{middleLine, readWord, lastNodeTold, unfoldWord, Unfolds, Judges, UnfoldStage, VerdictStage}
 
 -- ---- the numbers
 
@@ -23,7 +23,7 @@ pub nodes-refused : {r : ℕ} (u : Unfolded) → (u .refusal ≡ 0 → ⊥) → 
 unfolding unfoldWord
 nodes-refused u other e = e ∙ told-refused _ _ _ other
 
-pub nodes-taken : {r : ℕ} (u : Unfolded) → u .refusal ≡ 0 → r ≡ nodesTold u → r ≡ unfoldWord u
+pub nodes-taken : {r : ℕ} (u : Unfolded) → u .refusal ≡ 0 → r ≡ lastNodeTold u → r ≡ unfoldWord u
 unfolding unfoldWord
 nodes-taken u taken e = e ∙ told-taken _ _ _ taken
 

@@ -34,11 +34,11 @@ abbrev pub lastRow : Unfolded → ℕ
 lastRow u = (u .count % 64 + 63) % 64
 
 -- nodes, and where the last one's statements end
-abbrev pub nodesTold : Unfolded → ℕ
-nodesTold u = nodesWord (u .count) (getD (u .start) (lastRow u) 0) (getD (u .length) (lastRow u) 0)
+abbrev pub lastNodeTold : Unfolded → ℕ
+lastNodeTold u = nodesWord (u .count) (getD (u .start) (lastRow u) 0) (getD (u .length) (lastRow u) 0)
 
 unfoldable pub unfoldWord : Unfolded → ℕ
-unfoldWord u = cond (eqb (u .refusal) 0) (nodesTold u) (refusalWord (u .refusal) 0)
+unfoldWord u = cond (eqb (u .refusal) 0) (lastNodeTold u) (refusalWord (u .refusal) 0)
 
 -- a text that is refused: its refusal is told and the area stays as it was
 abbrev pub Refuses : Parsed → List ℕ → ℕ → List ℕ → Type 0

@@ -1,4 +1,5 @@
-// What reading keeps of the lines taken so far, in lent words: no line yet, the tests of a line, and taking a line.
+// What reading keeps of the lines taken so far, in lent words: no line yet, the tests of a line, and taking a line. The functions are those of
+// line_state, line_check and line_take of the same names; there the contracts speak of the words, here also of the lines taken (`HoldsWords`).
 use spec_text::Line;
 use word_list::word_at;
 ghost use mathlib.Core.Path.{_≡_};

@@ -5,9 +5,17 @@ ghost use Prim.Native.Nat.{_+_, _*_, _≤_, _<_};
 ghost use lib.ListN.{length, getD};
 ghost use Rattle.place_row.specs.RowTable.{rowAt, rowCount};
 use edge_kinds::kind_of;
+use place_row::KEYS;
+use place_row::KIND;
+use place_row::NODE;
+use place_row::PLACE;
+use place_row::READS;
+use place_row::RELATION;
 use place_row::ROW_WORDS;
 use place_row::ROWS;
 use place_row::Row;
+use place_row::TESTS;
+use place_row::WRITES;
 
 // How many rows a table has. Rows past the 512th are not looked at: no workload has more.
 pub fn row_count(table: &[u64]) -> usize
@@ -26,16 +34,16 @@ fn whole_row(table: &[u64], i: usize) -> Row
     ensures { λ r. ⌜ r ≡ rowAt (now (table .entry)) i ⌝ }
 {
     let b = i * ROW_WORDS;
-    let k = kind_of(table[b + 2]);
+    let k = kind_of(table[b + KIND]);
     Row {
         node: table[b],
-        place: table[b + 1],
+        place: table[b + PLACE],
         kind: k,
-        relation: table[b + 3],
-        reads: table[b + 4],
-        writes: table[b + 5],
-        tests: table[b + 6],
-        keys: table[b + 7],
+        relation: table[b + RELATION],
+        reads: table[b + READS],
+        writes: table[b + WRITES],
+        tests: table[b + TESTS],
+        keys: table[b + KEYS],
     }
 }
 
@@ -62,15 +70,15 @@ pub fn row_at(table: &[u64], i: usize) -> Row
     if i < table.len() / ROW_WORDS {
         return whole_row(table, i);
     }
-    let k = kind_of(row_word(table, i, 2));
+    let k = kind_of(row_word(table, i, KIND));
     Row {
-        node: row_word(table, i, 0),
-        place: row_word(table, i, 1),
+        node: row_word(table, i, NODE),
+        place: row_word(table, i, PLACE),
         kind: k,
-        relation: row_word(table, i, 3),
-        reads: row_word(table, i, 4),
-        writes: row_word(table, i, 5),
-        tests: row_word(table, i, 6),
-        keys: row_word(table, i, 7),
+        relation: row_word(table, i, RELATION),
+        reads: row_word(table, i, READS),
+        writes: row_word(table, i, WRITES),
+        tests: row_word(table, i, TESTS),
+        keys: row_word(table, i, KEYS),
     }
 }

@@ -26,3 +26,20 @@ pub const TABLE_WORDS: usize = 4096;
 pub const ROW_SLOTS: usize = 1024;
 
 pub const SLOTS: usize = 524288;
+
+// The place of each word in a row.
+pub const NODE: usize = 0;
+
+pub const PLACE: usize = 1;
+
+pub const KIND: usize = 2;
+
+pub const RELATION: usize = 3;
+
+pub const READS: usize = 4;
+
+pub const WRITES: usize = 5;
+
+pub const TESTS: usize = 6;
+
+pub const KEYS: usize = 7;

@@ -45,7 +45,8 @@ updates n = replicate n (line (St Ku))
 
 many : List Line → Bool
 unfolding
-    line branches updates statementsIn tooMany statementOf inFrontOf runOf linksOf programsOf inside occurrences pairs flatMap unfoldings nodesOfProgram
+    line branches updates statementsIn tooMany statementOf inFrontOf runOf linksOf programsOf
+    inside occurrences pairs flatMap unfoldings nodesOfProgram
     nodesFrom nodesOf
 many lines = tooMany lines
 

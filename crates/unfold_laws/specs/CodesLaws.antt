@@ -143,7 +143,8 @@ run-loop n l lines e = rw (e, runOf)
 
 pub run-branch : (n : ℕ) (l : Line) (lines : List Line) → l .kind ≡ Br
     → runOf (suc n) (l ∷ lines)
-    ≡ inFrontOf (branch (runOf n lines .run) (runOf n (tail (runOf n lines .rest)) .run)) (runOf n (tail (runOf n (tail (runOf n lines .rest)) .rest)))
+    ≡ inFrontOf (branch (runOf n lines .run) (runOf n (tail (runOf n lines .rest)) .run))
+    (runOf n (tail (runOf n (tail (runOf n lines .rest)) .rest)))
 unfolding runOf
 run-branch n l lines e = rw (e, runOf)
 

@@ -1,4 +1,4 @@
-// Unfoldings by their number: what a run of lines counts.
+// The types, codes and constants of unfoldings; their laws are in specs/.
 
 // A run or a block of lines: its unfoldings, the statements in them, and the line after it.
 pub struct Counted {

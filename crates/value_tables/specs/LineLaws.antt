@@ -4,9 +4,10 @@ use mathlib.Core.List.{List, [], _∷_, _++_, flatMap, append-assoc, append-nil}
 use mathlib.Core.Path.{_≡_, refl, sym, ap, ap₂, _∙_}
 use Prim.Native.Nat.{ℕ, zero, suc, _+_, _*_, _≤_, _<_}
 use native.Mathlib.Nat.{add-zero}
+use native.Mathlib.Decide.{decLt}
 use native.Mathlib.Numerals.{add-one}
 use native.Mathlib.Omega.{arith}
-use lib.ListN.{length, getD, take, List·getD-append}
+use lib.ListN.{length, getD, take, replicate, List·getD-append, List·getD-eq-default, getD-replicate, length-replicate}
 use lib.Seq.{take-suc, take-all, getD-append-add}
 use borrow.Author.Tests.{lt-ltb}
 use Rattle.spec_text.specs.declared.Line.{Line}
@@ -21,8 +22,8 @@ use Rattle.line_kinds.specs.Kinds.{lineFacts, hasReads, hasWrites, hasTests}
 use Rattle.edge_kinds.specs.Kinds.{kindNumber}
 use Rattle.edge_kinds.specs.KindLaws.{number-small, kindOf-number}
 use Rattle.unfold_laws.specs.Codes.{codeOf, markIn, bitIn}
-use Rattle.value_tables.specs.Lines.{lineNumber, codeBy, markBy, setIn, lineWords, lineTable}
-use Rattle.word_rows.specs.Put.{putAt, rowPut, row-put, putAt-length, putAt-take}
+use Rattle.value_tables.specs.Lines.{lineNumber, codeBy, markBy, setIn, lineWords, lineTable, Zeros}
+use Rattle.word_rows.specs.Put.{putAt, rowPut, row-put, putAt-length, putAt-take, putAt-rest}
 
 -- ---- what a line's number tells
 
@@ -118,12 +119,20 @@ pub line-words : (l : Line) (n facts : ℕ) → n ≡ lineNumber (l .kind) → f
 unfolding lineWords
 line-words l n facts en ef a b c ea eb ec = rw (ea, eb, ec, en, ef) refl
 
+-- an area of zeros
+pub all-zeros : (n : ℕ) → Zeros 0 (replicate n 0)
+all-zeros n k h = zeros-at (decLt k n)
+  where
+    zeros-at : Dec (k < n) → _≡_ {A = ℕ} (getD (replicate n 0) k 0) 0
+    zeros-at (yes l) = getD-replicate n k 0 0 l
+    zeros-at (no l) = List·getD-eq-default (replicate n 0) 0 (rw (length-replicate {A = ℕ} n 0) (omega (arith, l)))
+
 -- one line more
 pub line-next : (lines : List Line) (area : List ℕ) (i : ℕ) (d : Line) → i < length lines → length area ≡ 12928 → length lines ≡ 1616
     → (words after : List ℕ) → words ≡ lineWords (getD lines i d) → after ≡ rowPut area (i * 8) words
-    → take (i * 8) area ≡ lineTable (take i lines)
-    → (length after ≡ 12928) × (take ((i + 1) * 8) after ≡ lineTable (take (i + 1) lines))
-line-next lines area i d inside cells most words after w put h =
+    → take (i * 8) area ≡ lineTable (take i lines) → Zeros (i * 8) area
+    → (length after ≡ 12928) × (take ((i + 1) * 8) after ≡ lineTable (take (i + 1) lines)) × Zeros ((i + 1) * 8) after
+line-next lines area i d inside cells most words after w put h zeros =
     let many = ap length w ∙ eight (getD lines i d) in
     let there = put ∙ row-put area (i * 8) words (omega arith) in
     let k : (i + 1) * 8 ≡ i * 8 + length words = omega arith in (
@@ -134,6 +143,7 @@ line-next lines area i d inside cells most words after w put h =
           ∙ sym (lineTable-more (take i lines) (getD lines i d))
           ∙ ap lineTable (sym (take-suc lines i d inside))
           ∙ ap (λ (n : ℕ). lineTable (take n lines)) (sym (add-one i)),
+      λ j l. ap (λ (t : List ℕ). getD t j 0) there ∙ putAt-rest area (i * 8) words (omega arith) j (omega arith) ∙ zeros j (omega arith),
     )
 
 -- all lines, where their count or the cells end

@@ -1,8 +1,10 @@
 -- A line's kind as a number, and what is read off the number; the lines of a workload as words, eight to a line.
 use mathlib.Core.Bool.{cond}
 use mathlib.Core.List.{List, [], _∷_, flatMap}
-use Prim.Native.Nat.{ℕ}
+use mathlib.Core.Path.{_≡_}
+use Prim.Native.Nat.{ℕ, _≤_}
 use lib.Dec.{eqb, ltb}
+use lib.ListN.{getD}
 use Rattle.spec_text.specs.declared.Line.{Line}
 use Rattle.spec_text.specs.declared.LineKind.{LineKind}
 use Rattle.spec_text.specs.declared.LineKind.the-variants.{Rl, Fk, Pr, St, Lo, Br, El, En, Li}
@@ -47,3 +49,7 @@ lineWords l =
 
 unfoldable pub lineTable : List Line → List ℕ
 lineTable lines = flatMap lineWords lines
+
+-- the words from a place on are 0
+abbrev pub Zeros : ℕ → List ℕ → Type 0
+Zeros n words = (k : ℕ) → n ≤ k → getD words k 0 ≡ 0

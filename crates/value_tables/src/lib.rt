@@ -13,7 +13,7 @@ ghost use mathlib.Core.Path.{_≡_};
 ghost use Prim.Native.Nat.{_*_};
 ghost use lib.ListN.{length, take};
 ghost use Rattle.spec_text.specs.Value.{linesOf};
-ghost use Rattle.value_tables.specs.Lines.{lineNumber, codeBy, markBy, setIn, lineTable};
+ghost use Rattle.value_tables.specs.Lines.{lineNumber, codeBy, markBy, setIn, lineTable, Zeros};
 ghost use Rattle.value_tables.specs.Tables.{idTables, placeTables};
 
 // The number of a line's kind: 0 to 6 for the kinds of statement (`kind_number`), then `pr`, `li`, `lo`, `br`, and one for every other.
@@ -164,7 +164,7 @@ pub fn place_tables(w: Workload) -> PlaceTables
 
 // The words of the lines of a workload value, from the table's start on.
 pub fn line_table(w: Workload) -> [u64; LINE_TABLE]
-    ensures { λ r. ⌜ (take (w .count * 8) r ≡ lineTable (linesOf w)) × (length r ≡ 12928) ⌝ }
+    ensures { λ r. ⌜ (take (w .count * 8) r ≡ lineTable (linesOf w)) × (length r ≡ 12928) × Zeros (w .count * 8) r ⌝ }
 {
     let mut words = [0u64; LINE_TABLE];
     let mut i: usize = 0;

@@ -2,7 +2,7 @@
 use mathlib.Core.Bool.{Bool, cond, _&&_}
 use mathlib.Core.List.{List}
 use mathlib.Core.Path.{_≡_}
-use Prim.Native.Nat.{ℕ, zero, suc, _/_, _%_, _<_}
+use Prim.Native.Nat.{ℕ, zero, suc, _/_, _%_, _≤_, _<_}
 use lib.Dec.{eqb, ltb}
 use lib.ListN.{getD}
 use Rattle.spec_base.specs.Basic.{has}
@@ -44,7 +44,8 @@ hasPair forwards backs rows u = ltb (pairFor forwards backs rows u) 4096
 unfoldable pub nodeIn : List ℕ → List ℕ → List ℕ → ℕ
 nodeIn forwards backs rows = firstFrom (hasPair forwards backs rows) 64 0
 
--- what the search answers: the first node, and where it is one its first pair
+-- what the search answers: the first node and its first pair; 64 and 4096 where there is none
 pub record ClosingPair (forwards backs rows : List ℕ) (r : Closing) : Type 0 where
   pub node : r .node ≡ nodeIn forwards backs rows
   pub pair : r .node < 64 → r .pair ≡ pairFor forwards backs rows (r .node)
+  pub none : 64 ≤ r .node → r .pair ≡ 4096

@@ -2,11 +2,11 @@
 use mathlib.Core.Bool.{cond}
 use mathlib.Core.List.{List, [], _∷_, _++_, append-assoc}
 use mathlib.Core.Path.{_≡_, sym, ap, _∙_}
-use Prim.Native.Nat.{ℕ, suc, _+_, _≤_, _<_}
+use Prim.Native.Nat.{ℕ, suc, _+_, _-_, _≤_, _<_}
 use native.Mathlib.Omega.{arith}
 use lib.Dec.{leb}
-use lib.ListN.{length, set, take, drop, length-append, length-drop}
-use lib.Seq.{sets-eq, take-at, length-take-le}
+use lib.ListN.{length, set, getD, take, drop, length-append, length-drop}
+use lib.Seq.{sets-eq, take-at, length-take-le, getD-append-add, getD-drop}
 use borrow.Author.Tests.{le-leb, lt-leb}
 
 unfoldable pub putAt : List ℕ → ℕ → List ℕ → List ℕ
@@ -43,6 +43,22 @@ putAt-take area at words h =
     let d = length-append (take at area) words in
     ap (take (at + length words)) (sym (append-assoc (take at area) words (drop (at + length words) area)))
     ∙ take-at (take at area ++ words) (drop (at + length words) area) (at + length words) (omega arith)
+
+-- what stands after the words that are put is as it was
+pub putAt-rest : (area : List ℕ) (at : ℕ) (words : List ℕ) → at + length words ≤ length area → (k : ℕ) → at + length words ≤ k
+    → getD (putAt area at words) k 0 ≡ getD area k 0
+unfolding putAt
+putAt-rest area at words h k l =
+    let rest = drop (at + length words) area in
+    let many = length-append (take at area) words in
+    let front = length-take-le at area (omega arith) in
+    let place : k ≡ length (take at area ++ words) + (k - (at + length words)) = omega arith in
+    let back : at + length words + (k - (at + length words)) ≡ k = omega arith in
+    ap (λ (x : List ℕ). getD x k 0) (sym (append-assoc (take at area) words rest))
+    ∙ ap (λ (j : ℕ). getD ((take at area ++ words) ++ rest) j 0) place
+    ∙ getD-append-add (take at area ++ words) rest (k - (at + length words)) 0
+    ∙ getD-drop (at + length words) area (k - (at + length words)) 0
+    ∙ ap (λ (j : ℕ). getD area j 0) back
 
 -- eight stores, one after the other
 pub eight-stores : (xs : List ℕ) (at a b c d e f g h : ℕ) → at + 8 ≤ length xs

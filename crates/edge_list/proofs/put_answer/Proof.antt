@@ -1,4 +1,4 @@
--- The refusal's number is not 0.
+-- A number other than 0 is the refusal's and is answered; with 0 there is none, and what was put is the answer: the two cases of `answerWith`.
 use borrow.Author.Tests.{eq-eqb, ne-eqb}
 use Rattle.edge_list.specs.Prepared.{answerWith}
 use Rattle.edge_list.proofs.put_answer.Statement.{statement}

@@ -1,8 +1,6 @@
--- `edge_list::put_workload_edges` meets its contract: a walk of its code by hand. `tabled` gives the table by value; it lies in a local array,
--- which is lent as
--- a shared slice for a lifetime of its own; its first words and the caller's list go to `put_edges`; then the lifetime ends and the array is
--- whole again,
--- and `put_answer` gives the answer.
+-- A walk of its code by hand. `tabled` gives the table by value; it lies in a local array, which is lent as a shared slice for a lifetime of its
+-- own; its first words and the caller's list go to `put_edges`; then the lifetime ends and the array is whole again, and `put_answer` gives the
+-- answer.
 use mathlib.Core.Path.{_≡_, refl, sym, ap, subst, _∙_}
 use Prim.Native.Nat.{ℕ, _+_, _≤_, _<_, _*_, _^_}
 use native.Mathlib.Omega.{arith}

@@ -1,6 +1,5 @@
--- `edge_put::put_edges` meets its contract: a walk of its code by hand. `edge_count` tells how many edges there are and `fitting` how many are
--- put; each turn of the loop calls `edge_next` and stores the edge that it gives. The borrow is opened once, before the loop, and closed
--- once, after it; then `answered` gives the answer.
+-- A walk of its code by hand. `edge_count` tells how many edges there are and `fitting` how many are put; each turn of the loop calls `edge_next`
+-- and stores the edge that it gives. The borrow is opened once, before the loop, and closed once, after it; then `answered` gives the answer.
 use mathlib.Core.Bool.{not}
 use mathlib.Core.Path.{_≡_, refl, sym, ap, subst, _∙_}
 use Prim.Native.Nat.{ℕ, _+_, _-_, _≤_, _<_, _*_, _^_, zero-le}

@@ -1,6 +1,5 @@
--- `exports::text_edges` meets its contract: a walk of its code by hand. `read_text` reads the text; where it is refused, `refusal_word` gives the
--- answer, and the list, which no call was given, ends as it was; else the value that was read and the list go to `put_workload_edges`, and
--- `edges_word` gives the answer.
+-- A walk of its code by hand. `read_text` reads the text; where it is refused, `refusal_word` gives the answer, and the list, which no call was
+-- given, ends as it was; else the value that was read and the list go to `put_workload_edges`, and `edges_word` gives the answer.
 use mathlib.Core.Bool.{Bool, true, false, not}
 use mathlib.Core.Path.{_≡_, refl, ap, subst}
 use Prim.Native.Nat.{ℕ, _<_, _^_}

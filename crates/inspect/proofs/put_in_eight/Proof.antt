@@ -1,6 +1,5 @@
--- `inspect::put_in_eight` meets its contract: a walk of its code by hand. The area lies in a local array of records, which is lent as a list for a
--- lifetime of its own; the workload and the list go to `put_workload_edges`; then the lifetime ends, and the array is whole again, with the list's
--- last content.
+-- A walk of its code by hand. The area lies in a local array of records, which is lent as a list for a lifetime of its own; the workload and the
+-- list go to `put_workload_edges`; then the lifetime ends, and the array is whole again, with the list's last content.
 use mathlib.Core.Path.{_≡_, refl, sym, ap, subst, _∙_}
 use Prim.Native.Nat.{ℕ, _<_, _^_}
 use mathlib.Core.List.{[], _∷_, List, map}

@@ -1,4 +1,4 @@
--- `verdict_printed` meets its contract: each case of the answer has its own report.
+-- Each case of the answer has its own report.
 use borrow.Author.Needs.{needs}
 use Rattle.report_print.specs.Printed.{bytesFor}
 use Rattle.report_print.proofs.verdict_printed.Statement.{statement}

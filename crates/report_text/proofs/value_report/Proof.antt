@@ -1,4 +1,4 @@
--- `value_report` meets its contract: an area of 65 steps is long enough, so what the verdict answers is printed as the report.
+-- An area of 65 steps is long enough, so what the verdict answers is printed as the report.
 use Prim.Native.Nat.{ℕ}
 use lib.ListN.{length-replicate}
 use borrow.Author.Needs.{needs}

@@ -1,4 +1,4 @@
--- `dash_of` meets its contract: one byte, and that byte is the dash.
+-- One byte, and that byte is the dash.
 use mathlib.Core.Path.{sym}
 use borrow.Author.Needs.{needs}
 use Rattle.text_digits.specs.DigitLaws.{dash-is, dash-none}

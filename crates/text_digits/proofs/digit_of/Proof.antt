@@ -1,4 +1,4 @@
--- `digit_of` meets its contract: the byte passes the test of hexadecimal digits or not.
+-- The byte passes the test of hexadecimal digits or not.
 use borrow.Author.Needs.{needs}
 use Rattle.text_digits.specs.DigitLaws.{digit-parts, digit-none}
 use Rattle.text_digits.proofs.digit_of.Statement.{statement}

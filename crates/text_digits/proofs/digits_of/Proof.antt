@@ -1,4 +1,4 @@
--- `digits_of` meets its contract: each return goes by the tests that led to it; the two ways to the digits differ in one test.
+-- Each return goes by the tests that led to it; the two ways to the digits differ in one test.
 use mathlib.Core.Logic.{⊎-elim}
 use borrow.Author.Needs.{needs}
 use borrow.Author.Tests.{lt-ltb, le-ltb, eq-eqb, ne-eqb}

@@ -1,4 +1,4 @@
--- `digits_value` meets its contract: the digits read so far stand for `value`, which is below 16 to their number, and so fits a word.
+-- The digits read so far stand for `value`, which is below 16 to their number, and so fits a word.
 use mathlib.Core.Path.{_≡_, refl, sym, _∙_}
 use Prim.Native.Nat.{_+_, _-_, _*_, _^_, _≤_, _<_}
 use native.Mathlib.Omega.{arith}

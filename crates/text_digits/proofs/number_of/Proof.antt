@@ -1,4 +1,4 @@
--- `number_of` meets its contract: the digits, and then the limit of numbers.
+-- The digits, and then the limit of numbers.
 use mathlib.Core.Path.{ap, sym, _∙_}
 use borrow.Author.Needs.{needs}
 use Rattle.text_digits.specs.Digits.{fieldAnswer}

@@ -1,4 +1,4 @@
--- `field_end` meets its contract: what is left of the field from `i` on, and `i`, make the place where the field ends.
+-- What is left of the field from `i` on, and `i`, make the place where the field ends.
 use mathlib.Core.Path.{_≡_, refl}
 use Prim.Native.Nat.{_+_, _-_}
 use native.Mathlib.Omega.{arith}

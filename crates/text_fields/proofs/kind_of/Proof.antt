@@ -1,4 +1,4 @@
--- `kind_of` meets its contract: the number of two bytes tells the word.
+-- The number of two bytes tells the word.
 use mathlib.Core.Option.{some}
 use mathlib.Core.Path.{_≡_, sym}
 use Prim.Native.Nat.{_+_, _*_, _<_}

@@ -1,4 +1,4 @@
--- `line_of` meets its contract: the first field is the word; what follows it is read by the kind.
+-- The first field is the word; what follows it is read by the kind.
 use mathlib.Core.Path.{_≡_, ap, sym, _∙_}
 use native.Mathlib.Omega.{arith}
 use lib.Seq.{length-take-le}

@@ -1,4 +1,4 @@
--- `next_field` meets its contract: the part that is read is the field after the space, and it ends within the line.
+-- The part that is read is the field after the space, and it ends within the line.
 use mathlib.Core.Path.{ap, sym, _∙_}
 use Prim.Native.Nat.{_+_}
 use native.Mathlib.Omega.{arith}

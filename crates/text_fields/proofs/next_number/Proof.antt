@@ -1,4 +1,4 @@
--- `next_number` meets its contract: the form goes by whether the kind has the field; either way the value is below 256.
+-- The form goes by whether the kind has the field; either way the value is below 256.
 use mathlib.Core.Bool.{true, false}
 use borrow.Author.Needs.{needs}
 use Rattle.text_fields.specs.FieldSteps.{step-small}

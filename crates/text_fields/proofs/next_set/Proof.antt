@@ -1,4 +1,4 @@
--- `next_set` meets its contract: the form goes by whether the kind has the field.
+-- The form goes by whether the kind has the field.
 use borrow.Author.Needs.{needs}
 use Rattle.text_fields.specs.Field.{setIf}
 use Rattle.text_fields.proofs.next_set.Statement.{statement}

@@ -31,6 +31,7 @@ returns c =
           search-stop _ _ _ (c3 .loop .inv .1) (c .before .before .loop-test .taken)
           (pair-passes _ _ _ _ (c .before .pair-for .ensures) (c .if1 .taken));
       pair = λ l. c .before .pair-for .ensures;
+      none = λ l. let z : ⊥ = omega (arith, l, c .before .before .loop-test .taken) in absurd z;
     }
 
 add-u : tie.Need-add-u Inv-loop μ-loop
@@ -52,6 +53,7 @@ unfolding nodeIn
 returns-2 c = record {
   node = search-end _ _ _ (c .before .loop .inv .1) (c .before .loop .inv .0) (c .loop-test .left);
   pair = λ l. let z : ⊥ = omega arith in absurd z;
+  none = λ l. refl;
 }
 
 pub closing-pair-spec : {M : Type 1} → statement M
