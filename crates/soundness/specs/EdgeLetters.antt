@@ -13,7 +13,7 @@ use Rattle.spec_graph.specs.Edge.Letter.{A, B, C, D, E}
 use Rattle.spec_schedule.specs.Event.{Action, isRead, isWrite, isPredicateRead, isInsert, isDelete}
 use Rattle.spec_schedule.specs.Schedule.{Performed, Operation}
 use Rattle.law_walk.specs.EveryKind.{kind-implies, kinds-apart}
-use Rattle.soundness.specs.transactions.Operations.{Does, does-test, does-read, does-write, does-insert, does-delete, updates, performs}
+use Rattle.soundness.specs.transactions.Operations.{Does, does-test, does-read, does-write, does-insert, does-delete, updates, statementDone}
 
 -- ---- T9: what is known of a statement's sets, given the set of each relation
 pub record Sets (set : ℕ → ℕ) (s : Statement) : Type 0 where
@@ -79,28 +79,28 @@ module _ (set : ℕ → ℕ) (p q : Statement) (over : p .relation ≡ q .relati
 -- ---- what an operation's action says of its statement's kind
 
 abbrev kindOf : Performed → StatementKind
-kindOf p = performs p .kind
+kindOf p = statementDone p .kind
 
 -- an action that is not the one tested for
 other : {a b : Action} (test : Action → Bool) → a ≡ b → test b ≡ false → test a ≡ true → ⊥
 other test e h k = true-false (ap test (sym e) ∙ k) h
 
 module _ {p : Performed} {o : Operation} where
-  pub does-write-what : Does p o → isWrite (o .action) ≡ true → Writes (performs p) (o .attributes) × (hasWrites (kindOf p) ≡ true)
+  pub does-write-what : Does p o → isWrite (o .action) ≡ true → Writes (statementDone p) (o .attributes) × (hasWrites (kindOf p) ≡ true)
   does-write-what (does-write a u t m) w = (some-attributes t, kind-implies updates hasWrites refl (kindOf p) u)
   does-write-what (does-insert a u t m) w = (all-attributes (or-left (deletes (kindOf p)) u), kind-implies inserts hasWrites refl (kindOf p) u)
   does-write-what (does-delete a u t m) w = (all-attributes (or-right (inserts (kindOf p)) u), kind-implies deletes hasWrites refl (kindOf p) u)
   does-write-what (does-test a u t) w = absurd (other isWrite a refl w)
   does-write-what (does-read a u t m) w = absurd (other isWrite a refl w)
 
-  pub does-read-what : Does p o → isRead (o .action) ≡ true → (o .attributes ≡ R (performs p)) × (hasReads (kindOf p) ≡ true)
+  pub does-read-what : Does p o → isRead (o .action) ≡ true → (o .attributes ≡ R (statementDone p)) × (hasReads (kindOf p) ≡ true)
   does-read-what (does-read a u t m) r = (t, u)
   does-read-what (does-write a u t m) r = absurd (other isRead a refl r)
   does-read-what (does-insert a u t m) r = absurd (other isRead a refl r)
   does-read-what (does-delete a u t m) r = absurd (other isRead a refl r)
   does-read-what (does-test a u t) r = absurd (other isRead a refl r)
 
-  pub does-test-what : Does p o → isPredicateRead (o .action) ≡ true → (o .attributes ≡ T (performs p)) × (hasTests (kindOf p) ≡ true)
+  pub does-test-what : Does p o → isPredicateRead (o .action) ≡ true → (o .attributes ≡ T (statementDone p)) × (hasTests (kindOf p) ≡ true)
   does-test-what (does-test a u t) r = (t, u)
   does-test-what (does-read a u t m) r = absurd (other isPredicateRead a refl r)
   does-test-what (does-write a u t m) r = absurd (other isPredicateRead a refl r)
@@ -123,7 +123,7 @@ module _ {p : Performed} {o : Operation} where
 
   -- what a write writes where it neither inserts nor deletes
   pub does-update-what : Does p o → isWrite (o .action) ≡ true → inserts (kindOf p) ≡ false → deletes (kindOf p) ≡ false
-      → o .attributes ≡ W (performs p)
+      → o .attributes ≡ W (statementDone p)
   does-update-what (does-write a u t m) w i d = t
   does-update-what (does-insert a u t m) w i d = absurd (true-false u i)
   does-update-what (does-delete a u t m) w i d = absurd (true-false u d)
@@ -133,65 +133,67 @@ module _ {p : Performed} {o : Operation} where
 -- ---- the letters
 
 module _ (set : ℕ → ℕ) {p q : Performed} {b a : Operation} (db : Does p b) (da : Does q a)
-    (over : performs p .relation ≡ performs q .relation) (sp : Sets set (performs p)) (sq : Sets set (performs q)) where
+    (over : statementDone p .relation ≡ statementDone q .relation) (sp : Sets set (statementDone p)) (sq : Sets set (statementDone q)) where
   pub letter-A : isWrite (b .action) ≡ true → isWrite (a .action) ≡ true → isDelete (b .action) ≡ false → isInsert (a .action) ≡ false
-      → meets (b .attributes) (a .attributes) ≡ true → holds A (performs p) (performs q) ≡ true
+      → meets (b .attributes) (a .attributes) ≡ true → holds A (statementDone p) (statementDone q) ≡ true
   unfolding holds
   letter-A wb wa nd ni m =
       let x = does-write-what db wb in
       let y = does-write-what da wa in
       and-of
       (and-of (and-of (and-of (x .1) (y .1)) (not-of-false (sym (does-delete-what db wb) ∙ nd))) (not-of-false (sym (does-insert-what da wa) ∙ ni)))
-      (writes-meet set (performs p) (performs q) over sp sq (b .attributes) (a .attributes) (x .0) (y .0) m)
+      (writes-meet set (statementDone p) (statementDone q) over sp sq (b .attributes) (a .attributes) (x .0) (y .0) m)
 
   pub letter-B : isWrite (b .action) ≡ true → isRead (a .action) ≡ true → isDelete (b .action) ≡ false
-      → meets (b .attributes) (a .attributes) ≡ true → holds B (performs p) (performs q) ≡ true
+      → meets (b .attributes) (a .attributes) ≡ true → holds B (statementDone p) (statementDone q) ≡ true
   unfolding holds
   letter-B wb ra nd m =
       let x = does-write-what db wb in
       let y = does-read-what da ra in
       and-of (and-of (x .1) (not-of-false (sym (does-delete-what db wb) ∙ nd)))
-      (write-meets-read set (performs p) (performs q) over sp sq (b .attributes) (x .0)
+      (write-meets-read set (statementDone p) (statementDone q) over sp sq (b .attributes) (x .0)
       (subst (λ (y : ℕ). meets (b .attributes) y ≡ true) (y .0) m))
 
   pub letter-D : isRead (b .action) ≡ true → isWrite (a .action) ≡ true → isInsert (a .action) ≡ false
-      → meets (b .attributes) (a .attributes) ≡ true → holds D (performs p) (performs q) ≡ true
+      → meets (b .attributes) (a .attributes) ≡ true → holds D (statementDone p) (statementDone q) ≡ true
   unfolding holds
   letter-D rb wa ni m =
       let x = does-read-what db rb in
       let y = does-write-what da wa in
       and-of (and-of (y .1) (not-of-false (sym (does-insert-what da wa) ∙ ni)))
-      (read-meets-write set (performs p) (performs q) over sp sq (a .attributes) (y .0)
+      (read-meets-write set (statementDone p) (statementDone q) over sp sq (a .attributes) (y .0)
       (subst (λ (x : ℕ). meets x (a .attributes) ≡ true) (x .0) m))
 
 -- the change of a write to what is tested, as events and as statements
 module _ {p : Performed} {w : Operation} (dw : Does p w) where
   changes : isWrite (w .action) ≡ true → (tests attributes : ℕ) → attributes ≡ tests
       → isInsert (w .action) || isDelete (w .action) || meets (w .attributes) attributes ≡ true
-      → inserts (performs p .kind) || deletes (performs p .kind) || meets (W (performs p)) tests ≡ true
+      → inserts (statementDone p .kind) || deletes (statementDone p .kind) || meets (W (statementDone p)) tests ≡ true
   changes ww tests attributes e h = go (inserts k) (deletes k) refl refl (rw (sym (does-insert-what dw ww), sym (does-delete-what dw ww)) h)
     where
       k : StatementKind
-      k = performs p .kind
+      k = statementDone p .kind
 
       go : (i d : Bool) → inserts k ≡ i → deletes k ≡ d → i || d || meets (w .attributes) attributes ≡ true
-          → i || d || meets (W (performs p)) tests ≡ true
+          → i || d || meets (W (statementDone p)) tests ≡ true
       go true d i′ d′ h = refl
       go false true i′ d′ h = refl
       go false false i′ d′ h =
-          subst (λ (x : ℕ). meets (W (performs p)) x ≡ true) e
+          subst (λ (x : ℕ). meets (W (statementDone p)) x ≡ true) e
           (subst (λ (x : ℕ). meets x attributes ≡ true) (does-update-what dw ww i′ d′) h)
 
 pub letter-C : {p q : Performed} {b a : Operation} → Does p b → Does q a → isWrite (b .action) ≡ true → isPredicateRead (a .action) ≡ true
-    → isInsert (b .action) || isDelete (b .action) || meets (b .attributes) (a .attributes) ≡ true → holds C (performs p) (performs q) ≡ true
+    → isInsert (b .action) || isDelete (b .action) || meets (b .attributes) (a .attributes) ≡ true
+    → holds C (statementDone p) (statementDone q) ≡ true
 unfolding holds
 letter-C {q = q} {b} {a} db da wb pa h =
     let y = does-test-what da pa in
-    and-of (y .1) (changes db wb (T (performs q)) (a .attributes) (y .0) h)
+    and-of (y .1) (changes db wb (T (statementDone q)) (a .attributes) (y .0) h)
 
 pub letter-E : {p q : Performed} {b a : Operation} → Does p b → Does q a → isPredicateRead (b .action) ≡ true → isWrite (a .action) ≡ true
-    → isInsert (a .action) || isDelete (a .action) || meets (a .attributes) (b .attributes) ≡ true → holds E (performs p) (performs q) ≡ true
+    → isInsert (a .action) || isDelete (a .action) || meets (a .attributes) (b .attributes) ≡ true
+    → holds E (statementDone p) (statementDone q) ≡ true
 unfolding holds
 letter-E {p} {b = b} {a} db da pb wa h =
     let x = does-test-what db pb in
-    and-of (x .1) (changes da wa (T (performs p)) (b .attributes) (x .0) h)
+    and-of (x .1) (changes da wa (T (statementDone p)) (b .attributes) (x .0) h)

@@ -25,7 +25,7 @@ use Rattle.soundness.specs.committing.Letters.{Dependency}
 use Rattle.soundness.specs.committing.Letters.Dependency.{write-write, write-read, write-predicate, read-write, predicate-write}
 use Rattle.soundness.specs.committing.Commits.{write-left, update-left, back-not-write, read-left, shield}
 use Rattle.soundness.specs.committing.WriteKinds.{write-write-kinds, write-read-kinds, read-write-kinds}
-use Rattle.soundness.specs.transactions.Operations.{Does, updates, performs}
+use Rattle.soundness.specs.transactions.Operations.{Does, updates, statementDone}
 use Rattle.soundness.specs.transactions.Events.{schedule-lawful}
 use Rattle.soundness.specs.transactions.Statements.{Stated, operationOf, update-next, place-order}
 use Rattle.law_walk.specs.EveryKind.{kind-implies}
@@ -62,7 +62,7 @@ module _ {lines : List Line} (s : Schedule lines) (set : ℕ → ℕ)
     (sets : (x : Transaction) → List·Memᴰ x (s .transactions) → (j : ℕ) (o : Occurrence) → getElem? (occurrences (x .execution) 0) j ≡ some o
     → Sets set (o .statement)) where
   -- the sets of the statement of an event
-  event-sets : {i : ℕ} (v : Visit s i) (e : Event) (t : Stated s (v .transaction) e) → Sets set (performs (t .performs))
+  event-sets : {i : ℕ} (v : Visit s i) (e : Event) (t : Stated s (v .transaction) e) → Sets set (statementDone (t .performs))
   event-sets {i} v e t =
       sets (v .transaction) (getElem?-member (s .transactions) i (v .found)) (e .place) (t .performs .occurrence)
       (performed-occurrence (v .transaction) (e .place) (t .at) .0)
@@ -89,12 +89,12 @@ module _ {lines : List Line} (s : Schedule lines) (set : ℕ → ℕ)
     doesA : Does Q (operationOf a)
     doesA = q .stated .belongs .does
 
-    over : b .relation ≡ a .relation → performs P .relation ≡ performs Q .relation
+    over : b .relation ≡ a .relation → statementDone P .relation ≡ statementDone Q .relation
     over e = sym (p .stated .belongs .relation) ∙ e ∙ q .stated .belongs .relation
 
     -- both statements are over one relation, and a letter holds of them
     Related : Type 0
-    Related = (performs P .relation ≡ performs Q .relation) × (letter : Letter) × (holds letter (performs P) (performs Q) ≡ true)
+    Related = (statementDone P .relation ≡ statementDone Q .relation) × (letter : Letter) × (holds letter (statementDone P) (statementDone Q) ≡ true)
 
     related : Dependency (s .events) m b n a → Related
     unfolding Related
@@ -137,10 +137,10 @@ module _ {lines : List Line} (s : Schedule lines) (set : ℕ → ℕ)
         and-of (eq-eqb (at (p .spot) .relation) (at (q .spot) .relation) e)
         (any-letter (t .1) (at (p .spot)) (at (q .spot))
         (subst (λ (x : Statement). holds (t .1) x (at (q .spot)) ≡ true) (sym (p .statement))
-        (subst (λ (y : Statement). holds (t .1) (performs P) y ≡ true) (sym (q .statement)) (t .2))))
+        (subst (λ (y : Statement). holds (t .1) (statementDone P) y ≡ true) (sym (q .statement)) (t .2))))
 
     -- ---- the update's write stands right after its read, so such a dependency is never back
-    update-commits : isRead (b .action) ≡ true → updates (performs P .kind) ≡ true → v .commit < n
+    update-commits : isRead (b .action) ≡ true → updates (statementDone P .kind) ≡ true → v .commit < n
     update-commits rb u =
         let f = p .stated .follows u (read-action (b .action) rb) in
         let x = update-next s i (v .found) m b atB ofB (f .0) (f .1) (f .2 .place) in
@@ -148,11 +148,11 @@ module _ {lines : List Line} (s : Schedule lines) (set : ℕ → ℕ)
         (record { relation = sym (f .2 .relation); tuple = sym (f .2 .tuple) }) commit-b commit-a
 
     -- what leaves no loose place waits for the commit
-    pub firm : loosens (performs P .kind) ≡ false → v .commit < n
+    pub firm : loosens (statementDone P .kind) ≡ false → v .commit < n
     firm h = go dependency
       where
         k : StatementKind
-        k = performs P .kind
+        k = statementDone P .kind
 
         go : Dependency (s .events) m b n a → v .commit < n
         go (write-write apart wb wa t x lt) = write-left (schedule-lawful s) atB atA dependency wb commit-b
@@ -202,16 +202,16 @@ module _ {lines : List Line} (s : Schedule lines) (set : ℕ → ℕ)
     back-edge h = and-of (eq-eqb (at (p .spot) .relation) (at (q .spot) .relation) relation) (go dependency)
       where
         k : StatementKind
-        k = performs P .kind
+        k = statementDone P .kind
 
         relation : at (p .spot) .relation ≡ at (q .spot) .relation
         relation =
             ap (λ (s : Statement). s .relation) (p .statement) ∙ related dependency .0 ∙ ap (λ (s : Statement). s .relation) (sym (q .statement))
 
-        spots : (letter : Letter) → holds letter (performs P) (performs Q) ≡ true → holds letter (at (p .spot)) (at (q .spot)) ≡ true
+        spots : (letter : Letter) → holds letter (statementDone P) (statementDone Q) ≡ true → holds letter (at (p .spot)) (at (q .spot)) ≡ true
         spots letter e =
             subst (λ (x : Statement). holds letter x (at (q .spot)) ≡ true) (sym (p .statement))
-            (subst (λ (y : Statement). holds letter (performs P) y ≡ true) (sym (q .statement)) e)
+            (subst (λ (y : Statement). holds letter (statementDone P) y ≡ true) (sym (q .statement)) e)
 
         late : n ≤ w .commit
         late = commit-a .last n a atA refl

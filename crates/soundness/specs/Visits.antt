@@ -27,7 +27,7 @@ use Rattle.soundness.specs.transactions.Operations.{
   does-write,
   does-insert,
   does-delete,
-  performs,
+  statementDone,
   performed-at,
   at-performed,
 }
@@ -82,7 +82,7 @@ module _ {lines : List Line} (s : Schedule lines) where
     pub here : spot .place ≡ place
     pub occurrence : getElem? (occurrences (v .folded .folded) 0) place ≡ some (spot .occurrence)
     pub stated : Stated s (v .transaction) e
-    pub statement : at spot ≡ performs (stated .performs)
+    pub statement : at spot ≡ statementDone (stated .performs)
 
   pub spot-at : {i : ℕ} (v : Visit i) (place : ℕ) (e : Event) → At v place e → Stated s (v .transaction) e → Spot v place e
   unfolding placeAt
@@ -130,17 +130,17 @@ module _ {lines : List Line} (s : Schedule lines) where
   link-image : (x : Transaction) → keysKept (s .key) x ≡ true → (l : Link) → List·Memᴰ l (x .program .links) → (j k : ℕ) {child parent : Performed}
       → getElem? (performed x) j ≡ some child → getElem? (performed x) k ≡ some parent → binds l (child .occurrence) (parent .occurrence) ≡ true
       → (t u : ℕ) → List·Memᴰ t (child .tuples) → List·Memᴰ u (parent .tuples)
-      → (s .key (l .key) (record { relation = performs child .relation; number = t }) .relation ≡ performs parent .relation)
-      × (s .key (l .key) (record { relation = performs child .relation; number = t }) .number ≡ u)
+      → (s .key (l .key) (record { relation = statementDone child .relation; number = t }) .relation ≡ statementDone parent .relation)
+      × (s .key (l .key) (record { relation = statementDone child .relation; number = t }) .number ≡ u)
   unfolding keysKept linkKept
   link-image x kept l inLinks j k {child} {parent} atC atP b t u inC inP =
-      let image = s .key (l .key) (record { relation = performs child .relation; number = t }) in
+      let image = s .key (l .key) (record { relation = statementDone child .relation; number = t }) in
       let links = all-true (λ l. all (λ child. all (λ parent. linkKept (s .key) l child parent) (performed x)) (performed x)) kept inLinks in
       let children = all-true (λ child. all (λ parent. linkKept (s .key) l child parent) (performed x)) links (getElem?-member (performed x) j atC) in
       let one = all-true (λ parent. linkKept (s .key) l child parent) children (getElem?-member (performed x) k atP) in
       let tuples = all-true _ (bound one) inC in
-      let both = and-true (eqb (image .relation) (performs parent .relation)) (eqb (image .number) u) (all-true _ tuples inP) in
-      (eqb-true (image .relation) (performs parent .relation) (both .0), eqb-true (image .number) u (both .1))
+      let both = and-true (eqb (image .relation) (statementDone parent .relation)) (eqb (image .number) u) (all-true _ tuples inP) in
+      (eqb-true (image .relation) (statementDone parent .relation) (both .0), eqb-true (image .number) u (both .1))
     where
       Held : Bool
       Held =
@@ -201,7 +201,7 @@ module _ {lines : List Line} (s : Schedule lines) where
           let image =
           link-image x kept l inLinks (e .place) to (p .stated .at) (q .1) bound (e .tuple) (w .1 .tuple)
           (does-tuple (p .stated .belongs .does) np) (w .7) in
-          let rel : performs child .relation ≡ e .relation = sym (p .stated .belongs .relation) in
+          let rel : statementDone child .relation ≡ e .relation = sym (p .stated .belongs .relation) in
           record {
             position = w .0;
             event = w .1;
@@ -214,11 +214,12 @@ module _ {lines : List Line} (s : Schedule lines) where
             writes = w .5;
             relation =
                 subst (λ (r : ℕ). s .key key (record { relation = r; number = e .tuple }) .relation ≡ w .1 .relation) rel
-                (subst (λ (f : ℕ). s .key f (record { relation = performs child .relation; number = e .tuple }) .relation ≡ w .1 .relation) sameKey
+                (subst (λ (f : ℕ). s .key f (record { relation = statementDone child .relation; number = e .tuple }) .relation ≡ w .1 .relation)
+                sameKey
                 (image .0 ∙ sym (w .6)));
             tuple =
                 subst (λ (r : ℕ). s .key key (record { relation = r; number = e .tuple }) .number ≡ w .1 .tuple) rel
-                (subst (λ (f : ℕ). s .key f (record { relation = performs child .relation; number = e .tuple }) .number ≡ w .1 .tuple) sameKey
+                (subst (λ (f : ℕ). s .key f (record { relation = statementDone child .relation; number = e .tuple }) .number ≡ w .1 .tuple) sameKey
                 (image .1));
           }
 

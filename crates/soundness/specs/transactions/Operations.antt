@@ -28,25 +28,25 @@ use Rattle.spec_schedule.specs.Schedule.{everyAttribute, onTuple, operationsOf,
 abbrev pub updates : StatementKind → Bool
 updates k = hasReads k && hasWrites k
 
-abbrev pub performs : Performed → Statement
-performs p = p .occurrence .statement
+abbrev pub statementDone : Performed → Statement
+statementDone p = p .occurrence .statement
 
 -- what an operation of a performed statement does
 pub data Does (p : Performed) (o : Operation) : Type 0 where
-  does-test : o .action ≡ predicateRead → hasTests (performs p .kind) ≡ true → o .attributes ≡ T (performs p) → Does p o
-  does-read : o .action ≡ read → hasReads (performs p .kind) ≡ true → o .attributes ≡ R (performs p)
+  does-test : o .action ≡ predicateRead → hasTests (statementDone p .kind) ≡ true → o .attributes ≡ T (statementDone p) → Does p o
+  does-read : o .action ≡ read → hasReads (statementDone p .kind) ≡ true → o .attributes ≡ R (statementDone p)
       → List·Memᴰ (o .tuple) (p .tuples) → Does p o
-  does-write : o .action ≡ write → updates (performs p .kind) ≡ true → o .attributes ≡ W (performs p)
+  does-write : o .action ≡ write → updates (statementDone p .kind) ≡ true → o .attributes ≡ W (statementDone p)
       → List·Memᴰ (o .tuple) (p .tuples) → Does p o
-  does-insert : o .action ≡ insert → inserts (performs p .kind) ≡ true → o .attributes ≡ everyAttribute
+  does-insert : o .action ≡ insert → inserts (statementDone p .kind) ≡ true → o .attributes ≡ everyAttribute
       → List·Memᴰ (o .tuple) (p .tuples) → Does p o
-  does-delete : o .action ≡ delete → deletes (performs p .kind) ≡ true → o .attributes ≡ everyAttribute
+  does-delete : o .action ≡ delete → deletes (statementDone p .kind) ≡ true → o .attributes ≡ everyAttribute
       → List·Memᴰ (o .tuple) (p .tuples) → Does p o
 
 -- an operation of a performed statement, with its place and relation
 pub record Belongs (p : Performed) (o : Operation) : Type 0 where
   pub place : o .place ≡ p .place
-  pub relation : o .relation ≡ performs p .relation
+  pub relation : o .relation ≡ statementDone p .relation
   pub does : Does p o
 
 -- what a statement of each kind does to a tuple, in this order
@@ -70,16 +70,16 @@ attributesOf s commit = 0
 operationOf : Performed → ℕ → Action → Operation
 unfolding attributesOf
 operationOf p t a =
-    record { place = p .place; action = a; relation = performs p .relation; tuple = t; attributes = attributesOf (performs p) a }
+    record { place = p .place; action = a; relation = statementDone p .relation; tuple = t; attributes = attributesOf (statementDone p) a }
 
 -- what a statement does to a tuple are the operations of its kind's actions
-onTuple-actions : (p : Performed) (t : ℕ) → onTuple p t ≡ map (operationOf p t) (actionsOf (performs p .kind))
+onTuple-actions : (p : Performed) (t : ℕ) → onTuple p t ≡ map (operationOf p t) (actionsOf (statementDone p .kind))
 unfolding onTuple actionsOf attributesOf operationOf
-onTuple-actions p t = go (performs p .kind)
+onTuple-actions p t = go (statementDone p .kind)
   where
     ofKind : StatementKind → Performed
     ofKind c =
-        let s = performs p in
+        let s = statementDone p in
         record {
           place = p .place;
           occurrence =
@@ -114,7 +114,7 @@ unfolding actionsOf doneBy
 action-done k m = all-true (λ a. doneBy a k) (every-kind (λ k. all (λ a. doneBy a k) (actionsOf k)) refl k) m
 
 module _ (p : Performed) (t : ℕ) (mem : List·Memᴰ t (p .tuples)) where
-  operation-does : (a : Action) → doneBy a (performs p .kind) ≡ true → Does p (operationOf p t a)
+  operation-does : (a : Action) → doneBy a (statementDone p .kind) ≡ true → Does p (operationOf p t a)
   unfolding doneBy attributesOf operationOf
   operation-does read h = does-read refl h refl mem
   operation-does write h = does-write refl h refl mem
@@ -127,9 +127,9 @@ module _ (p : Performed) (t : ℕ) (mem : List·Memᴰ t (p .tuples)) where
   onTuple-belongs : (k : ℕ) {o : Operation} → getElem? (onTuple p t) k ≡ some o → Belongs p o
   unfolding operationOf
   onTuple-belongs k {o} h =
-      let actions = actionsOf (performs p .kind) in
+      let actions = actionsOf (statementDone p .kind) in
       let m = getElem?-of-map (operationOf p t) actions k (ap (λ (l : List Operation). getElem? l k) (sym (onTuple-actions p t)) ∙ h) in
-      let does = operation-does (m .0) (action-done (performs p .kind) (getElem?-member actions k (m .1))) in
+      let does = operation-does (m .0) (action-done (statementDone p .kind) (getElem?-member actions k (m .1))) in
       subst (Belongs p) (m .2) (record { place = refl; relation = refl; does = does })
 
 -- each operation of a statement on its tuples belongs to it
@@ -149,17 +149,17 @@ tuples-belong p (t ∷ ts) inTuples k {o} e =
 
 -- the predicate read with which a statement that tests begins
 abbrev opening : Performed → Operation
-opening p = record { place = p .place; action = predicateRead; relation = performs p .relation; tuple = 0; attributes = T (performs p) }
+opening p = record { place = p .place; action = predicateRead; relation = statementDone p .relation; tuple = 0; attributes = T (statementDone p) }
 
 -- each operation of a statement belongs to it
 pub operation-belongs : (p : Performed) (k : ℕ) {o : Operation} → getElem? (operationsOf p) k ≡ some o → Belongs p o
 unfolding operationsOf
-operation-belongs p k {o} = go (hasTests (performs p .kind)) refl k
+operation-belongs p k {o} = go (hasTests (statementDone p .kind)) refl k
   where
     tuples : (k : ℕ) → getElem? (flatMap (onTuple p) (p .tuples)) k ≡ some o → Belongs p o
     tuples k e = tuples-belong p (p .tuples) (λ t m. m) k e
 
-    go : (c : Bool) → hasTests (performs p .kind) ≡ c → (k : ℕ)
+    go : (c : Bool) → hasTests (statementDone p .kind) ≡ c → (k : ℕ)
         → getElem? (cond c (opening p ∷ []) [] ++ flatMap (onTuple p) (p .tuples)) k ≡ some o → Belongs p o
     go true c zero e = subst (Belongs p) (some-injective e) (record { place = refl; relation = refl; does = does-test refl c refl })
     go true c (suc k) e = tuples k e
@@ -168,14 +168,14 @@ operation-belongs p k {o} = go (hasTests (performs p .kind)) refl k
 -- the statements performed: each with its place
 pub performed-at : (x : Transaction) (i : ℕ) (l : List Occurrence) (j : ℕ) {p : Performed} → getElem? (performedFrom x i l) j ≡ some p
     → (p .place ≡ i + j) × (getElem? l j ≡ some (p .occurrence))
-    × (p .tuples ≡ chosen (performs p .kind) (x .tuple (p .place)) (x .tuples (p .place)))
+    × (p .tuples ≡ chosen (statementDone p .kind) (x .tuple (p .place)) (x .tuples (p .place)))
 unfolding performedFrom
 performed-at x i [] j e = let z : _≡_ {A = ℕ} 0 1 = cc in absurd (omega arith)
 performed-at x i (o ∷ l) zero {p} e =
     let q : Performed = record { place = i; occurrence = o; tuples = chosen (o .statement .kind) (x .tuple i) (x .tuples i) } in
     subst
     (λ (p : Performed). (p .place ≡ i + 0) × (_≡_ {A = Option Occurrence} (some o) (some (p .occurrence)))
-    × (p .tuples ≡ chosen (performs p .kind) (x .tuple (p .place)) (x .tuples (p .place))))
+    × (p .tuples ≡ chosen (statementDone p .kind) (x .tuple (p .place)) (x .tuples (p .place))))
     (some-injective {x = q} e) (omega arith, refl, refl)
 performed-at x i (o ∷ l) (suc j) e = let r = performed-at x (suc i) l j e in (r .0 ∙ omega arith, r .1, r .2)
 
@@ -201,13 +201,13 @@ update-actions k u =
     rw (u, kind-implies updates hasReads refl k u, kinds-apart updates inserts refl k u, kinds-apart updates deletes refl k u) refl
 
 -- in what an update does to a tuple the write stands after the read
-update-on-tuple : (p : Performed) (t : ℕ) (k : ℕ) {o : Operation} → updates (performs p .kind) ≡ true → getElem? (onTuple p t) k ≡ some o
+update-on-tuple : (p : Performed) (t : ℕ) (k : ℕ) {o : Operation} → updates (statementDone p .kind) ≡ true → getElem? (onTuple p t) k ≡ some o
     → o .action ≡ read → (o′ : Operation) × (getElem? (onTuple p t) (suc k) ≡ some o′) × Followed o o′
 unfolding operationOf
 update-on-tuple p t k {o} u =
     subst
     (λ (l : List Operation). getElem? l k ≡ some o → o .action ≡ read → (o′ : Operation) × (getElem? l (suc k) ≡ some o′) × Followed o o′)
-    (sym (onTuple-actions p t ∙ ap (map (operationOf p t)) (update-actions (performs p .kind) u))) (pair k)
+    (sym (onTuple-actions p t ∙ ap (map (operationOf p t)) (update-actions (statementDone p .kind) u))) (pair k)
   where
     pair : (k : ℕ) → getElem? (map (operationOf p t) (read ∷ write ∷ [])) k ≡ some o → o .action ≡ read
         → (o′ : Operation) × (getElem? (map (operationOf p t) (read ∷ write ∷ [])) (suc k) ≡ some o′) × Followed o o′
@@ -227,10 +227,10 @@ update-on-tuple p t k {o} u =
     pair (suc (suc k)) e r = let z : _≡_ {A = ℕ} 0 1 = cc in absurd (omega arith)
 
 -- the same among all operations of a statement
-update-follows : (p : Performed) (k : ℕ) {o : Operation} → updates (performs p .kind) ≡ true → getElem? (operationsOf p) k ≡ some o
+update-follows : (p : Performed) (k : ℕ) {o : Operation} → updates (statementDone p .kind) ≡ true → getElem? (operationsOf p) k ≡ some o
     → o .action ≡ read → (o′ : Operation) × (getElem? (operationsOf p) (suc k) ≡ some o′) × Followed o o′
 unfolding operationsOf
-update-follows p k {o} u = go (hasTests (performs p .kind)) k
+update-follows p k {o} u = go (hasTests (statementDone p .kind)) k
   where
     tuples : (k : ℕ) → getElem? (flatMap (onTuple p) (p .tuples)) k ≡ some o → o .action ≡ read
         → (o′ : Operation) × (getElem? (flatMap (onTuple p) (p .tuples)) (suc k) ≡ some o′) × Followed o o′
@@ -252,7 +252,7 @@ pub record InStatement (x : Transaction) (k : ℕ) (o : Operation) : Type 0 wher
   pub performs : Performed
   pub at : getElem? (performed x) (o .place) ≡ some performs
   pub belongs : Belongs performs o
-  pub follows : updates (performs performs .kind) ≡ true → o .action ≡ read
+  pub follows : updates (statementDone performs .kind) ≡ true → o .action ≡ read
       → (o′ : Operation) × (getElem? (operations x) (suc k) ≡ some o′) × Followed o o′
 
 abbrev committing : Transaction → Operation
@@ -364,12 +364,12 @@ commit-at x = (
 
 -- the tuples of a performed statement
 pub performed-tuples : (x : Transaction) (j : ℕ) {p : Performed} → getElem? (performed x) j ≡ some p
-    → p .tuples ≡ chosen (performs p .kind) (x .tuple (p .place)) (x .tuples (p .place))
+    → p .tuples ≡ chosen (statementDone p .kind) (x .tuple (p .place)) (x .tuples (p .place))
 unfolding performed
 performed-tuples x j e = performed-at x 0 (occurrences (x .execution) 0) j e .2
 
 -- a statement that does not test and has one tuple does what it does to that tuple
-single : (p : Performed) (t : ℕ) → hasTests (performs p .kind) ≡ false → p .tuples ≡ t ∷ [] → operationsOf p ≡ onTuple p t
+single : (p : Performed) (t : ℕ) → hasTests (statementDone p .kind) ≡ false → p .tuples ≡ t ∷ [] → operationsOf p ≡ onTuple p t
 unfolding operationsOf flatMap
 single p t h e =
     ap (λ (c : Bool). cond c (opening p ∷ []) [] ++ flatMap (onTuple p) (p .tuples)) h
@@ -382,7 +382,7 @@ module _ (p : Performed) (t : ℕ) (tuples : p .tuples ≡ t ∷ []) where
   Writes = (k : ℕ) × (o : Operation) × (getElem? (operationsOf p) k ≡ some o) × (isWrite (o .action) ≡ true) × List·Memᴰ (o .tuple) (p .tuples)
 
   -- the operation at this position of what the statement does to its tuple
-  writing : (k : ℕ) (o : Operation) → hasTests (performs p .kind) ≡ false → getElem? (onTuple p t) k ≡ some o
+  writing : (k : ℕ) (o : Operation) → hasTests (statementDone p .kind) ≡ false → getElem? (onTuple p t) k ≡ some o
       → isWrite (o .action) ≡ true → o .tuple ≡ t → Writes
   unfolding Writes
   writing k o h e w q = (
@@ -393,10 +393,10 @@ module _ (p : Performed) (t : ℕ) (tuples : p .tuples ≡ t ∷ []) where
     subst (λ (l : List ℕ). List·Memᴰ (o .tuple) l) (sym tuples) (List·Memᴰ·head q),
   )
 
-  shielding : shields (performs p .kind) ≡ true → Writes
+  shielding : shields (statementDone p .kind) ≡ true → Writes
   unfolding actionsOf operationOf
   shielding h =
-      let k = performs p .kind in
+      let k = statementDone p .kind in
       let a = any-true isWrite (actionsOf k) (kind-implies shields (λ k. any isWrite (actionsOf k)) refl k h) in
       let i = member-getElem? (a .1) in
       writing (i .0) (operationOf p t (a .0)) (kinds-apart shields hasTests refl k h)
@@ -413,15 +413,15 @@ one-tuple Pu a l = refl
 one-tuple Kd a l = refl
 one-tuple Pd a l = refl
 
-pub shield-writes : (x : Transaction) (j : ℕ) {p : Performed} → getElem? (performed x) j ≡ some p → shields (performs p .kind) ≡ true
+pub shield-writes : (x : Transaction) (j : ℕ) {p : Performed} → getElem? (performed x) j ≡ some p → shields (statementDone p .kind) ≡ true
     → (k : ℕ) × (o : Operation) × (getElem? (operations x) k ≡ some o) × (o .place ≡ j) × (isWrite (o .action) ≡ true)
-    × (o .relation ≡ performs p .relation) × List·Memᴰ (o .tuple) (p .tuples)
+    × (o .relation ≡ statementDone p .relation) × List·Memᴰ (o .tuple) (p .tuples)
 unfolding operations Writes
 shield-writes x j {p} e sh =
     let t = x .tuple (p .place) in
     let tuples : p .tuples ≡ t ∷ [] =
-    performed-tuples x j e ∙ one-tuple (performs p .kind) t (x .tuples (p .place))
-    ∙ ap (λ (b : Bool). cond b (x .tuples (p .place)) (t ∷ [])) (kinds-apart shields hasTests refl (performs p .kind) sh) in
+    performed-tuples x j e ∙ one-tuple (statementDone p .kind) t (x .tuples (p .place))
+    ∙ ap (λ (b : Bool). cond b (x .tuples (p .place)) (t ∷ [])) (kinds-apart shields hasTests refl (statementDone p .kind) sh) in
     let w = shielding p t tuples sh in
     let c = chunk-position operationsOf (performed x) j (w .0) e (w .2) in
     let b = operation-belongs p (w .0) (w .2) in (

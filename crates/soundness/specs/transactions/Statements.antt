@@ -22,7 +22,7 @@ use Rattle.soundness.specs.transactions.Operations.{
   Followed,
   InStatement,
   updates,
-  performs,
+  statementDone,
   operation-cases,
   places-rise,
   shield-writes,
@@ -39,7 +39,7 @@ module _ {lines : List Line} (s : Schedule lines) where
     pub performs : Performed
     pub at : getElem? (performed x) (e .place) ≡ some performs
     pub belongs : Belongs performs (operationOf e)
-    pub follows : updates (performs performs .kind) ≡ true → e .action ≡ read
+    pub follows : updates (statementDone performs .kind) ≡ true → e .action ≡ read
         → (o : Operation) × (getElem? (operations x) (suc (e .number)) ≡ some o) × Followed (operationOf e) o
 
   pub event-stated : (i : ℕ) {x : Transaction} → getElem? (s .transactions) i ≡ some x → (n : ℕ) (e : Event) → getElem? (s .events) n ≡ some e
@@ -121,9 +121,9 @@ module _ {lines : List Line} (s : Schedule lines) where
 
   -- a statement of a kind that shields has an event that writes its tuple
   pub shield-event : (i : ℕ) {x : Transaction} → getElem? (s .transactions) i ≡ some x → (j : ℕ) {p : Performed} → getElem? (performed x) j ≡ some p
-      → shields (performs p .kind) ≡ true
+      → shields (statementDone p .kind) ≡ true
       → (n : ℕ) × (e : Event) × (getElem? (s .events) n ≡ some e) × (e .transaction ≡ i) × (e .place ≡ j) × (isWrite (e .action) ≡ true)
-      × (e .relation ≡ performs p .relation) × List·Memᴰ (e .tuple) (p .tuples)
+      × (e .relation ≡ statementDone p .relation) × List·Memᴰ (e .tuple) (p .tuples)
   shield-event i {x} t j h sh =
       let w = shield-writes x j h sh in
       let e = operation-event s i t (w .0) (w .2) in
