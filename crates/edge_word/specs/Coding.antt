@@ -10,8 +10,8 @@ use native.Mathlib.Omega.{arith}
 use lib.Dec.{eqb, leb}
 use lib.ListN.{getD}
 use borrow.Author.Tests.{ne-eqb, le-leb, lt-leb}
-use Rattle.walk_laws.specs.declared.Pick.{Pick}
-use Rattle.walk_laws.specs.Pick.{Picks}
+use Rattle.pick_laws.specs.declared.Pick.{Pick}
+use Rattle.pick_laws.specs.Pick.{Picks}
 
 -- ---- the layout
 

@@ -9,8 +9,8 @@ use native.Mathlib.Omega.{arith}
 use borrow.Author.Tests.{eq-eqb}
 use Rattle.law_base.specs.ListLaws.{some-injective}
 use Rattle.spec_graph.specs.Graph.{Flow, Graph}
-use Rattle.walk_laws.specs.declared.Pick.{Pick}
-use Rattle.walk_laws.specs.PickLaws.{Picked}
+use Rattle.pick_laws.specs.declared.Pick.{Pick}
+use Rattle.pick_laws.specs.PickLaws.{Picked}
 use Rattle.edge_word.specs.Coding.{forwardWord, backWord, forwardPick, backPick, entry, forwardsIn, backsIn}
 use Rattle.edge_word.specs.Coding.{forward-word, back-word, forward-greater, back-greater, forward-positive, back-positive}
 

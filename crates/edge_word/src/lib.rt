@@ -1,10 +1,10 @@
 // The word of an edge between two of 64 nodes, as the two tables of the search hold it, and the edge that it stands for (specs/Coding). The word of
 // no edge is 0. Of two edges between the same nodes the one with the greater word makes a dangerous pair wherever the other does.
 
-use walk_laws::Pick;
+use pick_laws::Pick;
 ghost use mathlib.Core.Bool.{cond};
 ghost use mathlib.Core.Path.{_≡_};
-ghost use Rattle.walk_laws.specs.Pick.{dangerousPicks};
+ghost use Rattle.pick_laws.specs.Pick.{dangerousPicks};
 ghost use Rattle.edge_word.specs.Coding.{forwardWord, backWord, forwardEdge, backEdge, forwardPick, backPick};
 
 // The nodes of a table, and the pairs of them: the word for the edge from u to v stands at u * 64 + v.

@@ -25,7 +25,7 @@ use Rattle.edge_list.specs.EdgesSettled.{edgesIn, PutSettled}
 use Rattle.edge_list.specs.Few.{edges-few}
 use Rattle.text_read.specs.declared.Parsed.{Parsed}
 use Rattle.text_read.specs.Parse.{parsedAs}
-use Rattle.text_refusal.specs.RefusalLaws.{refusal-bounds, parsed-refused, parsed-accepted}
+use Rattle.refusal_laws.specs.RefusalLaws.{refusal-bounds, parsed-refused, parsed-accepted}
 use Rattle.export_word.specs.Word.{refusalWord}
 use Rattle.export_word.specs.WordLaws.{word-back}
 use Rattle.exports.specs.TextEdges.{edgesPut, TextEdges, edgesWord, FewPut}

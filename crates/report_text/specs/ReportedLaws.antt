@@ -21,7 +21,7 @@ use Rattle.spec_report.specs.Report.{Report, refusalReport, dangerReport}
 use Rattle.spec_report.specs.Report.Report.{refusal, unfolding-refusal, robust, danger}
 use Rattle.text_read.specs.declared.Parsed.{Parsed}
 use Rattle.text_read.specs.Parse.{parsedAs}
-use Rattle.text_refusal.specs.RefusalLaws.{parsed-refused, parsed-accepted}
+use Rattle.refusal_laws.specs.RefusalLaws.{parsed-refused, parsed-accepted}
 use Rattle.verdict_told.specs.Told.{Told}
 use Rattle.verdict_of.specs.Verdict.{Word, Judged}
 use Rattle.verdict_of.specs.Verdict.Word.{robust as robust-word, danger as danger-word}

@@ -17,7 +17,7 @@ use Rattle.spec_text.specs.Text.{space, same, onFirst, fieldsIn}
 use Rattle.spec_text.specs.Text.{wordOf, kinds, kindOf, Form, formsOf, fieldOf, valuesOf, lineWith, lineOf}
 use Rattle.law_text.specs.TextLaws.{same-equal}
 use Rattle.text_fields.specs.Field.{fieldLength, othersIn, numberIf, before, stepAt, lineFrom, lineAfterWord}
-use Rattle.text_digits.specs.DigitLaws.{number-small, dash-zero}
+use Rattle.text_number.specs.DigitLaws.{number-small, dash-zero}
 
 -- the first field and the others
 pub fields-cut : (line : List ℕ) → fieldsIn line ≡ take (fieldLength line) line ∷ othersIn (drop (fieldLength line) line)

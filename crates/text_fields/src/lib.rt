@@ -2,13 +2,13 @@
 use spec_text::Line;
 use spec_text::LineKind;
 use spec_text::StatementKind;
-use text_digits::FieldForm;
-use text_digits::FieldRead;
+use text_number::FieldForm;
+use text_number::FieldRead;
 ghost use mathlib.Core.Path.{_≡_};
 ghost use Prim.Native.Nat.{_+_};
 ghost use lib.ListN.{drop};
 ghost use Rattle.spec_text.specs.Text.{lineOf, kindOf};
-ghost use Rattle.text_digits.specs.Digits.{formOf};
+ghost use Rattle.text_number.specs.Digits.{formOf};
 ghost use Rattle.text_fields.specs.Field.{fieldLength, setIf, stepAt, lineAfterWord};
 ghost use Rattle.text_fields.specs.Answer.{lineAnswer, valueOr4};
 ghost use Rattle.text_fields.specs.FieldStep.{kindAnswer, stepAnswer, NumberStep};
@@ -53,7 +53,7 @@ fn next_field(bytes: &[u8], at: usize, form: FieldForm) -> FieldStep
     }
     let start = at + 1;
     let end = field_end(bytes, start);
-    let r = text_digits::field_of(form, &bytes[start..end]);
+    let r = text_number::field_of(form, &bytes[start..end]);
     match r {
         FieldRead::Value(v) => FieldStep::Value(v, end),
         FieldRead::Wrong => FieldStep::Wrong,

@@ -23,12 +23,12 @@ use Rattle.spec_text.specs.Text.{space, dash, newline, isDecimal, isHexadecimal
 use Rattle.spec_text.specs.Text.{digit, digitsOf}
 use Rattle.law_text.specs.Written.{fieldWritten, fieldsWritten, lineWritten}
 use Rattle.law_text.specs.TextLaws.{digit-below, same-equal, forms-six, six-values, fits, allFit, valuesIn, lineFits}
-use Rattle.text_digits.specs.DigitLaws.{Digit, digit-view}
+use Rattle.text_number.specs.DigitLaws.{Digit, digit-view}
 use Rattle.text_fields.specs.Field.{fieldLength, othersIn, lineFrom, lineAfterWord}
 use Rattle.text_fields.specs.FieldLaws.{inFront, withValue, values-cons, values-split}
 use Rattle.text_fields.specs.FieldLaws.{fields-cut, kind-word, line-none, line-some}
 use Rattle.text_fields.specs.WordLaws.{kind-of-word}
-use Rattle.text_digits.specs.DigitLaws.Digit.{decimal, letter, neither}
+use Rattle.text_number.specs.DigitLaws.Digit.{decimal, letter, neither}
 
 -- a digit is written for what it stands for
 digit-back : (d : ℕ) → isHexadecimal d ≡ true → digit (digitValue d) ≡ d

@@ -16,7 +16,7 @@ use Rattle.soundness.specs.Theorem.{demand-3}
 use Rattle.spec_report.specs.State.{StateRefusal, shortForWalk, Counts, counted, countsOf, summaryGraph, Robust}
 use Rattle.spec_report.specs.State.StateRefusal.{not-given, too-many, too-short, taken}
 use Rattle.spec_report.specs.Refusals.{taken-given}
-use Rattle.walk_laws.specs.declared.WalkFound.{WalkFound}
+use Rattle.pick_laws.specs.declared.WalkFound.{WalkFound}
 use Rattle.walk_find.specs.TableWalk.{tableWalk, refusalIn, stepsIn, WalkAnswered}
 use Rattle.walk_find.specs.TableWalk.WalkAnswered.{no-room, no-walk, shown}
 use Rattle.place_table.specs.declared.Rows.{Rows}

@@ -1,6 +1,6 @@
 // What a verdict tells: robust or danger with its counts, or a refusal; and which of them it is for what the search for a walk found.
 
-use walk_laws::WalkFound;
+use pick_laws::WalkFound;
 ghost use mathlib.Core.Path.{_≡_};
 ghost use Rattle.spec_report.specs.State.{counted};
 ghost use Rattle.verdict_told.specs.Told.{told};

@@ -16,7 +16,7 @@ use Rattle.spec_graph.specs.Graph.{Graph}
 use Rattle.spec_graph.specs.Walk.{Step, isDangerous, DangerousWalk}
 use Rattle.spec_report.specs.State.{shortForWalk}
 use Rattle.spec_report.specs.Area.{flowWord, stepWords, shownIn}
-use Rattle.walk_laws.specs.declared.Pick.{Pick}
+use Rattle.pick_laws.specs.declared.Pick.{Pick}
 use Rattle.edge_word.specs.Coding.{forwardEdge, backEdge, entry}
 use Rattle.walk_reach.specs.Layers.{joinedRows, layersTo}
 use Rattle.walk_pair.specs.Pairs.{nodeIn, pairFor}

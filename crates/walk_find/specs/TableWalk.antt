@@ -14,9 +14,9 @@ use Rattle.spec_graph.specs.Walk.{Step, isDangerous, DangerousWalk}
 use Rattle.law_walk.specs.Reach.{Regular}
 use Rattle.spec_report.specs.State.{shortForWalk}
 use Rattle.spec_report.specs.Area.{flowWord, shownIn}
-use Rattle.walk_laws.specs.declared.WalkFound.{WalkFound}
-use Rattle.walk_laws.specs.Pick.{stepOf, walkAt}
-use Rattle.walk_laws.specs.PickLaws.{Picked}
+use Rattle.pick_laws.specs.declared.WalkFound.{WalkFound}
+use Rattle.pick_laws.specs.Pick.{stepOf, walkAt}
+use Rattle.pick_laws.specs.PickLaws.{Picked}
 use Rattle.edge_word.specs.Coding.{forwardEdge, backEdge, entry, forwardsIn, backsIn}
 use Rattle.walk_reach.specs.Layers.{joinedRows, layersTo}
 use Rattle.walk_pair.specs.Pairs.{pairFor, nodeIn}

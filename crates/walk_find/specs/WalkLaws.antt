@@ -19,8 +19,8 @@ use Rattle.law_base.specs.SetLaws.{has-empty, has-bitAnd}
 use Rattle.spec_graph.specs.Graph.{Flow, Graph}
 use Rattle.spec_graph.specs.Walk.{Step, isDangerous, DangerousWalk}
 use Rattle.law_walk.specs.Reach.{Regular, roundsFor}
-use Rattle.walk_laws.specs.Pick.{Picks, picked, dangerousPicks, onwardTo, reaches, returnsAt, nodeTest, stepAlong, wayTo, walkAt}
-use Rattle.walk_laws.specs.PickLaws.{Picked, dangerous-some, walk-found, node-complete}
+use Rattle.pick_laws.specs.Pick.{Picks, picked, dangerousPicks, onwardTo, reaches, returnsAt, nodeTest, stepAlong, wayTo, walkAt}
+use Rattle.pick_laws.specs.PickLaws.{Picked, dangerous-some, walk-found, node-complete}
 use Rattle.edge_word.specs.Coding.{forwardPick, backPick, forwardEdge, backEdge, entry, forwardsIn, backsIn}
 use Rattle.walk_reach.specs.Layers.{joinedRow, joinedRows, layersTo}
 use Rattle.walk_reach.specs.LayerLaws.{row-at, row-has, layers-has}

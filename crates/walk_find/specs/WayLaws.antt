@@ -9,7 +9,7 @@ use lib.Bits.{bitAnd}
 use lib.ListN.{length, getD, length-set}
 use Rattle.spec_base.specs.Basic.{has}
 use Rattle.spec_graph.specs.Walk.{Step}
-use Rattle.walk_laws.specs.declared.Pick.{Pick}
+use Rattle.pick_laws.specs.declared.Pick.{Pick}
 use Rattle.edge_word.specs.Coding.{forwardEdge, entry}
 use Rattle.walk_find.specs.TableWalk.{lowest, forwardStep, wayOn, putWords, putStep, putSteps, Writing, writing, goOn, Written, WayTurn}
 

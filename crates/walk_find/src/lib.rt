@@ -4,7 +4,7 @@
 use edge_word::NODES;
 use edge_word::back_edge;
 use edge_word::forward_edge;
-use walk_laws::WalkFound;
+use pick_laws::WalkFound;
 use walk_pair::closing_pair;
 use walk_reach::LAST_LAYER;
 use walk_reach::joined_rows;

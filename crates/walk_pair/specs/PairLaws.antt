@@ -8,7 +8,7 @@ use lib.ListN.{getD}
 use borrow.Author.Tests.{eq-eqb, ne-eqb, lt-ltb, le-ltb}
 use Rattle.spec_base.specs.Basic.{has}
 use Rattle.law_base.specs.BoolLaws.{and-left}
-use Rattle.walk_laws.specs.Pick.{dangerousPicks}
+use Rattle.pick_laws.specs.Pick.{dangerousPicks}
 use Rattle.edge_word.specs.Coding.{forwardPick, backPick, backsIn}
 use Rattle.walk_reach.specs.Layers.{layersTo}
 use Rattle.walk_pair.specs.SearchLaws.{first-none, first-end, first-block}

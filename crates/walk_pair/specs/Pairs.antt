@@ -6,7 +6,7 @@ use Prim.Native.Nat.{ℕ, zero, suc, _/_, _%_, _≤_, _<_}
 use lib.Dec.{eqb, ltb}
 use lib.ListN.{getD}
 use Rattle.spec_base.specs.Basic.{has}
-use Rattle.walk_laws.specs.Pick.{dangerousPicks}
+use Rattle.pick_laws.specs.Pick.{dangerousPicks}
 use Rattle.edge_word.specs.Coding.{forwardPick, forwardsIn, backsIn}
 use Rattle.walk_reach.specs.Layers.{layersTo}
 use Rattle.walk_pair.specs.declared.Closing.{Closing}

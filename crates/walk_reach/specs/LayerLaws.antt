@@ -14,7 +14,7 @@ use Rattle.spec_base.specs.Basic.{any, numbers, has, meets}
 use Rattle.law_base.specs.BoolLaws.{decide, true-false, same-test, and-true, and-of}
 use Rattle.law_base.specs.ListLaws.{any-numbers, any-numbers-of}
 use Rattle.law_base.specs.SetLaws.{has-empty, has-bitOr, has-bit, meets-has, has-meets, meets-comm, meets-empty}
-use Rattle.walk_laws.specs.Pick.{picked, onwardTo, reaches}
+use Rattle.pick_laws.specs.Pick.{picked, onwardTo, reaches}
 use Rattle.edge_word.specs.Coding.{forwardPick, forwardEdge, entry, forwardsIn}
 use Rattle.walk_reach.specs.Layers.{withNode, wordBelow, joinedBit, joinedRow, joinedRows, growsTo, grown, layer, layersTo}
 use Rattle.walk_reach.specs.NodeWordLaws.{last-turn, word-out, word-in, word-none, list-at}

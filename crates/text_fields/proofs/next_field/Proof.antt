@@ -3,7 +3,7 @@ use mathlib.Core.Path.{ap, sym, _∙_}
 use Prim.Native.Nat.{_+_}
 use native.Mathlib.Omega.{arith}
 use borrow.Author.Needs.{needs}
-use Rattle.text_digits.specs.Digits.{fieldAnswer}
+use Rattle.text_number.specs.Digits.{fieldAnswer}
 use Rattle.text_fields.specs.Field.{before}
 use Rattle.text_fields.specs.FieldLaws.{field-inside, step-is, step-end}
 use Rattle.text_fields.proofs.next_field.Statement.{statement}

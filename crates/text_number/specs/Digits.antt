@@ -7,8 +7,8 @@ use lib.Dec.{eqb, leb, ltb}
 use lib.ListN.{length, getD}
 use Rattle.spec_text.specs.Text.{Form}
 use Rattle.spec_text.specs.Text.Form.{number, set, nothing}
-use Rattle.text_digits.specs.declared.FieldRead.{FieldRead}
-use Rattle.text_digits.specs.declared.FieldForm.{FieldForm}
+use Rattle.text_number.specs.declared.FieldRead.{FieldRead}
+use Rattle.text_number.specs.declared.FieldForm.{FieldForm}
 
 -- the value of a field, or none
 abbrev pub fieldAnswer : FieldRead → Option ℕ

@@ -2,9 +2,9 @@
 use mathlib.Core.Logic.{⊎-elim}
 use borrow.Author.Needs.{needs}
 use borrow.Author.Tests.{lt-ltb, le-ltb, eq-eqb, ne-eqb}
-use Rattle.text_digits.specs.Digits.{digitsIn}
-use Rattle.text_digits.proofs.digits_of.Statement.{statement}
-use Rattle.text_digits.proofs.digits_of.Tie as tie
+use Rattle.text_number.specs.Digits.{digitsIn}
+use Rattle.text_number.proofs.digits_of.Statement.{statement}
+use Rattle.text_number.proofs.digits_of.Tie as tie
 
 returns : tie.Need-returns
 unfolding digitsIn

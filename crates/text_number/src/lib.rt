@@ -3,7 +3,7 @@ ghost use mathlib.Core.Path.{_≡_};
 ghost use Prim.Native.Nat.{_≤_};
 ghost use lib.ListN.{length};
 ghost use Rattle.spec_text.specs.Text.{numberOf, dashOf, fieldOf};
-ghost use Rattle.text_digits.specs.Digits.{hexadecimal, digitsFrom, digitsIn, fieldAnswer, formOf};
+ghost use Rattle.text_number.specs.Digits.{hexadecimal, digitsFrom, digitsIn, fieldAnswer, formOf};
 
 // The value of one field, or that the field has another form.
 pub enum FieldRead {

@@ -3,10 +3,10 @@ use mathlib.Core.Path.{_≡_, refl, sym, _∙_}
 use Prim.Native.Nat.{_+_, _-_, _*_, _^_, _≤_, _<_}
 use native.Mathlib.Omega.{arith}
 use lib.ListN.{length, drop}
-use Rattle.text_digits.specs.DigitLaws.{digits-wrong, digits-more, digits-done, next-power, power-fits}
-use Rattle.text_digits.specs.Digits.{digitsFrom}
-use Rattle.text_digits.proofs.digits_value.Statement.{statement}
-use Rattle.text_digits.proofs.digits_value.Tie as tie
+use Rattle.text_number.specs.DigitLaws.{digits-wrong, digits-more, digits-done, next-power, power-fits}
+use Rattle.text_number.specs.Digits.{digitsFrom}
+use Rattle.text_number.proofs.digits_value.Statement.{statement}
+use Rattle.text_number.proofs.digits_value.Tie as tie
 
 abbrev Inv-loop : tie.InvT-loop
 Inv-loop field base value₀ i₀ value i =

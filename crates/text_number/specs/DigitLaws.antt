@@ -14,7 +14,7 @@ use borrow.Author.Tests.{ltb-true, ltb-false, leb-true, leb-false, lt-ltb, le-lt
 use Rattle.spec_base.specs.Basic.{all}
 use Rattle.law_base.specs.BoolLaws.{and-true, and-right}
 use Rattle.spec_text.specs.Text.{same, isDecimal, isHexadecimal, digitsForm, digitValue, valueAfter, numberOf, setOf, dashOf}
-use Rattle.text_digits.specs.Digits.{hexadecimal, digitsFrom, digitsIn, atMost255}
+use Rattle.text_number.specs.Digits.{hexadecimal, digitsFrom, digitsIn, atMost255}
 
 -- what the tests and the values say of a byte: it is a decimal digit, a letter a to f, or no digit
 pub data Digit (b : ℕ) : Type 0 where

@@ -3,9 +3,9 @@ use mathlib.Core.Path.{_∙_}
 use native.Mathlib.Omega.{arith}
 use borrow.Author.Needs.{needs}
 use Rattle.spec_text.specs.Text.{fieldOf}
-use Rattle.text_digits.specs.DigitLaws.{set-in}
-use Rattle.text_digits.proofs.field_of.Statement.{statement}
-use Rattle.text_digits.proofs.field_of.Tie as tie
+use Rattle.text_number.specs.DigitLaws.{set-in}
+use Rattle.text_number.proofs.field_of.Statement.{statement}
+use Rattle.text_number.proofs.field_of.Tie as tie
 
 enum-told : tie.Need-enum-told
 enum-told c = search needs

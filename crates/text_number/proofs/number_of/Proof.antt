@@ -1,10 +1,10 @@
 -- The digits, and then the limit of numbers.
 use mathlib.Core.Path.{ap, sym, _∙_}
 use borrow.Author.Needs.{needs}
-use Rattle.text_digits.specs.Digits.{fieldAnswer}
-use Rattle.text_digits.specs.DigitLaws.{number-some, number-large, number-none}
-use Rattle.text_digits.proofs.number_of.Statement.{statement}
-use Rattle.text_digits.proofs.number_of.Tie as tie
+use Rattle.text_number.specs.Digits.{fieldAnswer}
+use Rattle.text_number.specs.DigitLaws.{number-some, number-large, number-none}
+use Rattle.text_number.proofs.number_of.Statement.{statement}
+use Rattle.text_number.proofs.number_of.Tie as tie
 
 digits-of-requires : tie.Need-digits-of-requires
 digits-of-requires c κs = search needs

@@ -18,8 +18,8 @@ use Rattle.spec_graph.specs.Graph.{Flow, Graph, isBack}
 use Rattle.spec_graph.specs.Walk.{Step, isEdge, dangerousPair, isDangerous, DangerousWalk}
 use Rattle.law_walk.specs.Reach.{Regular, Reachable, stepsOf, closes, DangerousReturn, walk-return, back-of, roundsFor, reach-short}
 use Rattle.law_walk.specs.Reach.Reachable.{here, along}
-use Rattle.walk_laws.specs.Pick.{Picks, picked, dangerousPicks, onwardTo, reaches, returnsAt, nodeTest, stepOf, stepAlong, wayTo, walkAt}
-use Rattle.walk_laws.specs.declared.Pick.{Pick}
+use Rattle.pick_laws.specs.Pick.{Picks, picked, dangerousPicks, onwardTo, reaches, returnsAt, nodeTest, stepOf, stepAlong, wayTo, walkAt}
+use Rattle.pick_laws.specs.declared.Pick.{Pick}
 
 -- the picks among n nodes stand for all edges: each is an edge, a forward one leaves a loose place where any does and else
 -- enters last, and a back one leaves first

@@ -1,8 +1,8 @@
 -- The byte passes the test of hexadecimal digits or not.
 use borrow.Author.Needs.{needs}
-use Rattle.text_digits.specs.DigitLaws.{digit-parts, digit-none}
-use Rattle.text_digits.proofs.digit_of.Statement.{statement}
-use Rattle.text_digits.proofs.digit_of.Tie as tie
+use Rattle.text_number.specs.DigitLaws.{digit-parts, digit-none}
+use Rattle.text_number.proofs.digit_of.Statement.{statement}
+use Rattle.text_number.proofs.digit_of.Tie as tie
 
 mul-result : tie.Need-mul-result
 mul-result c = search needs

@@ -1,9 +1,9 @@
 -- One byte, and that byte is the dash.
 use mathlib.Core.Path.{sym}
 use borrow.Author.Needs.{needs}
-use Rattle.text_digits.specs.DigitLaws.{dash-is, dash-none}
-use Rattle.text_digits.proofs.dash_of.Statement.{statement}
-use Rattle.text_digits.proofs.dash_of.Tie as tie
+use Rattle.text_number.specs.DigitLaws.{dash-is, dash-none}
+use Rattle.text_number.proofs.dash_of.Statement.{statement}
+use Rattle.text_number.proofs.dash_of.Tie as tie
 
 shared-slice-read-b : tie.Need-shared-slice-read-b
 shared-slice-read-b c = search needs

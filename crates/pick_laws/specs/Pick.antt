@@ -8,7 +8,7 @@ use Rattle.spec_base.specs.Basic.{any, first, numbers}
 use Rattle.spec_graph.specs.Graph.{Flow}
 use Rattle.spec_graph.specs.Walk.{Step}
 use Rattle.law_walk.specs.Reach.{roundsFor}
-use Rattle.walk_laws.specs.declared.Pick.{Pick}
+use Rattle.pick_laws.specs.declared.Pick.{Pick}
 
 -- for each pair of nodes the edge that stands for all, where there is one
 abbrev pub Picks : Type 0
