@@ -1,2 +1,3 @@
 pub mod Pick
 pub mod PickLaws
+pub mod Completing
