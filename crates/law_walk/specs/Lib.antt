@@ -1,7 +1,11 @@
+pub mod Before
 pub mod ClosedWalks
 pub mod EveryKind
+pub mod FirstWalks
+pub mod Greedy
 pub mod NodeParts
 pub mod PartExamples
 pub mod Parts
+pub mod Phases
 pub mod Reach
 pub mod WalkExamples

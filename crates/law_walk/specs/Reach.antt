@@ -451,7 +451,7 @@ module _ (g : Graph) where
   leavesFor-of regular flow m i n j h = any-numbers-of (λ j. g .edge m i n j flow) (g .places n) j (regular .inNodes m i n j flow h .3) h
 
   -- an edge of either flow has a forward one between the same places
-  forward-twin : Regular g → (flow : Flow) (m i n j : ℕ) → g .edge m i n j flow ≡ true → g .edge m i n j Flow.forward ≡ true
+  pub forward-twin : Regular g → (flow : Flow) (m i n j : ℕ) → g .edge m i n j flow ≡ true → g .edge m i n j Flow.forward ≡ true
   forward-twin regular Flow.forward m i n j h = h
   forward-twin regular Flow.back m i n j h = regular .twin m i n j h
 

@@ -1,9 +1,10 @@
--- The dangerous walk (document 01, "The dangerous walk"), over any graph. Believed.
-use mathlib.Core.Bool.{Bool, true, not, _&&_, _||_}
-use mathlib.Core.List.{List}
+-- The dangerous walk (document 01, "The dangerous walk") and the first of them (document 02, Req 01), over any graph. Believed.
+use mathlib.Core.Bool.{Bool, true, false, not, _&&_, _||_}
+use mathlib.Core.List.{List, [], _∷_, flatMap}
 use mathlib.Core.Path.{_≡_}
 use Prim.Native.Nat.{ℕ}
-use lib.Dec.{ltb}
+use lib.Dec.{eqb, ltb}
+use lib.ListN.{length}
 use Rattle.spec_base.specs.Basic.{any, all, around}
 use Rattle.spec_graph.specs.Graph.{Flow, Graph, isBack}
 
@@ -31,3 +32,29 @@ isDangerous g walk =
 -- there is a dangerous closed walk, of any length
 abbrev pub DangerousWalk : Graph → Type 0
 DangerousWalk g = (walk : List Step) × (isDangerous g walk ≡ true)
+
+-- Req 01: a flow as a number, forward before back
+abbrev pub flowNumber : Flow → ℕ
+flowNumber Flow.forward = 0
+flowNumber Flow.back = 1
+
+-- Req 01: the numbers of a step in the order in which they are compared: node, place left, place entered, flow
+unfoldable pub stepNumbers : Step → List ℕ
+stepNumbers s = s .node ∷ s .leaves ∷ s .enters ∷ flowNumber (s .flow) ∷ []
+
+-- Req 01: the smaller of two lists is the one with the smaller number where they first differ
+unfoldable pub smaller : List ℕ → List ℕ → Bool
+smaller [] l = false
+smaller (x ∷ k) [] = false
+smaller (x ∷ k) (y ∷ l) = ltb x y || (eqb x y && smaller k l)
+
+-- Req 01: a walk comes before another: it has fewer steps, or as many and the smaller list
+unfoldable pub comesBefore : List Step → List Step → Bool
+comesBefore walk other =
+    ltb (length walk) (length other)
+    || (eqb (length walk) (length other) && smaller (flatMap stepNumbers walk) (flatMap stepNumbers other))
+
+-- Req 01: the first dangerous walk: dangerous, and no dangerous walk comes before it
+pub record FirstWalk (g : Graph) (walk : List Step) : Type 0 where
+  pub dangerous : isDangerous g walk ≡ true
+  pub first : (other : List Step) → isDangerous g other ≡ true → comesBefore other walk ≡ false
