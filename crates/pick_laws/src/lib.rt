@@ -14,3 +14,12 @@ pub enum WalkFound {
     NoWalk,
     Shown(usize),
 }
+
+// How far the search for the first walk has come: no step is taken yet; the last step is forward and is dangerous with back steps that leave at a
+// place below a number; the dangerous pair is there; or the walk began with a back step that left a place.
+pub enum Going {
+    Starting,
+    Opening(u64),
+    Closing,
+    Ending(u64),
+}
