@@ -144,6 +144,11 @@ walk-same (s ∷ v) (t ∷ w) e =
     let rest : walkNumbers v ≡ walkNumbers w = cc in
     ap₂ _∷_ (step-same s t node leaves enters flow) (walk-same v w rest)
 
+-- a walk from a higher node has no smaller list
+pub higher-first : (s t : Step) (v w : List Step) → t .node < s .node → smaller (walkNumbers (s ∷ v)) (walkNumbers (t ∷ w)) ≡ false
+unfolding flatMap stepNumbers
+higher-first s t v w h = smaller-not (s .node) _ (t .node) _ (omega arith) (λ e. absurd (omega arith))
+
 -- ---- what comes before
 
 -- a walk that does not come before another has as many steps or more, and if as many, no smaller list
