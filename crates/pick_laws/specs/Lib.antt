@@ -5,3 +5,4 @@ pub mod LeastLaws
 pub mod Opening
 pub mod Demands
 pub mod CompletingLaws
+pub mod DemandLaws
