@@ -29,12 +29,25 @@ use Rattle.pick_laws.specs.CompletingLaws.{SmallPlaces, closing-exactly,
 use Rattle.pick_laws.specs.Demands.{onlyIf, endingNeeds, needsIn, startingLimit, limitsIn, counts, goingIn, canEnd, canFinish}
 
 -- what passes asks for nothing, and what does not is never met
-only-passed : (b : Bool) (k : ℕ) → b ≡ true → leb (onlyIf b) k ≡ true
+pub only-passed : (b : Bool) (k : ℕ) → b ≡ true → leb (onlyIf b) k ≡ true
 only-passed b k e = rw e (le-leb 0 k zero-le)
 
-passed-only : (b : Bool) (k : ℕ) → k ≤ 1024 → leb (onlyIf b) k ≡ true → b ≡ true
+pub passed-only : (b : Bool) (k : ℕ) → k ≤ 1024 → leb (onlyIf b) k ≡ true → b ≡ true
 passed-only true k h e = refl
 passed-only false k h e = let l = leb-true 1025 k e in let z : ⊥ = omega arith in absurd z
+
+-- which steps count
+pub counts-forward : (g : Graph) (needs limits : ℕ → ℕ) (step : Step) (y : ℕ) → step .flow ≡ Flow.forward → leb (needs y) (openBelow g step) ≡ true
+    → counts g needs limits step y ≡ true
+unfolding counts
+counts-forward g needs limits step y f h =
+    ap (λ (b : Bool). cond b (ltb (step .leaves) (limits y)) (leb (needs y) (openBelow g step))) (ap isBack f) ∙ h
+
+pub counts-back : (g : Graph) (needs limits : ℕ → ℕ) (step : Step) (y : ℕ) → step .flow ≡ Flow.back → ltb (step .leaves) (limits y) ≡ true
+    → counts g needs limits step y ≡ true
+unfolding counts
+counts-back g needs limits step y f h =
+    ap (λ (b : Bool). cond b (ltb (step .leaves) (limits y)) (leb (needs y) (openBelow g step))) (ap isBack f) ∙ h
 
 module _ {g : Graph} {n : ℕ} {forwards backs : Picks} (regular : Regular g) (picks : Picked g n forwards backs) (inside : g .size ≤ n)
     (small : SmallPlaces g) (s : ℕ) where
@@ -61,18 +74,6 @@ module _ {g : Graph} {n : ℕ} {forwards backs : Picks} (regular : Regular g) (p
   in-phase : (r : ℕ) (ph next : Phase) (y : ℕ) → _≡_ {A = Option Phase} (some ph) (some next) → can r next y ≡ true → can r ph y ≡ true
   in-phase r ph next y e h = subst (λ (p : Phase). can r p y ≡ true) (sym (some-injective e)) h
 
-  counts-forward : (needs limits : ℕ → ℕ) (step : Step) (y : ℕ) → step .flow ≡ Flow.forward → leb (needs y) (openBelow g step) ≡ true
-      → counts g needs limits step y ≡ true
-  unfolding counts
-  counts-forward needs limits step y f h =
-      ap (λ (b : Bool). cond b (ltb (step .leaves) (limits y)) (leb (needs y) (openBelow g step))) (ap isBack f) ∙ h
-
-  counts-back : (needs limits : ℕ → ℕ) (step : Step) (y : ℕ) → step .flow ≡ Flow.back → ltb (step .leaves) (limits y) ≡ true
-      → counts g needs limits step y ≡ true
-  unfolding counts
-  counts-back needs limits step y f h =
-      ap (λ (b : Bool). cond b (ltb (step .leaves) (limits y)) (leb (needs y) (openBelow g step))) (ap isBack f) ∙ h
-
   -- a choice counts
   pub choice-counts : {r : ℕ} {next : Phase} {x y : ℕ} {step : Step} (ph : Phase) → Choice g can r ph x step y next
       → counts g (needsIn forwards backs n s r (goingIn g ph)) (limitsIn forwards n s r (goingIn g ph)) step y ≡ true
@@ -91,10 +92,10 @@ module _ {g : Graph} {n : ℕ} {forwards backs : Picks} (regular : Regular g) (p
       by-flow : (f : Flow) → step .flow ≡ f → cond (isBack f) (some (ending step step)) (some (opening step)) ≡ some next
           → counts g (needsIn forwards backs n s r Going.Starting) (limitsIn forwards n s r Going.Starting) step y ≡ true
       by-flow Flow.forward f k =
-          counts-forward (needsIn forwards backs n s r Going.Starting) (limitsIn forwards n s r Going.Starting) step y f
+          counts-forward g (needsIn forwards backs n s r Going.Starting) (limitsIn forwards n s r Going.Starting) step y f
           (in-phase r (opening step) next y k (choice .rest))
       by-flow Flow.back f k =
-          counts-back (needsIn forwards backs n s r Going.Starting) (limitsIn forwards n s r Going.Starting) step y f
+          counts-back g (needsIn forwards backs n s r Going.Starting) (limitsIn forwards n s r Going.Starting) step y f
           (limited r f (in-phase r (ending step step) next y k (choice .rest)))
   choice-counts {r} {next} {x} {y} {step} (opening e) choice = by-flow (step .flow) refl (choice .after)
     where
@@ -111,14 +112,14 @@ module _ {g : Graph} {n : ℕ} {forwards backs : Picks} (regular : Regular g) (p
           let below = pair-below g e step d in
           let way : exactly forwards n s r y ≡ true = in-phase r closing next y k (choice .rest) in
           let limit : limitsIn forwards n s r going y ≡ openBelow g e = rw way refl in
-          counts-back (needsIn forwards backs n s r going) (limitsIn forwards n s r going) step y f
+          counts-back g (needsIn forwards backs n s r going) (limitsIn forwards n s r going) step y f
           (lt-ltb (step .leaves) (limitsIn forwards n s r going y) (omega (arith, few)))
 
       by-flow : (f : Flow) → step .flow ≡ f
           → cond (isBack f) (cond (dangerousPair g (e, step)) (some closing) none) (some (opening step)) ≡ some next
           → counts g (needsIn forwards backs n s r going) (limitsIn forwards n s r going) step y ≡ true
       by-flow Flow.forward f k =
-          counts-forward (needsIn forwards backs n s r going) (limitsIn forwards n s r going) step y f
+          counts-forward g (needsIn forwards backs n s r going) (limitsIn forwards n s r going) step y f
           (in-phase r (opening step) next y k (choice .rest))
       by-flow Flow.back f k = by-pair f (dangerousPair g (e, step)) refl k
   choice-counts {r} {next} {x} {y} {step} closing choice = by-flow (step .flow) refl (choice .after)
@@ -126,7 +127,7 @@ module _ {g : Graph} {n : ℕ} {forwards backs : Picks} (regular : Regular g) (p
       by-flow : (f : Flow) → step .flow ≡ f → cond (isBack f) none (some closing) ≡ some next
           → counts g (needsIn forwards backs n s r Going.Closing) (limitsIn forwards n s r Going.Closing) step y ≡ true
       by-flow Flow.forward f k =
-          counts-forward (needsIn forwards backs n s r Going.Closing) (limitsIn forwards n s r Going.Closing) step y f
+          counts-forward g (needsIn forwards backs n s r Going.Closing) (limitsIn forwards n s r Going.Closing) step y f
           (only-passed (exactly forwards n s r y) (openBelow g step) (in-phase r closing next y k (choice .rest)))
       by-flow Flow.back f k = absurd (Option·none-ne-some next k)
   choice-counts {r} {next} {x} {y} {step} (ending first e) choice = by-flow (step .flow) refl (choice .after)
@@ -146,6 +147,6 @@ module _ {g : Graph} {n : ℕ} {forwards backs : Picks} (regular : Regular g) (p
       by-flow : (f : Flow) → step .flow ≡ f → cond (isBack f) none (some (ending first step)) ≡ some next
           → counts g (needsIn forwards backs n s r going) (limitsIn forwards n s r going) step y ≡ true
       by-flow Flow.forward f k =
-          counts-forward (needsIn forwards backs n s r going) (limitsIn forwards n s r going) step y f
+          counts-forward g (needsIn forwards backs n s r going) (limitsIn forwards n s r going) step y f
           (met r (in-phase r (ending first step) next y k (choice .rest)))
       by-flow Flow.back f k = absurd (Option·none-ne-some next k)

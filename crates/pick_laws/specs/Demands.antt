@@ -51,6 +51,20 @@ goingIn g (opening e) = Going.Opening (openBelow g e)
 goingIn g closing = Going.Closing
 goingIn g (ending f e) = Going.Ending (min (f .leaves) 1023)
 
+-- what the search keeps after a step: whether it is back, how far it opens, the place that it leaves
+unfoldable pub goingAfter : Going → Bool → ℕ → ℕ → Going
+goingAfter Going.Starting back opens leaves = cond back (Going.Ending leaves) (Going.Opening opens)
+goingAfter (Going.Opening k) back opens leaves = cond back Going.Closing (Going.Opening opens)
+goingAfter Going.Closing back opens leaves = Going.Closing
+goingAfter (Going.Ending k) back opens leaves = Going.Ending k
+
+-- a walk that began with a back step began with one that leaves a place below 1024
+unfoldable pub fits : Phase → Bool
+fits starting = true
+fits (opening e) = true
+fits closing = true
+fits (ending f e) = isBack (f .flow) && ltb (f .leaves) 1024
+
 -- the walk that began with the step f and has come to x with the step e can be ended in r steps
 unfoldable pub canEnd : Graph → Picks → ℕ → ℕ → Step → Step → ℕ → ℕ → Bool
 canEnd g forwards n s f e zero x = eqb x s && ended g (ending f e)

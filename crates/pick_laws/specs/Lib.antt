@@ -6,3 +6,4 @@ pub mod Opening
 pub mod Demands
 pub mod CompletingLaws
 pub mod DemandLaws
+pub mod ChoiceLaws

@@ -33,7 +33,7 @@ pub record Picked (g : Graph) (n : ℕ) (forwards backs : Picks) : Type 0 where
       → (q : Pick) × (backs v w ≡ some q) × (q .leaves ≤ k)
 
 -- what is picked
-picked-some : (o : Option Pick) → picked o ≡ true → (p : Pick) × (o ≡ some p)
+pub picked-some : (o : Option Pick) → picked o ≡ true → (p : Pick) × (o ≡ some p)
 picked-some none h = absurd (false≢true h)
 picked-some (some p) h = (p, refl)
 
