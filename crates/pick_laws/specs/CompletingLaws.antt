@@ -30,7 +30,7 @@ abbrev pub SmallPlaces : Graph → Type 0
 SmallPlaces g = (m i n j : ℕ) (flow : Flow) → g .edge m i n j flow ≡ true → (i < 1024) × (j < 1024)
 
 -- a step that must be forward is
-only-forward : (step : Step) (ph next : Phase) → cond (isBack (step .flow)) none (some ph) ≡ some next → (step .flow ≡ Flow.forward) × (ph ≡ next)
+pub only-forward : (step : Step) (ph next : Phase) → cond (isBack (step .flow)) none (some ph) ≡ some next → (step .flow ≡ Flow.forward) × (ph ≡ next)
 only-forward step ph next h = go-on (step .flow) refl h
   where
     go-on : (f : Flow) → step .flow ≡ f → cond (isBack f) none (some ph) ≡ some next → (step .flow ≡ Flow.forward) × (ph ≡ next)

@@ -7,3 +7,4 @@ pub mod Demands
 pub mod CompletingLaws
 pub mod DemandLaws
 pub mod ChoiceLaws
+pub mod LeadLaws
