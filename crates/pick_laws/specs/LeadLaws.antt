@@ -8,7 +8,7 @@ use Prim.Native.Nat.{ℕ, zero, suc, _+_, _≤_, _<_, min}
 use native.Mathlib.Nat.{not-suc-le-zero}
 use native.Mathlib.Omega.{arith}
 use lib.Dec.{eqb, ltb, leb}
-use borrow.Author.Tests.{eqb-true, eq-eqb, ltb-true, lt-ltb}
+use borrow.Author.Tests.{eqb-true, eq-eqb, ltb-true, lt-ltb, le-leb}
 use Rattle.spec_base.specs.Basic.{any, numbers}
 use Rattle.law_base.specs.BoolLaws.{decide, true-false, and-true, and-of, or-true, or-left, or-right}
 use Rattle.law_base.specs.ListLaws.{any-numbers, any-numbers-of, some-injective}
@@ -185,3 +185,111 @@ module _ {g : Graph} {n : ℕ} {forwards backs : Picks} (regular : Regular g) (p
             };
             sum = omega arith;
           }
+
+  -- the walk began with the back step f and has come to x: some node u is reached from there, and an edge from u to s opens f
+  record Ending (s r x : ℕ) (f : Step) : Type 0 where
+    pub u : ℕ
+    pub inU : u < n
+    pub way : exactly forwards n u r x ≡ true
+    pub opens : min (f .leaves) 1023 < opensBelow (forwards u s)
+
+  ending-leads : (s : ℕ) {r x : ℕ} {walk : List Step} {ph : Phase} (f e : Step) → ph ≡ ending f e → Accepted g s (suc r) ph x walk → Ending s r x f
+  unfolding afterStep ended
+  ending-leads s {x = x} f e same (go {r = zero} {ph = ph} {next = next} step y node edge after (stop q h)) =
+      let one = only-forward step (ending f step) next (rw same at after) in
+      let forward : g .edge x (step .leaves) y (step .enters) Flow.forward ≡ true = rw (one .0) at edge in
+      let out = regular .inNodes x (step .leaves) y (step .enters) Flow.forward forward .0 in
+      let opens = edge-opens regular picks inside small x (step .leaves) y (step .enters) step node refl refl (one .0) forward in
+      let done = and-true (not (isBack (step .flow))) (dangerousPair g (step, f)) (rw (sym (one .1)) at h) in
+      let below = pair-below g step f (done .1) in
+      let wide : openBelow g step ≤ opensBelow (forwards x s) = subst (λ (z : ℕ). openBelow g step ≤ opensBelow (forwards x z)) q (opens .2) in
+      record { u = x; inU = omega (arith, out); way = exactly-itself forwards n x; opens = omega arith }
+  ending-leads s {x = x} f e same (go {r = suc r} {ph = ph} {next = next} step y node edge after rest) =
+      let one = only-forward step (ending f step) next (rw same at after) in
+      let forward : g .edge x (step .leaves) y (step .enters) Flow.forward ≡ true = rw (one .0) at edge in
+      let opens = edge-opens regular picks inside small x (step .leaves) y (step .enters) step node refl refl (one .0) forward in
+      let t = ending-leads s f step (sym (one .1)) rest in
+      record {
+        u = t .u;
+        inU = t .inU;
+        way = exactly-first forwards n (t .u) r x y (opens .0) (opens .1) (t .way);
+        opens = t .opens;
+      }
+
+  -- the walk from s with d + 2 steps begins with a forward step and its pair comes later, or it begins with its back step, and ends with the step
+  -- that opens it
+  abbrev pub Begins : ℕ → ℕ → Type 0
+  Begins s d =
+      (needed forwards backs n s (suc (suc d)) s ≡ 0)
+      ⊎ ((u : ℕ) × (w : ℕ) × (u < n) × (w < n) × (dangerousPicks (forwards u s) (backs s w) ≡ true) × (exactly forwards n u d w ≡ true))
+
+  -- a dangerous pair leads from u to w, and d forward steps from there to u
+  abbrev pub Returns : ℕ → Type 0
+  Returns d = (u : ℕ) × (w : ℕ) × (u < n) × (w < n) × (leads forwards backs n u w ≡ true) × (exactly forwards n u d w ≡ true)
+
+  -- what is accepted without a step has ended
+  stopped : {s k x : ℕ} {ph : Phase} {walk : List Step} → Accepted g s k ph x walk → k ≡ 0 → ended g ph ≡ true
+  stopped (stop q h) e = h
+  stopped (go step y node edge after rest) e = let no : ⊥ = omega arith in absurd no
+
+  -- the walk begins with its back step
+  back-leads : (s : ℕ) (step : Step) (y : ℕ) → g .edge s (step .leaves) y (step .enters) Flow.back ≡ true → step .flow ≡ Flow.back
+      → {ph : Phase} → ph ≡ ending step step → {m : ℕ} {walk : List Step} → Accepted g s m ph y walk
+      → (d : ℕ) × (m ≡ suc d) × Returns d × Begins s d
+  unfolding ended leads
+  back-leads s step y edge f {ph} same {m} {walk} a = by-length m refl
+    where
+      by-length : (k : ℕ) → m ≡ k → (d : ℕ) × (m ≡ suc d) × Returns d × Begins s d
+      by-length zero e =
+          let h : ended g (ending step step) ≡ true = subst (λ (p : Phase). ended g p ≡ true) same (stopped a e) in
+          absurd (false≢true (rw (ap isBack f) at (and-true (not (isBack (step .flow))) (dangerousPair g (step, step)) h .0)))
+      by-length (suc r) e =
+          let t = ending-leads s step step same (subst (λ (k : ℕ). Accepted g s k ph y walk) e a) in
+          let q = picks .backFirst s (step .leaves) y (step .enters) edge in
+          let few = small s (step .leaves) y (step .enters) Flow.back edge .0 in
+          let out = regular .inNodes s (step .leaves) y (step .enters) Flow.back edge in
+          let leaves : leavesAt (backs s y) ≡ q .0 .leaves = ap leavesAt (q .1) in
+          let early = q .2 in
+          let opens = t .opens in
+          let pair = below-dangerous (forwards (t .u) s) (backs s y) (ap picked (q .1)) (omega arith) in
+          let in-s : s < n = omega (arith, out .0) in
+          let in-y : y < n = omega (arith, out .1) in (
+            r,
+            e,
+            (t .u, y, t .inU, in-y, any-numbers-of (λ v. dangerousPicks (forwards (t .u) v) (backs v y)) n s in-s pair, t .way),
+            inr (t .u, y, t .inU, in-y, pair, t .way),
+          )
+
+  pub accepted-leads : (s : ℕ) {m : ℕ} {walk : List Step} {ph : Phase} → ph ≡ starting → Accepted g s (suc m) ph s walk
+      → (d : ℕ) × (m ≡ suc d) × Returns d × Begins s d
+  unfolding afterStep ended needed leads
+  accepted-leads s same (go {r = m} {ph = ph} {next = next} step y node edge after rest) = by-flow (step .flow) refl (rw same at after)
+    where
+      by-forward : step .flow ≡ Flow.forward → next ≡ opening step → (d : ℕ) × (m ≡ suc d) × Returns d × Begins s d
+      by-forward f e =
+          let first : g .edge s (step .leaves) y (step .enters) Flow.forward ≡ true = rw f at edge in
+          let t = opening-leads s step e f (rw (sym node) at first) rest in
+          let led = t .led in
+          let sum = t .sum in
+          let opens = edge-opens regular picks inside small s (step .leaves) y (step .enters) step node refl refl f first in
+          let needs = opening-needed regular picks inside small s step e rest in
+          let more : m ≡ suc (t .b + t .a) = omega arith in
+          let way = exactly-on forwards n s (led .u) (t .a) (t .b) (led .w) (led .after)
+          (subst (λ (z : ℕ). exactly forwards n (led .u) (t .a) z ≡ true) node (led .before)) in
+          (t .b + t .a, more, (led .u, led .w, led .inU, led .inW, led .leading, way), inl (none-needed (t .b + t .a) more opens needs))
+        where
+          none-needed : (d : ℕ) → m ≡ suc d → (y < n) × (picked (forwards s y) ≡ true) × (openBelow g step ≤ opensBelow (forwards s y))
+              → needed forwards backs n s m y ≤ openBelow g step → needed forwards backs n s (suc (suc d)) s ≡ 0
+          none-needed d e opens needs =
+              let less : needed forwards backs n s (suc d) y ≤ opensBelow (forwards s y)
+              = let far = opens .2 in let same = ap (λ (k : ℕ). needed forwards backs n s k y) e in omega arith in
+              rw (any-numbers-of (λ z. picked (forwards s z) && leb (needed forwards backs n s (suc d) z) (opensBelow (forwards s z))) n y (opens .0)
+              (and-of (opens .1) (le-leb (needed forwards backs n s (suc d) y) (opensBelow (forwards s y)) less))) refl
+
+      by-back : step .flow ≡ Flow.back → next ≡ ending step step → (d : ℕ) × (m ≡ suc d) × Returns d × Begins s d
+      by-back f e = back-leads s step y (rw f at edge) f e rest
+
+      by-flow : (f : Flow) → step .flow ≡ f → cond (isBack f) (some (ending step step)) (some (opening step)) ≡ some next
+          → (d : ℕ) × (m ≡ suc d) × Returns d × Begins s d
+      by-flow Flow.forward f q = by-forward f (sym (some-injective q))
+      by-flow Flow.back f q = by-back f (sym (some-injective q))
