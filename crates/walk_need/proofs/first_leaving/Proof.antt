@@ -1,0 +1,60 @@
+-- After y turns the number is the least of the first y (leaving-turn); after 64 it is the first place.
+use Rattle.walk_need.specs.NeedTurns.{leaving-turn}
+use Rattle.pick_laws.specs.Completing.{leastBelow}
+use Rattle.walk_need.specs.Needs.{leavesFor, firstLeaving}
+use Rattle.walk_reach.specs.NodeWordLaws.{last-turn}
+use borrow.Author.Needs.{needs}
+use native.Mathlib.Omega.{arith}
+use mathlib.Core.Path.{_≡_, refl, ap, sym, _∙_}
+use Prim.Native.Nat.{ℕ, _+_, _-_, _*_, _≤_, _<_}
+use lib.ListN.{length, set, getD, length-set, take, drop}
+use Rattle.walk_need.proofs.first_leaving.Statement.{statement}
+use Rattle.walk_need.proofs.first_leaving.Tie as tie
+use Rattle.walk_need.proofs.first_leaving.Reads as reads
+use Rattle.walk_need.proofs.first_leaving.Lts as lts
+use Rattle.walk_need.proofs.leaves_for.Reads as leaves-for-reads
+use Rattle.walk_need.proofs.lesser.Reads as lesser-reads
+
+abbrev Inv-loop : tie.InvT-loop
+Inv-loop backs nodes x best₀ y₀ best y = (y ≤ 64) × (best ≡ leastBelow (leavesFor backs nodes x) 1024 y) × (best ≤ 1024)
+
+abbrev μ-loop : tie.MeasureT-loop
+μ-loop backs nodes x best₀ y₀ best y = 64 - y
+
+loop-holds : tie.Need-loop-holds Inv-loop μ-loop
+unfolding leastBelow
+loop-holds c = (omega arith, refl, omega arith)
+
+leaves-for-requires : tie.Need-leaves-for-requires Inv-loop μ-loop
+leaves-for-requires c κs = search needs
+
+lesser-requires : tie.Need-lesser-requires Inv-loop μ-loop
+lesser-requires c κs = search needs
+
+add-y : tie.Need-add-y Inv-loop μ-loop
+add-y c = search needs
+
+loop-less : tie.Need-loop-less Inv-loop μ-loop
+loop-less c = search needs
+
+loop-again : tie.Need-loop-again Inv-loop μ-loop
+loop-again c = let c3 = c .before .before .before in let l = c .lesser .ensures in let m = c3 .loop .inv .2 in
+    (omega arith, leaving-turn _ _ _ _ (c3 .loop .inv .1) (c .before .leaves-for .ensures .0) (c .lesser .ensures), omega arith)
+
+returns : tie.Need-returns Inv-loop μ-loop
+unfolding firstLeaving
+returns c = (last-turn (leastBelow (leavesFor _ _ _) 1024) 64 _ (c .before .loop .inv .1) (c .before .loop .inv .0) (c .loop-test .left), c .before .loop .inv .2)
+
+pub first-leaving-spec : {M : Type 1} → statement M
+first-leaving-spec =
+    tie.close
+    (tie.spec
+    Inv-loop
+    μ-loop
+    loop-holds
+    leaves-for-requires
+    lesser-requires
+    add-y
+    loop-less
+    loop-again
+    returns)
