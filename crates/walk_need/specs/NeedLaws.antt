@@ -6,9 +6,8 @@ use Prim.Native.Nat.{ℕ, zero, suc, _+_, _≤_, _<_, min}
 use native.Mathlib.Omega.{arith}
 use lib.Dec.{eqb, ltb}
 use lib.ListN.{getD}
-use borrow.Author.Tests.{eqb-true}
+use borrow.Author.Tests.{ne-eqb}
 use Rattle.spec_base.specs.Basic.{any, numbers, has}
-use Rattle.law_base.specs.BoolLaws.{decide}
 use Rattle.pick_laws.specs.declared.Going.{Going}
 use Rattle.pick_laws.specs.Pick.{Picks}
 use Rattle.pick_laws.specs.Completing.{leastBelow, leavesAt, exactly, leavesFirst, opensInto, needed, widest}
@@ -59,7 +58,7 @@ module _ {forwards : Picks} {backs : List ℕ} (n : ℕ) (full : n ≡ 64) {s : 
       by-later : (b : Bool) → later ≡ b → has (getD opened (suc r) 0) y ≡ eqb (cond b 0 (suc early)) 0
           → cond (has (getD opened (suc r) 0) y) 0 (suc (firstLeaving backs (getD ways r 0) y)) ≡ cond b 0 (suc early)
       by-later true e q = rw q refl
-      by-later false e q = rw q (ap suc (leaving-same r y (omega arith)))
+      by-later false e q = rw (q ∙ ne-eqb (suc early) 0 (λ z. let none-left : ⊥ = omega arith in none-left)) (ap suc (leaving-same r y (omega arith)))
 
   ending-same : (k r y : ℕ) → k < 1024 → r ≤ most → y < n → endingNeed wide s k r y ≡ endingNeeds forwards n s k r y
   unfolding endingNeed endingNeeds
