@@ -1,17 +1,17 @@
 -- The order of walks: of two lists the numbers at their first difference decide, so that of two lists of one length, one is smaller or they are
 -- the same; and the numbers tell the walk. So no two walks are both the first dangerous one.
-use mathlib.Core.Bool.{Bool, true, false, _&&_, _||_, true≢false, false≢true}
-use mathlib.Core.List.{List, [], _∷_, _++_, flatMap}
+use mathlib.Core.Bool.{Bool, true, false, _&&_, _||_, false≢true}
+use mathlib.Core.List.{List, [], _∷_, flatMap}
 use mathlib.Core.Logic.{_⊎_, inl, inr}
 use mathlib.Core.Path.{_≡_, refl, sym, ap, ap₂, _∙_}
-use Prim.Native.Nat.{ℕ, zero, suc, _+_, _*_, _≤_, _<_}
+use Prim.Native.Nat.{ℕ, _*_, _≤_, _<_}
 use native.Mathlib.Omega.{arith}
 use lib.Dec.{eqb, ltb}
 use lib.ListN.{length}
 use borrow.Author.Tests.{ltb-true, ltb-false, lt-ltb, le-ltb, eqb-true, eq-eqb}
-use Rattle.law_base.specs.BoolLaws.{false-of, true-false, and-true, and-of, and-false, or-true, or-left, or-right, or-false, or-of}
+use Rattle.law_base.specs.BoolLaws.{false-of, true-false, and-true, and-of, or-true, or-left, or-right, or-false, or-of}
 use Rattle.spec_graph.specs.Graph.{Flow, Graph}
-use Rattle.spec_graph.specs.Walk.{Step, flowNumber, stepNumbers, smaller, comesBefore, isDangerous, FirstWalk}
+use Rattle.spec_graph.specs.Walk.{Step, flowNumber, stepNumbers, smaller, comesBefore, FirstWalk}
 
 -- ---- a number first, then a test
 

@@ -1,17 +1,18 @@
 -- The least choice again and again gives the least walk in normal form. A step decides before the steps after it; where two steps are the
 -- same but lead to different nodes, the next step's node decides, and after the last step both are at the walk's first node.
 use mathlib.Core.Bool.{Bool, true, false}
-use mathlib.Core.List.{List, [], _∷_, _++_, flatMap}
-use mathlib.Core.Option.{Option, none, some}
-use mathlib.Core.Path.{_≡_, refl, sym, ap, _∙_}
-use Prim.Native.Nat.{ℕ, zero, suc, _+_, _≤_, _<_}
+use mathlib.Core.List.{List, [], _∷_, flatMap}
+use mathlib.Core.Option.{some}
+use mathlib.Core.Path.{_≡_, sym, ap, _∙_}
+use Prim.Native.Nat.{ℕ, zero, suc, _≤_, _<_}
 use native.Mathlib.Omega.{arith}
 use native.Mathlib.Decide.{ℕ-discrete}
 use lib.ListN.{length}
 use Rattle.law_base.specs.ListLaws.{some-injective}
-use Rattle.spec_graph.specs.Graph.{Flow, Graph}
-use Rattle.spec_graph.specs.Walk.{Step, isDangerous, flowNumber, stepNumbers, smaller, comesBefore, FirstWalk}
-use Rattle.law_walk.specs.Before.{walkNumbers, length-walkNumbers, step-same, smaller-parts, smaller-not, smaller-itself, smaller-on, higher-first, before-not}
+use Rattle.spec_graph.specs.Graph.{Graph}
+use Rattle.spec_graph.specs.Walk.{Step, isDangerous, flowNumber, stepNumbers, smaller, FirstWalk}
+use Rattle.law_walk.specs.Before.{walkNumbers, length-walkNumbers, step-same, higher-first, before-not}
+use Rattle.law_walk.specs.Before.{smaller-parts, smaller-not, smaller-itself, smaller-on}
 use Rattle.law_walk.specs.Phases.{Phase, afterStep, ended, Accepted, accepted-length, accepted-dangerous, normal}
 use Rattle.law_walk.specs.Phases.Phase.{starting}
 use Rattle.law_walk.specs.Phases.Accepted.{stop as stops, go as goes}

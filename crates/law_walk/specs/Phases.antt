@@ -2,22 +2,22 @@
 -- goes from phase to phase. A dangerous walk of a regular graph has one in normal form that is not after it: each step but the dangerous pair's
 -- second becomes its forward twin, which leaves and enters at the same places.
 use mathlib.Core.Bool.{Bool, true, false, cond, not, _&&_, _||_, false≢true}
-use mathlib.Core.List.{List, [], _∷_, _++_, map, flatMap}
+use mathlib.Core.List.{List, [], _∷_, _++_, flatMap}
 use mathlib.Core.Logic.{_⊎_, inl, inr}
 use mathlib.Core.Option.{Option, none, some, Option·none-ne-some}
 use mathlib.Core.Path.{_≡_, refl, sym, ap, _∙_}
-use Prim.Native.Nat.{ℕ, zero, suc, _+_, _≤_, _<_}
+use Prim.Native.Nat.{ℕ, zero, suc, _≤_}
 use native.Mathlib.Omega.{arith}
 use lib.Dec.{ltb}
 use lib.ListN.{length}
 use Rattle.spec_base.specs.Basic.{any, all, around, pairsTo}
-use Rattle.law_base.specs.BoolLaws.{decide, true-false, and-true, and-of, or-true, or-left, or-right, not-of-false, not-true}
+use Rattle.law_base.specs.BoolLaws.{and-true, and-of, or-true, or-left, or-right, not-of-false}
 use Rattle.law_base.specs.ListLaws.{some-injective}
 use Rattle.spec_graph.specs.Graph.{Flow, Graph, isBack}
 use Rattle.spec_graph.specs.Walk.{Step, isEdge, dangerousPair, isDangerous, flowNumber, stepNumbers, smaller}
-use Rattle.law_walk.specs.Before.{walkNumbers, smaller-not, smaller-itself}
+use Rattle.law_walk.specs.Before.{walkNumbers, smaller-not}
 use Rattle.law_walk.specs.Parts.{Dangerous, dangerous-parts, dangerous-of}
-use Rattle.law_walk.specs.Reach.{Regular, forward-twin, back-of}
+use Rattle.law_walk.specs.Reach.{Regular, forward-twin}
 
 -- how far a walk has come
 pub data Phase : Type 0 where
@@ -78,7 +78,8 @@ module _ (g : Graph) where
   promise-end first starting h = refl
   promise-end first (opening e) h = absurd (false≢true h)
   promise-end first closing h = refl
-  promise-end first (ending f e) h = let a = and-true (not (isBack (e .flow))) (dangerousPair g (e, f)) h in and-of (or-left false (a .1)) (or-left false (a .0))
+  promise-end first (ending f e) h =
+      let a = and-true (not (isBack (e .flow))) (dangerousPair g (e, f)) h in and-of (or-left false (a .1)) (or-left false (a .0))
 
   -- and from step to step
   promise-step : (first : Step) (ph : Phase) {next : Phase} (step : Step) (rest : List Step) → afterStep g ph step ≡ some next

@@ -6,3 +6,4 @@ pub mod Walk
 pub mod ExampleText
 pub mod GraphExamples
 pub mod EdgeExamples
+pub mod FirstWalkExamples
