@@ -16,11 +16,11 @@ opensTo p q = cond (loosens (p .kind)) 1024 (q .place)
 
 -- a forward edge counts where it opens as far as is needed
 unfoldable pub forwardCounts : ℕ → Row → Row → Bool
-forwardCounts need p q = rowForward p q && leb need (opensTo p q)
+forwardCounts need p q = leb need (opensTo p q) && rowForward p q
 
 -- a back edge counts where it leaves below the limit
 unfoldable pub backCounts : ℕ → Row → Row → Bool
-backCounts limit p q = rowBack p q && ltb (p .place) limit
+backCounts limit p q = ltb (p .place) limit && rowBack p q
 
 abbrev pub flowCounts : ℕ → ℕ → Flow → Row → Row → Bool
 flowCounts need limit Flow.forward p q = forwardCounts need p q

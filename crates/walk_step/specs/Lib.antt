@@ -4,4 +4,4 @@ pub mod StepWordLaws
 pub mod LeastStep
 pub mod StepTurns
 pub mod StepTurnLaws
-
+pub mod LeastStepLaws

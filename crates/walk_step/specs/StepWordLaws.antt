@@ -50,11 +50,11 @@ plain-step i j flow y h k l = λ t. record { leaves = left t; enters = entered t
     word = i * 131072 + j * 128 + flowNumber flow * 64 + y
 
     left : word / 131072 % 1024 ≡ i
-    left = ap (λ (z : ℕ). z % 1024) (let e : word / 131072 ≡ i = omega arith in e) ∙ mod-eq-of-lt h
+    left = ap (λ (z : ℕ). z % 1024) (let e : word / 131072 ≡ i = omega (arith, few) in e) ∙ mod-eq-of-lt h
 
     entered : word / 128 % 1024 ≡ j
     entered =
-        let e : word / 128 ≡ i * 1024 + j = omega arith in
+        let e : word / 128 ≡ i * 1024 + j = omega (arith, few) in
         let d : (i * 1024 + j) % 1024 ≡ j = omega arith in
         ap (λ (z : ℕ). z % 1024) e ∙ d
 
