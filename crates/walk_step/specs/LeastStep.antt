@@ -1,7 +1,7 @@
 -- The least step out of a node that counts: the least word over all pairs of rows of a table.
 use mathlib.Core.Bool.{Bool, cond, _&&_}
 use mathlib.Core.List.{List, [], _∷_}
-use Prim.Native.Nat.{ℕ, min}
+use Prim.Native.Nat.{ℕ, _≤_, _<_, min}
 use lib.Dec.{eqb, ltb, leb}
 use lib.ListN.{getD}
 use Rattle.spec_graph.specs.Graph.{Flow}
@@ -25,6 +25,11 @@ backCounts limit p q = ltb (p .place) limit && rowBack p q
 abbrev pub flowCounts : ℕ → ℕ → Flow → Row → Row → Bool
 flowCounts need limit Flow.forward p q = forwardCounts need p q
 flowCounts need limit Flow.back p q = backCounts limit p q
+
+-- the same as facts, of the two numbers for the node entered, the flow, whether the place left is loose, the place left and the place entered
+abbrev pub Counts : ℕ → ℕ → Flow → Bool → ℕ → ℕ → Type 0
+Counts need limit Flow.forward loose i j = need ≤ cond loose 1024 j
+Counts need limit Flow.back loose i j = i < limit
 
 -- the word of the step between two rows where it counts
 unfoldable pub flowStep : ℕ → ℕ → Flow → Row → Row → ℕ

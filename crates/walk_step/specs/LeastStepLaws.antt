@@ -1,5 +1,5 @@
 -- The least step is that of two rows, and no two rows have a lesser one that counts.
-use mathlib.Core.Path.{_≡_, refl, sym, ap, _∙_}
+use mathlib.Core.Path.{_≡_, refl, ap, ap₂, _∙_}
 use mathlib.Core.Bool.{Bool, true, false, cond, _&&_}
 use mathlib.Core.List.{List, [], _∷_, List·Memᴰ}
 use mathlib.Core.List.List·Memᴰ.{List·Memᴰ·head, List·Memᴰ·tail}
@@ -8,13 +8,15 @@ use Prim.Native.Nat.{ℕ, _≤_, _<_, min}
 use native.Mathlib.Omega.{arith}
 use lib.Dec.{eqb, ltb, leb}
 use lib.ListN.{getD}
-use borrow.Author.Tests.{eqb-true, eq-eqb, ltb-true, lt-ltb, leb-true, leb-false}
+use borrow.Author.Tests.{eqb-true, eq-eqb, ltb-true, lt-ltb, leb-true, le-leb, leb-false}
 use Rattle.law_base.specs.BoolLaws.{decide, and-true, and-of}
 use Rattle.spec_graph.specs.Graph.{Flow}
+use Rattle.spec_graph.specs.Edge.{loosens}
 use Rattle.place_row.specs.declared.Row.{Row}
-use Rattle.place_row.specs.RowTable.{tableRows}
+use Rattle.place_row.specs.RowTable.{rowStands, tableRows}
 use Rattle.walk_step.specs.StepWord.{stepWord}
-use Rattle.walk_step.specs.LeastStep.{flowCounts, flowStep, countedStep, hasWord, pairStep, leavesFrom, stepFrom, least, leastStep}
+use Rattle.walk_step.specs.LeastStep.{opensTo, forwardCounts, backCounts, flowCounts, Counts, flowStep, countedStep, hasWord, pairStep}
+use Rattle.walk_step.specs.LeastStep.{leavesFrom, stepFrom, least, leastStep}
 
 -- ---- the least
 
@@ -41,6 +43,25 @@ least-most f most {x = x} (List·Memᴰ·tail {x = y} {xs = xs} m) = let h = lea
 
 -- ---- steps between rows
 
+-- a test that counts is passed where the edge stands and the numbers count
+flow-counts : (need limit : ℕ) (flow : Flow) (p q : Row) → flowCounts need limit flow p q ≡ true
+    → (rowStands flow p q ≡ true) × Counts need limit flow (loosens (p .kind)) (p .place) (q .place)
+unfolding forwardCounts backCounts opensTo
+flow-counts need limit Flow.forward p q h = let b = and-true _ _ h in (b .1, leb-true need _ (b .0))
+flow-counts need limit Flow.back p q h = let b = and-true _ _ h in (b .1, ltb-true (p .place) limit (b .0))
+
+counts-flow : (need limit : ℕ) (flow : Flow) (p q : Row) → rowStands flow p q ≡ true → Counts need limit flow (loosens (p .kind)) (p .place) (q .place)
+    → flowCounts need limit flow p q ≡ true
+unfolding forwardCounts backCounts opensTo
+counts-flow need limit Flow.forward p q s c = and-of (le-leb need _ c) s
+counts-flow need limit Flow.back p q s c = and-of (lt-ltb (p .place) limit c) s
+
+-- what counts does so by any other names
+pub counts-same : (flow : Flow) {need limit i j need′ limit′ i′ j′ : ℕ} {loose loose′ : Bool}
+    → need ≡ need′ → limit ≡ limit′ → loose ≡ loose′ → i ≡ i′ → j ≡ j′ → Counts need limit flow loose i j → Counts need′ limit′ flow loose′ i′ j′
+counts-same Flow.forward n l b e f c = let d = ap₂ (λ (x : Bool) (y : ℕ). cond x 1024 y) b f in omega arith
+counts-same Flow.back n l b e f c = omega arith
+
 -- a step that counts from a row of node x, with this word
 pub record StepOf (rows : List Row) (x : ℕ) (needs limits : List ℕ) (word : ℕ) : Type 0 where
   pub p : Row
@@ -52,7 +73,8 @@ pub record StepOf (rows : List Row) (x : ℕ) (needs limits : List ℕ) (word : 
   pub leavesSmall : p .place < 1024
   pub entersSmall : q .place < 1024
   pub intoSmall : q .node < 64
-  pub counts : flowCounts (getD needs (q .node) 0) (getD limits (q .node) 0) flow p q ≡ true
+  pub stands : rowStands flow p q ≡ true
+  pub counts : Counts (getD needs (q .node) 0) (getD limits (q .node) 0) flow (loosens (p .kind)) (p .place) (q .place)
   pub same : word ≡ stepWord (p .place) (q .place) flow (q .node)
 
 -- a word that is that of a flow's step, or of none
@@ -107,6 +129,7 @@ module _ (x : ℕ) (needs limits : List ℕ) where
           let d : word ≡ counted
           = e ∙ ap (λ (t : Bool). cond t (pairStep needs limits p q) 134217728) a ∙ ap (λ (t : Bool). cond t counted 134217728) b in
           let w = counted-word (getD needs (q .node) 0) (getD limits (q .node) 0) p q (omega arith) in
+          let c = flow-counts (getD needs (q .node) 0) (getD limits (q .node) 0) (w .0) p q (w .1) in
           let l = and-true (eqb (p .node) x) (ltb (p .place) 1024) a in
           let r = and-true (ltb (q .node) 64) (ltb (q .place) 1024) b in
           record {
@@ -119,7 +142,8 @@ module _ (x : ℕ) (needs limits : List ℕ) where
             leavesSmall = ltb-true (p .place) 1024 (l .1);
             entersSmall = ltb-true (q .place) 1024 (r .1);
             intoSmall = ltb-true (q .node) 64 (r .0);
-            counts = w .1;
+            stands = c .0;
+            counts = c .1;
             same = d ∙ w .2;
           }
 
@@ -162,4 +186,5 @@ module _ (x : ℕ) (needs limits : List ℕ) where
             rw (
               and-of (eq-eqb (s .p .node) x (s .leaves)) (lt-ltb (s .p .place) 1024 (s .leavesSmall)),
               and-of (lt-ltb (s .q .node) 64 (s .intoSmall)) (lt-ltb (s .q .place) 1024 (s .entersSmall)),
-            ) (flows (s .flow) (s .counts))
+            ) (flows (s .flow)
+            (counts-flow (getD needs (s .q .node) 0) (getD limits (s .q .node) 0) (s .flow) (s .p) (s .q) (s .stands) (s .counts)))
