@@ -129,7 +129,7 @@ entry-between word rows u v h k =
 
 module _ (nodes : List Node) where
   -- two places between which an edge stands
-  record Ends (flow : Flow) (u i v j : ℕ) : Type 0 where
+  pub record Ends (flow : Flow) (u i v j : ℕ) : Type 0 where
     pub s : Place
     pub t : Place
     pub left : List·Memᴰ s (placesOf 0 nodes)
@@ -140,7 +140,7 @@ module _ (nodes : List Node) where
     pub entersAt : t .place ≡ j
     pub edge : stands flow s t ≡ true
 
-  edge-ends : (flow : Flow) (u i v j : ℕ) → graphOf nodes .edge u i v j flow ≡ true → Ends flow u i v j
+  pub edge-ends : (flow : Flow) (u i v j : ℕ) → graphOf nodes .edge u i v j flow ≡ true → Ends flow u i v j
   unfolding graphOf
   edge-ends flow u i v j h =
       let b = both-pass (stands flow) (placeAt nodes u i) (placeAt nodes v j) h in
@@ -159,12 +159,12 @@ module _ (nodes : List Node) where
       }
 
   -- an edge between listed places is an edge of the graph
-  ends-edge : (flow : Flow) (s t : Place) → List·Memᴰ s (placesOf 0 nodes) → List·Memᴰ t (placesOf 0 nodes)
+  pub ends-edge : (flow : Flow) (s t : Place) → List·Memᴰ s (placesOf 0 nodes) → List·Memᴰ t (placesOf 0 nodes)
       → graphOf nodes .edge (s .number) (s .place) (t .number) (t .place) flow ≡ stands flow s t
   unfolding graphOf
   ends-edge flow s t l r = ap₂ (bothPass (stands flow)) (place-found nodes s l) (place-found nodes t r)
 
-  place-loose : (s : Place) → List·Memᴰ s (placesOf 0 nodes) → graphOf nodes .loose (s .number) (s .place) ≡ loosens (at s .kind)
+  pub place-loose : (s : Place) → List·Memᴰ s (placesOf 0 nodes) → graphOf nodes .loose (s .number) (s .place) ≡ loosens (at s .kind)
   unfolding graphOf
   place-loose s l = ap loosensAt (place-found nodes s l)
 
@@ -180,7 +180,7 @@ module _ (nodes : List Node) where
 
     module _ (keys : (n : Node) → List·Memᴰ n nodes → KeysSmall n) where
       -- E1, E2: the edges of a flow between rows are those between their places
-      stands-rows : (flow : Flow) (s t : Place) → List·Memᴰ s (placesOf 0 nodes) → stands flow s t ≡ rowStands flow (rowOf s) (rowOf t)
+      pub stands-rows : (flow : Flow) (s t : Place) → List·Memᴰ s (placesOf 0 nodes) → stands flow s t ≡ rowStands flow (rowOf s) (rowOf t)
       stands-rows Flow.forward s t l = forward-rows s t
       stands-rows Flow.back s t l = back-rows s t (keys (s .node) (placesOf-node 0 nodes l))
 

@@ -1,0 +1,22 @@
+-- The least word so far, row after row.
+use mathlib.Core.Bool.{cond}
+use mathlib.Core.List.{List}
+use Prim.Native.Nat.{ℕ, zero, suc}
+use Rattle.place_row.specs.declared.Row.{Row}
+use Rattle.place_row.specs.RowTable.{rowAt}
+use Rattle.pick_laws.specs.Completing.{leastBelow}
+use Rattle.walk_step.specs.StepWord.{noStep}
+use Rattle.walk_step.specs.LeastStep.{pairStep, leavesFrom}
+
+-- the least of the best word so far and those of the steps from a row to the first n rows
+unfoldable pub rowLeast : List ℕ → ℕ → List ℕ → List ℕ → Row → ℕ → ℕ
+rowLeast table n needs limits p best = leastBelow (λ j. pairStep needs limits p (rowAt table j)) best n
+
+-- the same where the row is of node x
+unfoldable pub fromRow : List ℕ → ℕ → ℕ → List ℕ → List ℕ → Row → ℕ → ℕ
+fromRow table n x needs limits p best = cond (leavesFrom x p) (rowLeast table n needs limits p best) best
+
+-- the least word of the steps from the first i rows to the first n rows
+unfoldable pub leastRows : List ℕ → ℕ → ℕ → List ℕ → List ℕ → ℕ → ℕ
+leastRows table n x needs limits zero = noStep
+leastRows table n x needs limits (suc i) = fromRow table n x needs limits (rowAt table i) (leastRows table n x needs limits i)

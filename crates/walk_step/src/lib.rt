@@ -1,0 +1,195 @@
+// The least step out of a node that counts, over a table of places. A step is an edge as one word, ordered by the place left, the place entered, the
+// flow (forward before back) and the node entered: so the lesser word is the lesser step.
+
+ghost use mathlib.Core.Bool.{cond};
+ghost use mathlib.Core.Path.{_≡_};
+ghost use Prim.Native.Nat.{_*_, _≤_, _<_, min};
+ghost use lib.ListN.{getD};
+ghost use Rattle.walk_step.specs.StepWord.{flowOf, stepWord, stepOf};
+ghost use Rattle.walk_step.specs.LeastStep.{hasWord, opensTo, forwardCounts, backCounts, countedStep, pairStep, leastStep};
+ghost use Rattle.walk_step.specs.StepTurns.{rowLeast, fromRow};
+use edge_kinds::LOOSE;
+use edge_kinds::kind_has;
+use edge_test::back_stands;
+use edge_test::forward_stands;
+use edge_word::NODES;
+use edge_word::PLACES;
+use place_fetch::row_at;
+use place_fetch::row_count;
+use place_row::Row;
+
+// What the place left, the place entered and a back edge count in a step's word.
+const LEAVES: u64 = 131072;
+
+const ENTERS: u64 = 128;
+
+const BACK: u64 = 64;
+
+// Greater than the word of every step: no step.
+pub const NO_STEP: u64 = 134217728;
+
+// A step out of a node: the place left, the place entered, whether it is a back edge, and the node entered.
+pub struct Taken {
+    pub leaves: u64,
+    pub enters: u64,
+    pub back: bool,
+    pub into: usize,
+}
+
+// The word of a step.
+fn step_word(leaves: u64, enters: u64, back: bool, into: u64) -> u64
+    ensures { λ r. ⌜ r ≡ stepWord leaves enters (flowOf back) into ⌝ }
+{
+    let w = leaves % PLACES * LEAVES + enters % PLACES * ENTERS;
+    let y = into % NODES as u64;
+    if back {
+        return w + BACK + y;
+    }
+    w + y
+}
+
+// The step that a word stands for.
+pub fn step_of(word: u64) -> Taken
+    ensures { λ r. ⌜ r ≡ stepOf word ⌝ }
+{
+    Taken {
+        leaves: word / LEAVES % PLACES,
+        enters: word / ENTERS % PLACES,
+        back: word / BACK % 2 == 1,
+        into: (word % NODES as u64) as usize,
+    }
+}
+
+// Whether a word has room for a step into row q: its node is below 64 and its place below 1024.
+fn has_word(q: Row) -> bool
+    ensures { λ r. ⌜ r ≡ hasWord q ⌝ }
+{
+    if q.node < NODES as u64 {
+        return q.place < PLACES;
+    }
+    false
+}
+
+// How far the forward edge from row p to row q opens: as far as any where it leaves a loose place, else up to the place that it enters.
+fn opens_to(p: Row, q: Row) -> u64
+    ensures { λ r. ⌜ r ≡ opensTo p q ⌝ }
+{
+    let k = p.kind;
+    if kind_has(k, LOOSE) {
+        return PLACES;
+    }
+    q.place
+}
+
+// Whether a forward edge stands from row p to row q and opens as far as is needed. How far is tested first: that is cheaper than the edge.
+fn forward_counts(p: Row, q: Row, need: u64) -> bool
+    ensures { λ r. ⌜ r ≡ forwardCounts need p q ⌝ }
+{
+    if opens_to(p, q) < need {
+        return false;
+    }
+    forward_stands(p, q)
+}
+
+// Whether a back edge stands from row p to row q and leaves below the limit.
+fn back_counts(p: Row, q: Row, limit: u64) -> bool
+    ensures { λ r. ⌜ r ≡ backCounts limit p q ⌝ }
+{
+    if limit <= p.place {
+        return false;
+    }
+    back_stands(p, q)
+}
+
+// The word of the least step from row p to row q that counts. Of the two the forward step is less.
+fn counted_step(p: Row, q: Row, need: u64, limit: u64) -> u64
+    ensures { λ r. ⌜ r ≡ countedStep need limit p q ⌝ }
+{
+    if forward_counts(p, q, need) {
+        return step_word(p.place, q.place, false, q.node);
+    }
+    if back_counts(p, q, limit) {
+        return step_word(p.place, q.place, true, q.node);
+    }
+    NO_STEP
+}
+
+// The lesser of the best word so far and that of the least step from row p to row q that counts. No step is less than the forward one.
+fn better_step(p: Row, q: Row, needs: &[u64; NODES], limits: &[u64; NODES], best: u64) -> u64
+    requires { ⌜ best ≤ 134217728 ⌝ }
+    ensures { λ r. ⌜ r ≡ min best (pairStep (now (needs .entry)) (now (limits .entry)) p q) ⌝ }
+{
+    if has_word(q) {
+        let w = step_word(p.place, q.place, false, q.node);
+        if w < best {
+            let y = q.node as usize;
+            let s = counted_step(p, q, needs[y], limits[y]);
+            if s < best {
+                return s;
+            }
+        }
+    }
+    best
+}
+
+// The least of the best word so far and those of the steps from row p to the first n rows.
+fn row_least(
+    table: &[u64],
+    n: usize,
+    p: Row,
+    needs: &[u64; NODES],
+    limits: &[u64; NODES],
+    best: u64,
+) -> u64
+    requires { ⌜ best ≤ 134217728 ⌝ }
+    ensures { λ r. ⌜ r ≡ rowLeast (now (table .entry)) n (now (needs .entry)) (now (limits .entry)) p best ⌝ }
+{
+    let mut least = best;
+    let mut j: usize = 0;
+    while j < n {
+        let q = row_at(table, j);
+        least = better_step(p, q, needs, limits, least);
+        j += 1;
+    }
+    least
+}
+
+// The same from row p where it is of node x. A row from whose place on every word is too great is passed over.
+fn from_row(
+    table: &[u64],
+    n: usize,
+    x: u64,
+    p: Row,
+    needs: &[u64; NODES],
+    limits: &[u64; NODES],
+    best: u64,
+) -> u64
+    requires { ⌜ best ≤ 134217728 ⌝ }
+    ensures { λ r. ⌜ r ≡ fromRow (now (table .entry)) n x (now (needs .entry)) (now (limits .entry)) p best ⌝ }
+{
+    if p.node != x {
+        return best;
+    }
+    if p.place < PLACES {
+        if p.place * LEAVES < best {
+            return row_least(table, n, p, needs, limits, best);
+        }
+    }
+    best
+}
+
+// The word of the least step out of node x that counts: a forward edge into y where it opens as far as `needs` has it for y, a back edge into y where
+// it leaves at a place below that of `limits` for y. `NO_STEP` where none does.
+pub fn least_step(table: &[u64], x: u64, needs: &[u64; NODES], limits: &[u64; NODES]) -> u64
+    ensures { λ r. ⌜ r ≡ leastStep (now (table .entry)) x (now (needs .entry)) (now (limits .entry)) ⌝ }
+{
+    let n = row_count(table);
+    let mut best = NO_STEP;
+    let mut i: usize = 0;
+    while i < n {
+        let p = row_at(table, i);
+        best = from_row(table, n, x, p, needs, limits, best);
+        i += 1;
+    }
+    best
+}
