@@ -1,3 +1,5 @@
 pub mod Pick
 pub mod PickLaws
 pub mod Completing
+pub mod ExactLaws
+pub mod LeastLaws

@@ -1,0 +1,1 @@
+-- Leads and returns, turn by turn.
