@@ -17,7 +17,7 @@ firstFrom test (suc left) x = cond (test x) x (firstFrom test left (suc x))
 -- ---- to which nodes dangerous pairs lead
 
 -- the forward edge of word e to v and the back edge from v to w are dangerous
-abbrev pub leadsAlong : List ℕ → ℕ → ℕ → ℕ → Bool
+unfoldable pub leadsAlong : List ℕ → ℕ → ℕ → ℕ → Bool
 leadsAlong backs e v w = dangerousPicks (forwardPick e) (backsIn backs v w)
 
 -- the nodes to which a dangerous pair leads along the forward edge of word e to v
@@ -34,12 +34,16 @@ leadRows forwards backs = listBelow (leadRow forwards backs) 64
 
 -- ---- how soon a way leads back
 
+-- layer d has one of the nodes
+unfoldable pub meetsIn : List ℕ → ℕ → ℕ → Bool
+meetsIn layers nodes d = meets nodes (getD layers d 0)
+
 -- the first of 64 layers that has one of the nodes, or 64
 unfoldable pub firstMeeting : List ℕ → ℕ → ℕ
-firstMeeting layers nodes = firstFrom (λ d. meets nodes (getD layers d 0)) 64 0
+firstMeeting layers nodes = firstFrom (meetsIn layers nodes) 64 0
 
 -- in how many steps u is reached from one of the nodes that stand for it in `leads`, or 64
-abbrev pub returnFrom : List ℕ → List ℕ → ℕ → ℕ
+unfoldable pub returnFrom : List ℕ → List ℕ → ℕ → ℕ
 returnFrom rows leads u = firstMeeting (layersTo rows u) (getD leads u 0)
 
 -- the fewest steps in which any of 64 nodes is reached so, or 64
@@ -49,7 +53,7 @@ shortestReturn rows leads = leastBelow (returnFrom rows leads) 64 64
 -- ---- by way of which nodes a pair with so short a way back leads
 
 -- the nodes from which u is reached in at most d steps; none for 64 steps or more
-abbrev pub layerAt : List ℕ → ℕ → ℕ → ℕ
+unfoldable pub layerAt : List ℕ → ℕ → ℕ → ℕ
 layerAt rows d u = getD (layersTo rows u) d 0
 
 -- the same for each of 64 nodes

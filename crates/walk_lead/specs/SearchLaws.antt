@@ -1,13 +1,14 @@
 -- How a search for the first number that passes a test goes on, turn by turn.
-use mathlib.Core.Path.{_≡_, sym, ap, _∙_}
+use mathlib.Core.Path.{_≡_, refl, sym, ap, _∙_}
 use mathlib.Core.Bool.{Bool, true, false, cond}
+use mathlib.Core.Logic.{_⊎_, inl, inr}
 use Prim.Native.Nat.{ℕ, zero, suc, _+_, _-_, _≤_, _<_}
 use native.Mathlib.Nat.{not-suc-le-zero}
 use native.Mathlib.Numerals.{add-one}
 use native.Mathlib.Omega.{arith}
 use lib.Dec.{eqb}
 use borrow.Author.Tests.{eqb-true, eqb-false}
-use Rattle.law_base.specs.BoolLaws.{true-false}
+use Rattle.law_base.specs.BoolLaws.{decide, true-false}
 use Rattle.walk_lead.specs.Leads.{firstFrom}
 
 module _ (test : ℕ → Bool) where
@@ -84,9 +85,21 @@ module _ (test : ℕ → Bool) where
   -- it ends no later than after the last
   pub first-bound : (left x : ℕ) → firstFrom test left x ≤ x + left
   unfolding firstFrom
-  first-bound left x = ?
+  first-bound zero x = omega arith
+  first-bound (suc left) x = go (first-bound left (suc x)) (test x)
+    where
+      go : firstFrom test left (suc x) ≤ suc x + left → (b : Bool) → cond b x (firstFrom test left (suc x)) ≤ x + suc left
+      go rest true = omega arith
+      go rest false = omega arith
 
   -- and no later than at a number that passes
   pub first-least : (left x y : ℕ) → x ≤ y → y < x + left → test y ≡ true → firstFrom test left x ≤ y
   unfolding firstFrom
-  first-least left x y h l e = ?
+  first-least zero x y h l e = let z : ⊥ = omega arith in absurd z
+  first-least (suc left) x y h l e = go (λ k. first-least left (suc x) y k (omega arith) e) (test x) refl (decide (eqb x y))
+    where
+      go : (suc x ≤ y → firstFrom test left (suc x) ≤ y) → (b : Bool) → test x ≡ b → (eqb x y ≡ true) ⊎ (eqb x y ≡ false)
+          → cond b x (firstFrom test left (suc x)) ≤ y
+      go rest true k d = h
+      go rest false k (inl q) = absurd (true-false (ap test (eqb-true x y q) ∙ e) k)
+      go rest false k (inr q) = let apart = eqb-false x y q in rest (omega arith)
