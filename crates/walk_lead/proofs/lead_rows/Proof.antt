@@ -1,51 +1,45 @@
-use borrow.Author.Needs.{needs}
+-- After u turns the first u words are the rows of their nodes (list-turn); after 64 all are.
+use Rattle.walk_reach.specs.NodeWordLaws.{list-turn, last-turn}
+use Rattle.walk_reach.specs.Layers.{listBelow}
+use Rattle.walk_lead.specs.Leads.{leadRow, leadRows}
 use native.Mathlib.Omega.{arith}
-use mathlib.Core.Path.{_≡_, refl, ap, sym, _∙_}
-use Prim.Native.Nat.{ℕ, _+_, _-_, _*_, _≤_, _<_}
-use lib.ListN.{length, set, getD, length-set, take, drop}
+use mathlib.Core.Path.{_≡_, refl}
+use Prim.Native.Nat.{_-_, _≤_}
+use borrow.Author.Needs.{needs}
 use Rattle.walk_lead.proofs.lead_rows.Statement.{statement}
 use Rattle.walk_lead.proofs.lead_rows.Tie as tie
-use Rattle.walk_lead.proofs.lead_rows.Reads as reads
-use Rattle.walk_lead.proofs.lead_rows.Lts as lts
-use Rattle.walk_lead.proofs.lead_row.Reads as lead-row-reads
 
 abbrev Inv-loop : tie.InvT-loop
-Inv-loop forwards backs rows₀ u₀ rows u = ?
+Inv-loop forwards backs rows₀ u₀ rows u = (u ≤ 64) × (rows ≡ listBelow (leadRow forwards backs) u)
 
 abbrev μ-loop : tie.MeasureT-loop
-μ-loop forwards backs rows₀ u₀ rows u = ?
+μ-loop forwards backs rows₀ u₀ rows u = 64 - u
 
--- src/lib.rt:68:5
 loop-holds : tie.Need-loop-holds Inv-loop μ-loop
-loop-holds c = search needs
+unfolding listBelow
+loop-holds c = (omega arith, refl)
 
--- src/lib.rt:69:19
 lead-row-requires : tie.Need-lead-row-requires Inv-loop μ-loop
 lead-row-requires c κs = search needs
 
--- src/lib.rt:69:9
 mul-rows : tie.Need-mul-rows Inv-loop μ-loop
 mul-rows c = search needs
 
--- src/lib.rt:69:9
 array-write-rows : tie.Need-array-write-rows Inv-loop μ-loop
 array-write-rows c = search needs
 
--- src/lib.rt:70:9
 add-u : tie.Need-add-u Inv-loop μ-loop
 add-u c = search needs
 
--- src/lib.rt:68:5
 loop-less : tie.Need-loop-less Inv-loop μ-loop
 loop-less c = search needs
 
--- src/lib.rt:68:5
 loop-again : tie.Need-loop-again Inv-loop μ-loop
-loop-again c = search needs
+loop-again c = (omega arith, list-turn (leadRow _ _) _ (c .before .before .loop .inv .1) (c .lead-row .ensures) refl)
 
--- src/lib.rt:63:1
 returns : tie.Need-returns Inv-loop μ-loop
-returns c = search needs
+unfolding leadRows
+returns c = last-turn (listBelow (leadRow _ _)) 64 _ (c .before .loop .inv .1) (c .before .loop .inv .0) (c .loop-test .left)
 
 pub lead-rows-spec : {M : Type 1} → statement M
 lead-rows-spec =
