@@ -2,6 +2,7 @@ pub mod Pick
 pub mod PickLaws
 pub mod Completing
 pub mod LeastLaws
+pub mod ExactLaws
 pub mod Opening
 pub mod Demands
 pub mod CompletingLaws

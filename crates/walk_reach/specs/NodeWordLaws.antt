@@ -84,7 +84,7 @@ module _ (test : ℕ → Bool) where
   word-none none zero = refl
   word-none none (suc n) = rw (none n) (word-none none n)
 
-list-length : (f : ℕ → ℕ) (n : ℕ) → length (listBelow f n) ≡ 64
+pub list-length : (f : ℕ → ℕ) (n : ℕ) → length (listBelow f n) ≡ 64
 unfolding listBelow
 list-length f zero = length-replicate {A = ℕ} 64 0
 list-length f (suc n) = length-set (listBelow f n) n (f n) ∙ list-length f n
