@@ -1,3 +1,4 @@
 pub mod Pick
 pub mod PickLaws
 pub mod Completing
+pub mod NeededLaws
