@@ -35,6 +35,16 @@ module _ (test : ℕ → Bool) where
       let none : n - x ≡ 0 = omega arith in
       let same : x ≡ n = omega arith in ap (λ (k : ℕ). firstFrom test k x) none ∙ same
 
+  -- it ends after the last at most
+  pub first-bound : (left x : ℕ) → firstFrom test left x ≤ x + left
+  unfolding firstFrom
+  first-bound zero x = omega arith
+  first-bound (suc left) x = go (test x) (first-bound left (suc x))
+    where
+      go : (b : Bool) → firstFrom test left (suc x) ≤ suc x + left → cond b x (firstFrom test left (suc x)) ≤ x + suc left
+      go true h = omega arith
+      go false h = omega arith
+
   -- where it ends before the last, it ends at a number that passes
   pub first-passes : (left x : ℕ) → firstFrom test left x < x + left → test (firstFrom test left x) ≡ true
   unfolding firstFrom
