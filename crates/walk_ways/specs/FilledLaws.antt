@@ -12,9 +12,9 @@ use Rattle.walk_ways.specs.Ways.{filled}
 
 module _ (size : ℕ) (f : ℕ → ℕ) where
   -- a turn of a loop that fills the next word
-  pub filled-turn : (n : ℕ) {list more : List ℕ} {x : ℕ} → list ≡ filled size f n → x ≡ f n → more ≡ set list n x → more ≡ filled size f (suc n)
+  pub filled-turn : (n : ℕ) {list more : List ℕ} {x : ℕ} → list ≡ filled size f n → x ≡ f n → more ≡ set list n x → more ≡ filled size f (n + 1)
   unfolding filled
-  filled-turn n p q r = r ∙ ap₂ (λ (l : List ℕ) (x : ℕ). set l n x) p q
+  filled-turn n p q r = rw add-one (r ∙ ap₂ (λ (l : List ℕ) (x : ℕ). set l n x) p q)
 
   -- there are so many words
   pub filled-length : (n : ℕ) → length (filled size f n) ≡ size

@@ -18,9 +18,13 @@ filled size f (suc n) = set (filled size f n) n (f n)
 
 -- ---- ways of an exact number of steps
 
+-- the row of node x has one of the nodes
+unfoldable pub entersAt : List ℕ → ℕ → ℕ → Bool
+entersAt rows nodes x = meets (getD rows x 0) nodes
+
 -- the nodes whose row has one of the nodes
 unfoldable pub nodesInto : List ℕ → ℕ → ℕ
-nodesInto rows nodes = wordBelow (λ x. meets (getD rows x 0) nodes) 64
+nodesInto rows nodes = wordBelow (entersAt rows nodes) 64
 
 -- the nodes from which exactly r steps lead to s; s itself where it is one of the 64
 unfoldable pub exactWord : List ℕ → ℕ → ℕ → ℕ
@@ -57,9 +61,13 @@ firstStart rows leads steps = firstFrom (startsAt rows leads steps) 64 0
 
 -- ---- how far the last step can open
 
+-- the word for node y among those from a place on, 0 where it is none of the nodes
+unfoldable pub wordFor : List ℕ → ℕ → ℕ → ℕ → ℕ
+wordFor table from nodes y = cond (has nodes y) (getD table (from + y) 0) 0
+
 -- the greatest of the 64 words from a place on that stand at one of the nodes
 unfoldable pub greatestIn : List ℕ → ℕ → ℕ → ℕ
-greatestIn table from nodes = greatestBelow (λ y. cond (has nodes y) (getD table (from + y) 0) 0) 64
+greatestIn table from nodes = greatestBelow (wordFor table from nodes) 64
 
 -- how far the forward edge from x to s opens, where s is one of the 64 nodes
 unfoldable pub widthInto : List ℕ → ℕ → ℕ → ℕ

@@ -24,7 +24,7 @@ use Rattle.walk_reach.specs.Layers.{withNode, wordBelow, joinedRow, joinedRows}
 use Rattle.walk_reach.specs.NodeWordLaws.{word-in, word-out}
 use Rattle.walk_reach.specs.LayerLaws.{first-has, row-at, row-has, row-meets}
 use Rattle.walk_reach.specs.SearchLaws.{first-bound, first-passes, first-least}
-use Rattle.walk_ways.specs.Ways.{nodesInto, exactWord, waysTo, nextOpening, opening, openings, startsAt, firstStart}
+use Rattle.walk_ways.specs.Ways.{entersAt, nodesInto, exactWord, waysTo, nextOpening, opening, openings, startsAt, firstStart}
 use Rattle.walk_ways.specs.Ways.{widthInto, widestWord, widestAt, widestTable}
 use Rattle.walk_ways.specs.FilledLaws.{filled-at}
 
@@ -53,8 +53,8 @@ meets-below x y n p q left right inside = same-test _ _ to of
         has-meets x y (t .0) (left (t .0) (t .1) ∙ b .0) (right (t .0) (t .1) ∙ b .1)
 
 into-has : (rows : List ℕ) (nodes x : ℕ) → x < 64 → has (nodesInto rows nodes) x ≡ meets (getD rows x 0) nodes
-unfolding nodesInto
-into-has rows nodes x h = word-in (λ y. meets (getD rows y 0) nodes) 64 x h
+unfolding nodesInto entersAt
+into-has rows nodes x h = word-in (entersAt rows nodes) 64 x h
 
 -- a number that the word has is below 64
 word-inside : (test : ℕ → Bool) (k : ℕ) → has (wordBelow test 64) k ≡ true → k < 64
@@ -67,7 +67,7 @@ word-inside test k h = go (decLt k 64)
 -- the words of ways have nodes alone
 exact-inside : (rows : List ℕ) (s r k : ℕ) → has (exactWord rows s r) k ≡ true → k < 64
 unfolding exactWord nodesInto withNode
-exact-inside rows s (suc r) k h = word-inside (λ y. meets (getD rows y 0) (exactWord rows s r)) k h
+exact-inside rows s (suc r) k h = word-inside (entersAt rows (exactWord rows s r)) k h
 exact-inside rows s zero k h = go (ltb s 64) (ltb-true s 64) h
   where
     go : (b : Bool) → (b ≡ true → s < 64) → has (withNode 0 b s) k ≡ true → k < 64
@@ -188,7 +188,10 @@ module _ (forwards backs : List ℕ) (n : ℕ) (full : n ≡ 64) (leadRows : Lis
   unfolding firstStart startsAt
   start-found steps s h e l =
       let passes = first-passes (startsAt (joinedRows forwards) leadRows steps) 64 0 (omega arith) in
-      let test = and-true _ _ (ap (startsAt (joinedRows forwards) leadRows steps) e ∙ passes) in
+      let test =
+      and-true (not (eqb (getD (joinedRows forwards) s 0) 0))
+      (has (getD (openings (joinedRows forwards) leadRows (waysTo (joinedRows forwards) s steps) steps) steps 0) s)
+      (ap (startsAt (joinedRows forwards) leadRows steps) e ∙ passes) in
       eqb-true _ 0 (sym (openings-has s steps steps s (omega arith) h (omega arith)) ∙ test .1)
 
   -- a node at which one can start has a row

@@ -101,16 +101,16 @@ pub fn openings(
     ensures { λ r. ⌜ r ≡ openings (now (rows .entry)) (now (leads .entry)) (now (ways .entry)) steps ⌝ }
 {
     let last = capped(steps, WAYS);
-    let mut open = [0u64; OPENINGS];
+    let mut words = [0u64; OPENINGS];
     let mut nodes: u64 = 0;
-    open[0] = nodes;
+    words[0] = nodes;
     let mut r: usize = 0;
     while r < last {
         nodes = next_opening(rows, leads, ways, r, nodes);
         r += 1;
-        open[r] = nodes;
+        words[r] = nodes;
     }
-    open
+    words
 }
 
 // Whether a closed walk of so many steps from s can have its dangerous pair at or after its first step. None can where no forward edge leaves s.
@@ -122,8 +122,8 @@ fn starts_at(rows: &[u64; NODES], leads: &[u64; NODES], s: usize, steps: usize) 
         return false;
     }
     let ways = ways_to(rows, s, steps);
-    let open = openings(rows, leads, &ways, steps);
-    has_bit(word_at(&open, steps), s as u64)
+    let words = openings(rows, leads, &ways, steps);
+    has_bit(word_at(&words, steps), s as u64)
 }
 
 // The first node at which a dangerous walk of so many steps can start so, or 64 where there is none.
