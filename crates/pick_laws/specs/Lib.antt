@@ -3,6 +3,7 @@ pub mod PickLaws
 pub mod Completing
 pub mod LeastLaws
 pub mod ExactLaws
+pub mod NeededLaws
 pub mod Opening
 pub mod Demands
 pub mod CompletingLaws

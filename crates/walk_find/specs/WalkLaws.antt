@@ -25,7 +25,7 @@ use Rattle.edge_word.specs.Coding.{forwardPick, backPick, forwardEdge, backEdge
 use Rattle.walk_reach.specs.Layers.{joinedRow, joinedRows, layersTo}
 use Rattle.walk_reach.specs.LayerLaws.{row-at, row-has, layers-has}
 use Rattle.walk_pair.specs.Pairs.{closesAt, pairIn, pairFor, hasPair, nodeIn}
-use Rattle.walk_pair.specs.SearchLaws.{first-passes, first-found}
+use Rattle.walk_reach.specs.SearchLaws.{first-passes, first-found}
 use Rattle.walk_pair.specs.PairLaws.{pair-skipped, pair-sought}
 use Rattle.walk_find.specs.TableWalk.{lowest, forwardStep, backStep, wayOn, walkOn, tableWalk}
 use Rattle.walk_find.specs.WayLaws.{way-none, way-stays, way-along}

@@ -11,8 +11,9 @@ use Rattle.law_base.specs.BoolLaws.{and-left}
 use Rattle.pick_laws.specs.Pick.{dangerousPicks}
 use Rattle.edge_word.specs.Coding.{forwardPick, backPick, backsIn}
 use Rattle.walk_reach.specs.Layers.{layersTo}
-use Rattle.walk_pair.specs.SearchLaws.{first-none, first-end, first-block}
-use Rattle.walk_pair.specs.Pairs.{firstFrom, closesAt, closesAlong, closingNode, pairIn, pairFor, hasPair}
+use Rattle.walk_reach.specs.Search.{firstFrom}
+use Rattle.walk_reach.specs.SearchLaws.{first-none, first-end, first-block}
+use Rattle.walk_pair.specs.Pairs.{closesAt, closesAlong, closingNode, pairIn, pairFor, hasPair}
 
 module _ (backs : List ℕ) (e v reach w : ℕ) where
   -- what is dangerous closes where it is reached

@@ -2,19 +2,15 @@
 use mathlib.Core.Bool.{Bool, cond, _&&_}
 use mathlib.Core.List.{List}
 use mathlib.Core.Path.{_≡_}
-use Prim.Native.Nat.{ℕ, zero, suc, _/_, _%_, _≤_, _<_}
+use Prim.Native.Nat.{ℕ, _/_, _%_, _≤_, _<_}
 use lib.Dec.{eqb, ltb}
 use lib.ListN.{getD}
 use Rattle.spec_base.specs.Basic.{has}
 use Rattle.pick_laws.specs.Pick.{dangerousPicks}
 use Rattle.edge_word.specs.Coding.{forwardPick, forwardsIn, backsIn}
 use Rattle.walk_reach.specs.Layers.{layersTo}
+use Rattle.walk_reach.specs.Search.{firstFrom}
 use Rattle.walk_pair.specs.declared.Closing.{Closing}
-
--- the first number from x on that passes the test, of as many as are left
-unfoldable pub firstFrom : (ℕ → Bool) → ℕ → ℕ → ℕ
-firstFrom test zero x = x
-firstFrom test (suc left) x = cond (test x) x (firstFrom test left (suc x))
 
 -- pair x of nodes v, w: the forward edge from u to v and the back edge from v to w are dangerous, and u is reached from w
 unfoldable pub closesAt : List ℕ → List ℕ → ℕ → ℕ → ℕ → Bool

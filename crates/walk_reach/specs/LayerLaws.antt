@@ -57,7 +57,7 @@ picked-word x = go (eqb x 0)
     go false = refl
 
 -- the first layer has u, where it is one of the 64 nodes
-first-has : (u w : ℕ) → w < 64 → has (withNode 0 (ltb u 64) u) w ≡ eqb w u
+pub first-has : (u w : ℕ) → w < 64 → has (withNode 0 (ltb u 64) u) w ≡ eqb w u
 unfolding withNode
 first-has u w h = go (decide (ltb u 64))
   where
@@ -84,7 +84,7 @@ module _ (forwards : List ℕ) (n : ℕ) (full : n ≡ 64) where
       go (inr e) = let l = ltb-false k 64 e in absurd (true-false h (word-out (joinedBit forwards w) 64 k l))
 
   -- an edge goes from w to one of the nodes
-  row-meets : (nodes : ℕ) (rest : ℕ → Bool) (w : ℕ) → w < n → ((k : ℕ) → k < n → has nodes k ≡ rest k)
+  pub row-meets : (nodes : ℕ) (rest : ℕ → Bool) (w : ℕ) → w < n → ((k : ℕ) → k < n → has nodes k ≡ rest k)
       → meets (getD (joinedRows forwards) w 0) nodes ≡ any (onwardTo (forwardsIn forwards) rest w) (numbers n)
   row-meets nodes rest w h same = ap (λ (x : ℕ). meets x nodes) (row-at w h) ∙ same-test _ _ to of
     where

@@ -1,3 +1,5 @@
 pub mod Layers
 pub mod NodeWordLaws
 pub mod LayerLaws
+pub mod Search
+pub mod SearchLaws

@@ -1,8 +1,9 @@
 -- Along no edge nothing closes (closing-none). Else the first node from w on that closes is the first of all: a node that does not close keeps
 -- this (search-turn), one that does ends it (search-stop).
 use Rattle.walk_pair.specs.PairLaws.{closing-none}
-use Rattle.walk_pair.specs.SearchLaws.{search-stop, search-turn, search-end}
-use Rattle.walk_pair.specs.Pairs.{closesAlong, closingNode, firstFrom}
+use Rattle.walk_reach.specs.Search.{firstFrom}
+use Rattle.walk_reach.specs.SearchLaws.{search-stop, search-turn, search-end}
+use Rattle.walk_pair.specs.Pairs.{closesAlong, closingNode}
 use borrow.Author.Needs.{needs}
 use native.Mathlib.Omega.{arith}
 use mathlib.Core.Path.{_≡_, refl, sym, _∙_}

@@ -1,8 +1,9 @@
 -- The first node from u on with a pair that closes is the first of all: a node without one keeps this (search-turn), one with a pair ends it
 -- (search-stop), which is then its first, and past 63 there is none (search-end).
-use Rattle.walk_pair.specs.Pairs.{hasPair, nodeIn, firstFrom}
+use Rattle.walk_pair.specs.Pairs.{hasPair, nodeIn}
 use Rattle.walk_pair.specs.PairLaws.{pair-passes, pair-fails}
-use Rattle.walk_pair.specs.SearchLaws.{search-stop, search-turn, search-end}
+use Rattle.walk_reach.specs.Search.{firstFrom}
+use Rattle.walk_reach.specs.SearchLaws.{search-stop, search-turn, search-end}
 use borrow.Author.Needs.{needs}
 use native.Mathlib.Omega.{arith}
 use mathlib.Core.Path.{_≡_, refl}

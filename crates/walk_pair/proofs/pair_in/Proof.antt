@@ -1,7 +1,8 @@
 -- The first pair from 64 v on that closes is the first of all: where nothing closes along the edge to v, its 64 pairs are passed at once
 -- (pair-turn); where a node does, that is the pair (pair-stop).
 use Rattle.walk_pair.specs.PairLaws.{pair-stop, pair-turn, pair-end}
-use Rattle.walk_pair.specs.Pairs.{closesAt, firstFrom}
+use Rattle.walk_reach.specs.Search.{firstFrom}
+use Rattle.walk_pair.specs.Pairs.{closesAt}
 use borrow.Author.Needs.{needs}
 use native.Mathlib.Omega.{arith}
 use mathlib.Core.Path.{_≡_, refl}

@@ -8,7 +8,7 @@ use native.Mathlib.Omega.{arith}
 use lib.Dec.{eqb}
 use borrow.Author.Tests.{eqb-true, eqb-false}
 use Rattle.law_base.specs.BoolLaws.{true-false}
-use Rattle.walk_pair.specs.Pairs.{firstFrom}
+use Rattle.walk_reach.specs.Search.{firstFrom}
 
 module _ (test : ℕ → Bool) where
   -- a number that passes is the first
@@ -34,6 +34,16 @@ module _ (test : ℕ → Bool) where
   first-end n x h l =
       let none : n - x ≡ 0 = omega arith in
       let same : x ≡ n = omega arith in ap (λ (k : ℕ). firstFrom test k x) none ∙ same
+
+  -- it ends after the last at most
+  pub first-bound : (left x : ℕ) → firstFrom test left x ≤ x + left
+  unfolding firstFrom
+  first-bound zero x = omega arith
+  first-bound (suc left) x = go (test x) (first-bound left (suc x))
+    where
+      go : (b : Bool) → firstFrom test left (suc x) ≤ suc x + left → cond b x (firstFrom test left (suc x)) ≤ x + suc left
+      go true h = omega arith
+      go false h = omega arith
 
   -- where it ends before the last, it ends at a number that passes
   pub first-passes : (left x : ℕ) → firstFrom test left x < x + left → test (firstFrom test left x) ≡ true
@@ -63,6 +73,21 @@ module _ (test : ℕ → Bool) where
               go-on : (b : Bool) → eqb x y ≡ b → suc x ≤ y
               go-on true q = absurd (true-false (ap test (eqb-true x y q) ∙ e) k)
               go-on false q = let apart = eqb-false x y q in omega arith
+
+  -- and ends no later than at it
+  pub first-least : (left x y : ℕ) → x ≤ y → y < x + left → test y ≡ true → firstFrom test left x ≤ y
+  unfolding firstFrom
+  first-least zero x y h l e = let z : ⊥ = omega arith in absurd z
+  first-least (suc left) x y h l e = go (first-least left (suc x) y) (test x) refl
+    where
+      go : (suc x ≤ y → y < suc x + left → test y ≡ true → firstFrom test left (suc x) ≤ y) → (b : Bool) → test x ≡ b
+          → cond b x (firstFrom test left (suc x)) ≤ y
+      go rest true k = h
+      go rest false k = rest (later (eqb x y) refl) (omega arith) e
+        where
+          later : (b : Bool) → eqb x y ≡ b → suc x ≤ y
+          later true q = absurd (true-false (ap test (eqb-true x y q) ∙ e) k)
+          later false q = let apart = eqb-false x y q in omega arith
 
   -- where none passes it ends after the last
   pub first-none : (left x : ℕ) → ((y : ℕ) → test y ≡ false) → firstFrom test left x ≡ x + left

@@ -1,0 +1,4 @@
+pub mod Ways
+pub mod FilledLaws
+pub mod TurnLaws
+pub mod WaysLaws

@@ -1,0 +1,225 @@
+// Ways of an exact number of forward steps among 64 nodes, where a dangerous walk of so many steps can start, and how far the last of so many
+// steps to a node can open. A set of nodes is a word; `rows` has for each node the nodes to which a forward edge goes from it (walk_reach),
+// `leads` those to which a dangerous pair of edges leads from it.
+
+use edge_word::NODES;
+use edge_word::PAIRS;
+use edge_word::PLACES;
+use edge_word::forward_edge;
+use word_list::has_bit;
+use word_list::word_at;
+ghost use mathlib.Core.Bool.{true, cond};
+ghost use mathlib.Core.Path.{_≡_};
+ghost use Prim.Native.Nat.{_+_, _≤_, _<_, min, max};
+ghost use Rattle.pick_laws.specs.Completing.{opensBelow};
+ghost use Rattle.edge_word.specs.Coding.{forwardPick};
+ghost use Rattle.walk_reach.specs.Layers.{withNode};
+ghost use Rattle.walk_ways.specs.Ways.{nodesInto, waysTo, nextOpening, openings, startsAt, firstStart};
+ghost use Rattle.walk_ways.specs.Ways.{greatestIn, widthInto, widestFrom, widestTable};
+
+// The words of a table of ways, of 0 to 64 steps, and of one of openings, of 0 to 65.
+pub const WAYS: usize = 65;
+
+pub const OPENINGS: usize = 66;
+
+// The nodes of a word, and node k too where the test passed.
+fn with_node(word: u64, test: bool, k: usize) -> u64
+    requires { ⌜ (test ≡ true → k < 64) ⌝ }
+    ensures { λ r. ⌜ r ≡ withNode word test k ⌝ }
+{
+    if test {
+        return word | (1u64 << k);
+    }
+    word
+}
+
+// A number, but at most `most`.
+fn capped(x: usize, most: usize) -> usize
+    ensures { λ r. ⌜ r ≡ min x most ⌝ }
+{
+    if x < most {
+        return x;
+    }
+    most
+}
+
+// The nodes whose row has one of the nodes.
+fn nodes_into(rows: &[u64; NODES], nodes: u64) -> u64
+    ensures { λ r. ⌜ r ≡ nodesInto (now (rows .entry)) nodes ⌝ }
+{
+    let mut word: u64 = 0;
+    let mut x: usize = 0;
+    while x < NODES {
+        word = with_node(word, rows[x] & nodes != 0, x);
+        x += 1;
+    }
+    word
+}
+
+// For each number of steps up to `steps`, and up to 64, the nodes from which exactly so many forward steps lead to s; the other words are 0.
+pub fn ways_to(rows: &[u64; NODES], s: usize, steps: usize) -> [u64; WAYS]
+    ensures { λ r. ⌜ r ≡ waysTo (now (rows .entry)) s steps ⌝ }
+{
+    let last = capped(steps, NODES);
+    let mut ways = [0u64; WAYS];
+    let mut nodes = with_node(0, s < NODES, s);
+    ways[0] = nodes;
+    let mut r: usize = 0;
+    while r < last {
+        nodes = nodes_into(rows, nodes);
+        r += 1;
+        ways[r] = nodes;
+    }
+    ways
+}
+
+// The nodes that are open with r + 1 steps left, where `nodes` are those with r left.
+fn next_opening(
+    rows: &[u64; NODES],
+    leads: &[u64; NODES],
+    ways: &[u64; WAYS],
+    r: usize,
+    nodes: u64,
+) -> u64
+    requires { ⌜ r ≤ 65 ⌝ }
+    ensures { λ x. ⌜ x ≡ nextOpening (now (rows .entry)) (now (leads .entry)) (now (ways .entry)) r nodes ⌝ }
+{
+    if r == 0 {
+        return 0;
+    }
+    nodes_into(rows, nodes) | nodes_into(leads, ways[r - 1])
+}
+
+// For each number of steps up to `steps`, and up to 65, the open nodes: those from which so many steps lead through a dangerous pair that is still
+// to come and complete the walk, where `ways` has for each number of steps the nodes from which so many forward steps end it. The other words are 0.
+pub fn openings(
+    rows: &[u64; NODES],
+    leads: &[u64; NODES],
+    ways: &[u64; WAYS],
+    steps: usize,
+) -> [u64; OPENINGS]
+    ensures { λ r. ⌜ r ≡ openings (now (rows .entry)) (now (leads .entry)) (now (ways .entry)) steps ⌝ }
+{
+    let last = capped(steps, WAYS);
+    let mut words = [0u64; OPENINGS];
+    let mut nodes: u64 = 0;
+    words[0] = nodes;
+    let mut r: usize = 0;
+    while r < last {
+        nodes = next_opening(rows, leads, ways, r, nodes);
+        r += 1;
+        words[r] = nodes;
+    }
+    words
+}
+
+// Whether a closed walk of so many steps from s can have its dangerous pair at or after its first step. None can where no forward edge leaves s.
+fn starts_at(rows: &[u64; NODES], leads: &[u64; NODES], s: usize, steps: usize) -> bool
+    requires { ⌜ s < 64 ⌝ }
+    ensures { λ r. ⌜ r ≡ startsAt (now (rows .entry)) (now (leads .entry)) steps s ⌝ }
+{
+    if rows[s] == 0 {
+        return false;
+    }
+    let ways = ways_to(rows, s, steps);
+    let words = openings(rows, leads, &ways, steps);
+    has_bit(word_at(&words, steps), s as u64)
+}
+
+// The first node at which a dangerous walk of so many steps can start so, or 64 where there is none.
+pub fn first_start(rows: &[u64; NODES], leads: &[u64; NODES], steps: usize) -> usize
+    ensures { λ r. ⌜ r ≡ firstStart (now (rows .entry)) (now (leads .entry)) steps ⌝ }
+{
+    let mut s: usize = 0;
+    while s < NODES {
+        if starts_at(rows, leads, s, steps) {
+            return s;
+        }
+        s += 1;
+    }
+    NODES
+}
+
+// W4: a back edge that leaves at a place below this is dangerous after the forward edge of the word; 0 for no edge.
+pub fn opens_below(word: u64) -> u64
+    ensures { λ r. ⌜ r ≡ opensBelow (forwardPick word) ⌝ }
+{
+    if word == 0 {
+        return 0;
+    }
+    let e = forward_edge(word);
+    if e.loose {
+        return PLACES;
+    }
+    e.enters
+}
+
+// The greater of a number and, where the test passed, another.
+fn greater(best: u64, test: bool, x: u64) -> u64
+    ensures { λ r. ⌜ r ≡ max best (cond test x 0) ⌝ }
+{
+    if test {
+        if best < x {
+            return x;
+        }
+    }
+    best
+}
+
+// The greatest of the 64 words from a place on that stand at one of the nodes.
+fn greatest_in(table: &[u64; PAIRS], from: usize, nodes: u64) -> u64
+    requires { ⌜ from + 64 ≤ 4096 ⌝ }
+    ensures { λ r. ⌜ r ≡ greatestIn (now (table .entry)) from nodes ⌝ }
+{
+    let mut best: u64 = 0;
+    let mut y: usize = 0;
+    while y < NODES {
+        let t = has_bit(nodes, y as u64);
+        best = greater(best, t, table[from + y]);
+        y += 1;
+    }
+    best
+}
+
+// How far the forward edge from x to s opens; 0 where s is no node.
+fn width_into(forwards: &[u64], s: usize, x: usize) -> u64
+    requires { ⌜ x < 64 ⌝ }
+    ensures { λ r. ⌜ r ≡ widthInto (now (forwards .entry)) s x ⌝ }
+{
+    if s < NODES {
+        return opens_below(word_at(forwards, x * NODES + s));
+    }
+    0
+}
+
+// Word i of the table, from the words before it.
+fn widest_from(
+    forwards: &[u64],
+    rows: &[u64; NODES],
+    s: usize,
+    table: &[u64; PAIRS],
+    i: usize,
+) -> u64
+    requires { ⌜ i < 4096 ⌝ }
+    ensures { λ r. ⌜ r ≡ widestFrom (now (forwards .entry)) (now (rows .entry)) s (now (table .entry)) i ⌝ }
+{
+    if i < NODES {
+        return width_into(forwards, s, i);
+    }
+    greatest_in(table, (i / NODES - 1) * NODES, rows[i % NODES])
+}
+
+// At r * 64 + x, for r below `rounds` and below 64, how far the last of exactly r + 1 forward steps from x to s can open; the other words are 0.
+pub fn widest_table(forwards: &[u64], rows: &[u64; NODES], s: usize, rounds: usize) -> [u64; PAIRS]
+    ensures { λ r. ⌜ r ≡ widestTable (now (forwards .entry)) (now (rows .entry)) s rounds ⌝ }
+{
+    let last = capped(rounds, NODES) * NODES;
+    let mut table = [0u64; PAIRS];
+    let mut i: usize = 0;
+    while i < last {
+        let x = widest_from(forwards, rows, s, &table, i);
+        table[i] = x;
+        i += 1;
+    }
+    table
+}
