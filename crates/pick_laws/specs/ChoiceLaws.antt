@@ -24,7 +24,7 @@ use Rattle.pick_laws.specs.Completing.{leastBelow, opensBelow, leavesAt,
 use Rattle.pick_laws.specs.Opening.{openBelow, open-most, below-pair}
 use Rattle.pick_laws.specs.LeastLaws.{least-some, greatest-some}
 use Rattle.pick_laws.specs.CompletingLaws.{SmallPlaces}
-use Rattle.pick_laws.specs.Demands.{onlyIf, endingNeeds, needsIn, startingLimit, limitsIn, counts, goingIn, goingAfter, fits, canEnd, canFinish}
+use Rattle.pick_laws.specs.Demands.{onlyIf, endingNeeds, needsIn, startingLimit, limitsIn, counts, goingIn, goingAfter, begun, fits, canEnd, canFinish}
 use Rattle.pick_laws.specs.DemandLaws.{only-passed, passed-only, counts-forward, counts-back}
 
 -- a step that counts
@@ -51,19 +51,20 @@ module _ {g : Graph} {n : ℕ} {forwards backs : Picks} (picks : Picked g n forw
     pub choice : Choice g can r ph x step y next
     pub going : goingIn g next ≡ goingAfter (goingIn g ph) (isBack (step .flow)) (openBelow g step) (step .leaves)
     pub fit : fits next ≡ true
+    pub more : begun next ≡ true
 
   chosen : (r : ℕ) (ph next : Phase) (x : ℕ) (step : Step) (y : ℕ) → step .node ≡ x → g .edge x (step .leaves) y (step .enters) (step .flow) ≡ true
       → afterStep g ph step ≡ some next → can r next y ≡ true
       → goingIn g next ≡ goingAfter (goingIn g ph) (isBack (step .flow)) (openBelow g step) (step .leaves) → fits next ≡ true
-      → Chosen r ph x step y
-  chosen r ph next x step y node edge after rest going fit =
-      record { next = next; choice = record { node = node; edge = edge; after = after; rest = rest }; going = going; fit = fit }
+      → begun next ≡ true → Chosen r ph x step y
+  chosen r ph next x step y node edge after rest going fit more =
+      record { next = next; choice = record { node = node; edge = edge; after = after; rest = rest }; going = going; fit = fit; more = more }
 
   -- a step that counts is a choice
   pub counts-choice : (r : ℕ) (ph : Phase) (x y : ℕ) (step : Step) → step .node ≡ x
       → g .edge x (step .leaves) y (step .enters) (step .flow) ≡ true → fits ph ≡ true
       → counts g (needsIn forwards backs n s r (goingIn g ph)) (limitsIn forwards n s r (goingIn g ph)) step y ≡ true → Chosen r ph x step y
-  unfolding canFinish canEnd ended goingIn goingAfter fits needsIn endingNeeds limitsIn startingLimit afterStep
+  unfolding canFinish canEnd ended goingIn goingAfter begun fits needsIn endingNeeds limitsIn startingLimit afterStep
   counts-choice r starting x y step node edge fit h = by-flow (step .flow) refl
     where
       few : step .leaves < 1024
@@ -79,11 +80,11 @@ module _ {g : Graph} {n : ℕ} {forwards backs : Picks} (picks : Picked g n forw
       by-flow : (f : Flow) → step .flow ≡ f → Chosen r starting x step y
       by-flow Flow.forward f =
           chosen r starting (opening step) x step y node edge (rw (ap isBack f) refl)
-          (forward-counts g (needsIn forwards backs n s r Going.Starting) (limitsIn forwards n s r Going.Starting) step y f h) (rw (ap isBack f) refl) refl
+          (forward-counts g (needsIn forwards backs n s r Going.Starting) (limitsIn forwards n s r Going.Starting) step y f h) (rw (ap isBack f) refl) refl refl
       by-flow Flow.back f =
           let l = back-counts g (needsIn forwards backs n s r Going.Starting) (limitsIn forwards n s r Going.Starting) step y f h in
           chosen r starting (ending step step) x step y node edge (rw (ap isBack f) refl) (turned r f l)
-          (rw (ap isBack f) (ap Going.Ending least)) (and-of (ap isBack f) (lt-ltb (step .leaves) 1024 few))
+          (rw (ap isBack f) (ap Going.Ending least)) (and-of (ap isBack f) (lt-ltb (step .leaves) 1024 few)) refl
   counts-choice r (opening e) x y step node edge fit h = by-flow (step .flow) refl
     where
       going : Going
@@ -96,18 +97,18 @@ module _ {g : Graph} {n : ℕ} {forwards backs : Picks} (picks : Picked g n forw
       by-flow : (f : Flow) → step .flow ≡ f → Chosen r (opening e) x step y
       by-flow Flow.forward f =
           chosen r (opening e) (opening step) x step y node edge (rw (ap isBack f) refl)
-          (forward-counts g (needsIn forwards backs n s r going) (limitsIn forwards n s r going) step y f h) (rw (ap isBack f) refl) refl
+          (forward-counts g (needsIn forwards backs n s r going) (limitsIn forwards n s r going) step y f h) (rw (ap isBack f) refl) refl refl
       by-flow Flow.back f =
           let l = limited (exactly forwards n s r y) (back-counts g (needsIn forwards backs n s r going) (limitsIn forwards n s r going) step y f h) in
           let pair = below-pair g e step (ap isBack f) (l .1) in
-          chosen r (opening e) closing x step y node edge (rw (ap isBack f, pair) refl) (l .0) (rw (ap isBack f) refl) refl
+          chosen r (opening e) closing x step y node edge (rw (ap isBack f, pair) refl) (l .0) (rw (ap isBack f) refl) refl refl
   counts-choice r closing x y step node edge fit h = by-flow (step .flow) refl
     where
       by-flow : (f : Flow) → step .flow ≡ f → Chosen r closing x step y
       by-flow Flow.forward f =
           chosen r closing closing x step y node edge (rw (ap isBack f) refl)
           (passed-only (exactly forwards n s r y) (openBelow g step) (open-most g step)
-          (forward-counts g (needsIn forwards backs n s r Going.Closing) (limitsIn forwards n s r Going.Closing) step y f h)) refl refl
+          (forward-counts g (needsIn forwards backs n s r Going.Closing) (limitsIn forwards n s r Going.Closing) step y f h)) refl refl refl
       by-flow Flow.back f =
           absurd
           (not-suc-le-zero (back-counts g (needsIn forwards backs n s r Going.Closing) (limitsIn forwards n s r Going.Closing) step y f h))
@@ -142,7 +143,7 @@ module _ {g : Graph} {n : ℕ} {forwards backs : Picks} (picks : Picked g n forw
       by-flow : (f : Flow) → step .flow ≡ f → Chosen r (ending first e) x step y
       by-flow Flow.forward f =
           chosen r (ending first e) (ending first step) x step y node edge (rw (ap isBack f) refl)
-          (met r f (forward-counts g (needsIn forwards backs n s r going) (limitsIn forwards n s r going) step y f h)) refl fit
+          (met r f (forward-counts g (needsIn forwards backs n s r going) (limitsIn forwards n s r going) step y f h)) refl fit refl
       by-flow Flow.back f =
           absurd (not-suc-le-zero (back-counts g (needsIn forwards backs n s r going) (limitsIn forwards n s r going) step y f h))
 
@@ -222,10 +223,10 @@ module _ {g : Graph} {n : ℕ} {forwards backs : Picks} (picks : Picked g n forw
       by-later false e k = let z : ⊥ = omega arith in absurd z
 
   -- where the walk can be completed some step counts
-  pub finish-counted : (r : ℕ) (ph : Phase) (x : ℕ) → x < n → s < n → (ph ≡ starting → ⊥) → can (suc r) ph x ≡ true → Counted r (goingIn g ph) x
-  unfolding canFinish canEnd goingIn needsIn endingNeeds limitsIn needed exactly widest leavesFirst
-  finish-counted r starting x in-x in-s begun h = absurd (begun refl)
-  finish-counted r (opening e) x in-x in-s begun h = by-later later refl (leb-true _ (openBelow g e) h)
+  pub finish-counted : (r : ℕ) (ph : Phase) (x : ℕ) → x < n → s < n → begun ph ≡ true → can (suc r) ph x ≡ true → Counted r (goingIn g ph) x
+  unfolding canFinish canEnd goingIn begun needsIn endingNeeds limitsIn needed exactly widest leavesFirst
+  finish-counted r starting x in-x in-s on h = absurd (false≢true on)
+  finish-counted r (opening e) x in-x in-s on h = by-later later refl (leb-true _ (openBelow g e) h)
     where
       going : Going
       going = Going.Opening (openBelow g e)
@@ -256,12 +257,12 @@ module _ {g : Graph} {n : ℕ} {forwards backs : Picks} (picks : Picked g n forw
           let most = open-most g e in
           let t = least-some (λ y. cond (exactly forwards n s r y) (leavesAt (backs x y)) 1024) 1024 n (omega arith) in
           by-pick (t .0) (t .1) (backs x (t .0)) refl (exactly forwards n s r (t .0)) refl (t .2) (omega arith)
-  finish-counted r closing x in-x in-s begun h =
+  finish-counted r closing x in-x in-s on h =
       let t = any-numbers (onwardTo forwards (exactly forwards n s r) x) n h in
       let both = and-true (picked (forwards x (t .0))) (exactly forwards n s r (t .0)) (t .2) in
       let nothing : needsIn forwards backs n s r Going.Closing (t .0) ≡ 0 = rw (both .1) refl in
       forward-counted r Going.Closing x (t .0) in-x (t .1) (both .0) (omega arith)
-  finish-counted zero (ending first e) x in-x in-s begun h = by-pick (forwards x s) refl (ltb-true k (opensBelow (forwards x s)) below)
+  finish-counted zero (ending first e) x in-x in-s on h = by-pick (forwards x s) refl (ltb-true k (opensBelow (forwards x s)) below)
     where
       k : ℕ
       k = min (first .leaves) 1023
@@ -274,7 +275,7 @@ module _ {g : Graph} {n : ℕ} {forwards backs : Picks} (picks : Picked g n forw
       by-pick (some p) q l =
           let here : needsIn forwards backs n s zero (Going.Ending k) s ≡ suc k = rw (eq-eqb s s refl) refl in
           forward-counted zero (Going.Ending k) x s in-x in-s (ap picked q) (omega arith)
-  finish-counted (suc r) (ending first e) x in-x in-s begun h =
+  finish-counted (suc r) (ending first e) x in-x in-s on h =
       let t = greatest-some (λ y. cond (picked (forwards x y)) (widest forwards n s r y) 0) n k
       (ltb-true k _ (and-true (isBack (first .flow)) _ h .1)) in
       by-pick (t .0) (t .1) (picked (forwards x (t .0))) refl (t .2)

@@ -1,6 +1,6 @@
 -- Which steps count at a node, phase by phase: a forward step into y counts where it opens as far as y needs, a back step into y where it leaves at a
 -- place below y's limit.
-use mathlib.Core.Bool.{Bool, true, cond, _&&_}
+use mathlib.Core.Bool.{Bool, true, false, cond, _&&_}
 use Prim.Native.Nat.{ℕ, zero, suc, min}
 use lib.Dec.{eqb, ltb, leb}
 use Rattle.spec_graph.specs.Graph.{Graph, isBack}
@@ -57,6 +57,13 @@ goingAfter Going.Starting back opens leaves = cond back (Going.Ending leaves) (G
 goingAfter (Going.Opening k) back opens leaves = cond back Going.Closing (Going.Opening opens)
 goingAfter Going.Closing back opens leaves = Going.Closing
 goingAfter (Going.Ending k) back opens leaves = Going.Ending k
+
+-- a step is taken
+unfoldable pub begun : Phase → Bool
+begun starting = false
+begun (opening e) = true
+begun closing = true
+begun (ending f e) = true
 
 -- a walk that began with a back step began with one that leaves a place below 1024
 unfoldable pub fits : Phase → Bool

@@ -15,7 +15,8 @@ use Rattle.pick_laws.specs.Demands.{onlyIf, endingNeeds, needsIn, startingLimit
 use Rattle.edge_word.specs.Coding.{backsIn}
 use Rattle.walk_reach.specs.Layers.{listBelow}
 use Rattle.walk_reach.specs.NodeWordLaws.{list-at}
-use Rattle.walk_need.specs.Needs.{leavesFor, firstLeaving, openingNeed, wideAt, endingNeed, needAt, needsOf, startingLimitAt, limitAt, limitsOf}
+use Rattle.walk_need.specs.Needs.{leavesFor, firstLeaving, openingNeed, wideAt, endingNeed, needAt, needAmong, needsOf}
+use Rattle.walk_need.specs.Needs.{startingLimitAt, limitAt, limitAmong, limitsOf}
 
 -- what the words tell, for up to r steps left
 pub record Worked (forwards : Picks) (backs : List ℕ) (n s : ℕ) (ways opened wide : List ℕ) (most : ℕ) : Type 0 where
@@ -75,10 +76,12 @@ module _ {forwards : Picks} {backs : List ℕ} (n : ℕ) (full : n ≡ 64) {s : 
   need-same r y Going.Closing few h l = ap onlyIf (worked .ends r y h l)
   need-same r y (Going.Ending k) few h l = ending-same k r y (few k refl) h l
 
-  pub needs-at : (r y : ℕ) (going : Going) → PlaceKept going → r ≤ most → y < n
-      → getD (needsOf backs ways opened wide s r going) y 0 ≡ needsIn forwards (backsIn backs) n s r going y
-  unfolding needsOf
-  needs-at r y going few h l = list-at (needAt backs ways opened wide s r going) 64 y (omega arith) (omega arith) ∙ need-same r y going few h l
+  pub needs-at : (nodes r y : ℕ) (going : Going) → PlaceKept going → r ≤ most → y < n
+      → getD (needsOf backs ways opened wide s nodes r going) y 0 ≡ cond (has nodes y) (needsIn forwards (backsIn backs) n s r going y) 1025
+  unfolding needsOf needAmong
+  needs-at nodes r y going few h l =
+      list-at (needAmong backs ways opened wide s nodes r going) 64 y (omega arith) (omega arith)
+      ∙ ap (λ (x : ℕ). cond (has nodes y) x 1025) (need-same r y going few h l)
 
   starting-same : (r y : ℕ) → r ≤ most → y < n → startingLimitAt wide r y ≡ startingLimit forwards n s r y
   unfolding startingLimitAt startingLimit
@@ -93,6 +96,9 @@ module _ {forwards : Picks} {backs : List ℕ} (n : ℕ) (full : n ≡ 64) {s : 
   limit-same r y Going.Closing h l = refl
   limit-same r y (Going.Ending k) h l = refl
 
-  pub limits-at : (r y : ℕ) (going : Going) → r ≤ most → y < n → getD (limitsOf ways wide r going) y 0 ≡ limitsIn forwards n s r going y
-  unfolding limitsOf
-  limits-at r y going h l = list-at (limitAt ways wide r going) 64 y (omega arith) (omega arith) ∙ limit-same r y going h l
+  pub limits-at : (nodes r y : ℕ) (going : Going) → r ≤ most → y < n
+      → getD (limitsOf ways wide nodes r going) y 0 ≡ cond (has nodes y) (limitsIn forwards n s r going y) 0
+  unfolding limitsOf limitAmong
+  limits-at nodes r y going h l =
+      list-at (limitAmong ways wide nodes r going) 64 y (omega arith) (omega arith)
+      ∙ ap (λ (x : ℕ). cond (has nodes y) x 0) (limit-same r y going h l)

@@ -14,7 +14,7 @@ use Rattle.pick_laws.specs.declared.Pick.{Pick}
 use Rattle.pick_laws.specs.Completing.{leastBelow, leavesAt}
 use Rattle.pick_laws.specs.Demands.{onlyIf}
 use Rattle.edge_word.specs.Coding.{backEdge, backPick, backsIn}
-use Rattle.walk_need.specs.Needs.{leavesFor, firstLeaving, openingNeed, wideAt, endingNeed, needAt, startingLimitAt, limitAt}
+use Rattle.walk_need.specs.Needs.{leavesFor, firstLeaving, openingNeed, wideAt, endingNeed, needAt, needAmong, startingLimitAt, limitAt, limitAmong}
 
 -- ---- where a back edge leaves
 
@@ -150,3 +150,25 @@ module _ (ways wide : List ℕ) (r y : ℕ) {going : Going} where
   pub limit-ending : {k : ℕ} → going ≡ Going.Ending k → 0 ≡ limitAt ways wide r going y
   unfolding limitAt
   limit-ending e = rw e refl
+
+-- ---- among the nodes of a word
+
+module _ (nodes y : ℕ) {b : Bool} (same : b ≡ has nodes y) where
+  pub among-need : (backs ways opened wide : List ℕ) (s r : ℕ) (going : Going) {x : ℕ} → b ≡ true → x ≡ needAt backs ways opened wide s r going y
+      → x ≡ needAmong backs ways opened wide s nodes r going y
+  unfolding needAmong
+  among-need backs ways opened wide s r going t q = rw (sym same ∙ t) q
+
+  pub outside-need : (backs ways opened wide : List ℕ) (s r : ℕ) (going : Going) → b ≡ false
+      → 1025 ≡ needAmong backs ways opened wide s nodes r going y
+  unfolding needAmong
+  outside-need backs ways opened wide s r going t = rw (sym same ∙ t) refl
+
+  pub among-limit : (ways wide : List ℕ) (r : ℕ) (going : Going) {x : ℕ} → b ≡ true → x ≡ limitAt ways wide r going y
+      → x ≡ limitAmong ways wide nodes r going y
+  unfolding limitAmong
+  among-limit ways wide r going t q = rw (sym same ∙ t) q
+
+  pub outside-limit : (ways wide : List ℕ) (r : ℕ) (going : Going) → b ≡ false → 0 ≡ limitAmong ways wide nodes r going y
+  unfolding limitAmong
+  outside-limit ways wide r going t = rw (sym same ∙ t) refl

@@ -38,9 +38,13 @@ needAt backs ways opened wide s r (Going.Opening k) y = openingNeed backs ways o
 needAt backs ways opened wide s r Going.Closing y = onlyIf (has (getD ways r 0) y)
 needAt backs ways opened wide s r (Going.Ending k) y = endingNeed wide s k r y
 
+-- the same where y is one of the nodes; no step into another counts
+unfoldable pub needAmong : List ℕ → List ℕ → List ℕ → List ℕ → ℕ → ℕ → ℕ → Going → ℕ → ℕ
+needAmong backs ways opened wide s nodes r going y = cond (has nodes y) (needAt backs ways opened wide s r going y) 1025
+
 -- the same for each of 64 nodes
-unfoldable pub needsOf : List ℕ → List ℕ → List ℕ → List ℕ → ℕ → ℕ → Going → List ℕ
-needsOf backs ways opened wide s r going = listBelow (needAt backs ways opened wide s r going) 64
+unfoldable pub needsOf : List ℕ → List ℕ → List ℕ → List ℕ → ℕ → ℕ → ℕ → Going → List ℕ
+needsOf backs ways opened wide s nodes r going = listBelow (needAmong backs ways opened wide s nodes r going) 64
 
 unfoldable pub startingLimitAt : List ℕ → ℕ → ℕ → ℕ
 startingLimitAt wide zero y = 0
@@ -53,6 +57,10 @@ limitAt ways wide r (Going.Opening k) y = cond (has (getD ways r 0) y) k 0
 limitAt ways wide r Going.Closing y = 0
 limitAt ways wide r (Going.Ending k) y = 0
 
+-- the same where y is one of the nodes; no step into another counts
+unfoldable pub limitAmong : List ℕ → List ℕ → ℕ → ℕ → Going → ℕ → ℕ
+limitAmong ways wide nodes r going y = cond (has nodes y) (limitAt ways wide r going y) 0
+
 -- the same for each of 64 nodes
-unfoldable pub limitsOf : List ℕ → List ℕ → ℕ → Going → List ℕ
-limitsOf ways wide r going = listBelow (limitAt ways wide r going) 64
+unfoldable pub limitsOf : List ℕ → List ℕ → ℕ → ℕ → Going → List ℕ
+limitsOf ways wide nodes r going = listBelow (limitAmong ways wide nodes r going) 64

@@ -15,7 +15,8 @@ ghost use Rattle.spec_base.specs.Basic.{has};
 ghost use Rattle.pick_laws.specs.Completing.{leavesAt};
 ghost use Rattle.pick_laws.specs.Demands.{onlyIf};
 ghost use Rattle.edge_word.specs.Coding.{backPick, backsIn};
-ghost use Rattle.walk_need.specs.Needs.{leavesFor, firstLeaving, openingNeed, wideAt, endingNeed, needAt, needsOf, startingLimitAt, limitAt, limitsOf};
+ghost use Rattle.walk_need.specs.Needs.{leavesFor, firstLeaving, openingNeed, wideAt, endingNeed, needAt, needAmong, needsOf};
+ghost use Rattle.walk_need.specs.Needs.{startingLimitAt, limitAt, limitAmong, limitsOf};
 
 // Further than any edge opens: no step counts that needs so much.
 const NEVER: u64 = 1025;
@@ -139,22 +140,44 @@ fn need_at(
     }
 }
 
-// How far a forward step into each node must open, where r steps are left after it.
+// The same where y is one of the nodes; no step into another counts.
+fn need_among(
+    backs: &[u64],
+    ways: &[u64],
+    opened: &[u64],
+    wide: &[u64],
+    s: usize,
+    nodes: u64,
+    r: usize,
+    going: Going,
+    y: usize,
+) -> u64
+    requires { ⌜ y < 64 ⌝ }
+    ensures { λ x. ⌜ x ≡ needAmong (now (backs .entry)) (now (ways .entry)) (now (opened .entry)) (now (wide .entry)) s nodes r going y ⌝ }
+{
+    if has_bit(nodes, y as u64) {
+        return need_at(backs, ways, opened, wide, s, r, going, y);
+    }
+    NEVER
+}
+
+// How far a forward step into each node must open, where r steps are left after it; only steps into the nodes of the word count.
 pub fn needs_in(
     backs: &[u64],
     ways: &[u64],
     opened: &[u64],
     wide: &[u64],
     s: usize,
+    nodes: u64,
     r: usize,
     going: Going,
 ) -> [u64; NODES]
-    ensures { λ x. ⌜ x ≡ needsOf (now (backs .entry)) (now (ways .entry)) (now (opened .entry)) (now (wide .entry)) s r going ⌝ }
+    ensures { λ x. ⌜ x ≡ needsOf (now (backs .entry)) (now (ways .entry)) (now (opened .entry)) (now (wide .entry)) s nodes r going ⌝ }
 {
     let mut needs = [0u64; NODES];
     let mut y: usize = 0;
     while y < NODES {
-        needs[y] = need_at(backs, ways, opened, wide, s, r, going, y);
+        needs[y] = need_among(backs, ways, opened, wide, s, nodes, r, going, y);
         y += 1;
     }
     needs
@@ -189,14 +212,25 @@ fn limit_at(ways: &[u64], wide: &[u64], r: usize, going: Going, y: usize) -> u64
     }
 }
 
-// Below which place a back step into each node must leave, where r steps are left after it.
-pub fn limits_in(ways: &[u64], wide: &[u64], r: usize, going: Going) -> [u64; NODES]
-    ensures { λ x. ⌜ x ≡ limitsOf (now (ways .entry)) (now (wide .entry)) r going ⌝ }
+// The same where y is one of the nodes; no step into another counts.
+fn limit_among(ways: &[u64], wide: &[u64], nodes: u64, r: usize, going: Going, y: usize) -> u64
+    requires { ⌜ y < 64 ⌝ }
+    ensures { λ x. ⌜ x ≡ limitAmong (now (ways .entry)) (now (wide .entry)) nodes r going y ⌝ }
+{
+    if has_bit(nodes, y as u64) {
+        return limit_at(ways, wide, r, going, y);
+    }
+    0
+}
+
+// Below which place a back step into each node must leave, where r steps are left after it; only steps into the nodes of the word count.
+pub fn limits_in(ways: &[u64], wide: &[u64], nodes: u64, r: usize, going: Going) -> [u64; NODES]
+    ensures { λ x. ⌜ x ≡ limitsOf (now (ways .entry)) (now (wide .entry)) nodes r going ⌝ }
 {
     let mut limits = [0u64; NODES];
     let mut y: usize = 0;
     while y < NODES {
-        limits[y] = limit_at(ways, wide, r, going, y);
+        limits[y] = limit_among(ways, wide, nodes, r, going, y);
         y += 1;
     }
     limits

@@ -1,5 +1,5 @@
 -- After y turns the first y limits stand (list-turn); after 64 all do.
-use Rattle.walk_need.specs.Needs.{limitAt, limitsOf}
+use Rattle.walk_need.specs.Needs.{limitAmong, limitsOf}
 use Rattle.walk_reach.specs.Layers.{listBelow}
 use Rattle.walk_reach.specs.NodeWordLaws.{list-turn, last-turn}
 use borrow.Author.Needs.{needs}
@@ -11,20 +11,20 @@ use Rattle.walk_need.proofs.limits_in.Statement.{statement}
 use Rattle.walk_need.proofs.limits_in.Tie as tie
 use Rattle.walk_need.proofs.limits_in.Reads as reads
 use Rattle.walk_need.proofs.limits_in.Lts as lts
-use Rattle.walk_need.proofs.limit_at.Reads as limit-at-reads
+use Rattle.walk_need.proofs.limit_among.Reads as limit-among-reads
 
 abbrev Inv-loop : tie.InvT-loop
-Inv-loop ways wide r going limits₀ y₀ limits y = (y ≤ 64) × (limits ≡ listBelow (limitAt ways wide r going) y)
+Inv-loop ways wide nodes r going limits₀ y₀ limits y = (y ≤ 64) × (limits ≡ listBelow (limitAmong ways wide nodes r going) y)
 
 abbrev μ-loop : tie.MeasureT-loop
-μ-loop ways wide r going limits₀ y₀ limits y = 64 - y
+μ-loop ways wide nodes r going limits₀ y₀ limits y = 64 - y
 
 loop-holds : tie.Need-loop-holds Inv-loop μ-loop
 unfolding listBelow
 loop-holds c = (omega arith, refl)
 
-limit-at-requires : tie.Need-limit-at-requires Inv-loop μ-loop
-limit-at-requires c κs = search needs
+limit-among-requires : tie.Need-limit-among-requires Inv-loop μ-loop
+limit-among-requires c κs = search needs
 
 mul-limits : tie.Need-mul-limits Inv-loop μ-loop
 mul-limits c = search needs
@@ -39,11 +39,11 @@ loop-less : tie.Need-loop-less Inv-loop μ-loop
 loop-less c = search needs
 
 loop-again : tie.Need-loop-again Inv-loop μ-loop
-loop-again c = (omega arith, list-turn _ _ (c .before .before .loop .inv .1) (c .limit-at .ensures) refl)
+loop-again c = (omega arith, list-turn _ _ (c .before .before .loop .inv .1) (c .limit-among .ensures) refl)
 
 returns : tie.Need-returns Inv-loop μ-loop
 unfolding limitsOf
-returns c = last-turn (listBelow (limitAt _ _ _ _)) 64 _ (c .before .loop .inv .1) (c .before .loop .inv .0) (c .loop-test .left)
+returns c = last-turn (listBelow (limitAmong _ _ _ _ _)) 64 _ (c .before .loop .inv .1) (c .before .loop .inv .0) (c .loop-test .left)
 
 pub limits-in-spec : {M : Type 1} → statement M
 limits-in-spec =
@@ -52,7 +52,7 @@ limits-in-spec =
     Inv-loop
     μ-loop
     loop-holds
-    limit-at-requires
+    limit-among-requires
     mul-limits
     array-write-limits
     add-y
