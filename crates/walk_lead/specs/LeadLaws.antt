@@ -3,25 +3,23 @@ use mathlib.Core.Path.{_≡_, refl, sym, ap, ap₂, _∙_}
 use mathlib.Core.Bool.{Bool, true, false, _||_}
 use mathlib.Core.Logic.{_⊎_, inl, inr}
 use mathlib.Core.List.{List}
-use Prim.Native.Nat.{ℕ, zero, suc, _+_, _-_, _*_, _%_, _^_, _≤_, _<_, min}
+use Prim.Native.Nat.{ℕ, suc, _+_, _-_, _*_, _%_, _^_, _≤_, _<_, min}
 use native.Mathlib.Numerals.{add-one}
-use native.Mathlib.Decide.{decLt}
 use native.Mathlib.Omega.{arith}
 use lib.Bits.{bitAnd, bitOr}
 use lib.Dec.{eqb}
 use lib.ListN.{getD}
 use borrow.Author.Tests.{eqb-true, eqb-false, eq-eqb, ne-eqb}
-use Rattle.spec_base.specs.Basic.{any, numbers, has, meets}
+use Rattle.spec_base.specs.Basic.{any, numbers, meets}
 use Rattle.law_base.specs.BoolLaws.{decide, same-test, or-true, or-left, or-right, or-of, not-of-false, not-of-true}
 use Rattle.law_base.specs.ListLaws.{any-numbers, any-numbers-of}
-use Rattle.law_base.specs.SetLaws.{has-equal, has-bitOr}
 use Rattle.pick_laws.specs.Pick.{dangerousPicks}
 use Rattle.pick_laws.specs.Completing.{leastBelow, leads}
 use Rattle.edge_word.specs.Coding.{forwardPick, backPick, entry, forwardsIn, backsIn}
 use Rattle.walk_reach.specs.Layers.{withNode, wordBelow, layersTo}
-use Rattle.walk_reach.specs.NodeWordLaws.{bit-shifted, last-turn, word-in, word-out, word-none}
-use Rattle.walk_lead.specs.Leads.{firstFrom, leadsAlong, leadsThrough, leadRow, meetsIn, firstMeeting, returnFrom, shortestReturn}
-use Rattle.walk_lead.specs.Leads.{layerAt, layersAt, wrapsAmong, firstWrap, wrapStart}
+use Rattle.walk_reach.specs.NodeWordLaws.{bit-shifted, last-turn, word-none, word-or}
+use Rattle.walk_lead.specs.Leads.{firstFrom, leadsAlong, leadsThrough, leadRow, meetsIn, firstMeeting, returnFrom}
+use Rattle.walk_lead.specs.Leads.{layerAt, layersAt, wrapsFrom, wrapsAmong, firstWrap, wrapStart}
 use Rattle.walk_lead.specs.SearchLaws.{first-none, search-stop, search-turn, search-end}
 
 -- ---- words and tests
@@ -50,17 +48,6 @@ any-more p n = same-test _ _ to of
 
     of : any p (numbers n) || p n ≡ true → any p (numbers (suc n)) ≡ true
     of e = either (or-true (any p (numbers n)) (p n) e)
-
--- the union of two words filled by tests is filled by the test that either passes
-word-or : (p q r : ℕ → Bool) (n : ℕ) → ((k : ℕ) → r k ≡ p k || q k) → bitOr (wordBelow p n) (wordBelow q n) ≡ wordBelow r n
-word-or p q r n same =
-    has-equal (bitOr (wordBelow p n) (wordBelow q n)) (wordBelow r n) (λ k. has-bitOr (wordBelow p n) (wordBelow q n) k ∙ go k (decLt k n))
-  where
-    go : (k : ℕ) → Dec (k < n) → has (wordBelow p n) k || has (wordBelow q n) k ≡ has (wordBelow r n) k
-    go k (yes l) = ap₂ (λ (a b : Bool). a || b) (word-in p n k l) (word-in q n k l) ∙ sym (same k) ∙ sym (word-in r n k l)
-    go k (no d) =
-        let l : n ≤ k = omega arith in
-        ap₂ (λ (a b : Bool). a || b) (word-out p n k l) (word-out q n k l) ∙ sym (word-out r n k l)
 
 -- ---- to which nodes dangerous pairs lead
 
@@ -103,7 +90,8 @@ module _ (forwards backs : List ℕ) (u : ℕ) where
       rw add-one
       (ap₂ bitOr a (c ∙ ap (λ (x : ℕ). wordBelow (leadsAlong backs x v) 64) b)
       ∙ word-or (leads (forwardsIn forwards) (backsIn backs) v u) (leadsAlong backs (entry forwards u v) v)
-      (leads (forwardsIn forwards) (backsIn backs) (suc v) u) 64 (λ w. any-more (λ x. dangerousPicks (forwardsIn forwards u x) (backsIn backs x w)) v))
+      (leads (forwardsIn forwards) (backsIn backs) (suc v) u) 64
+      (λ w. any-more (λ x. dangerousPicks (forwardsIn forwards u x) (backsIn backs x w)) v))
 
   -- all of them
   pub lead-end : (v : ℕ) {word : ℕ} → word ≡ rowBelow forwards backs u v → v ≤ 64 → 64 ≤ v → word ≡ leadRow forwards backs u
@@ -153,11 +141,8 @@ unfolding layerAt
 layer-read rows d u p q = q ∙ ap (λ (l : List ℕ). getD l d 0) p
 
 module _ (forwards backs reach : List ℕ) (v : ℕ) where
-  abbrev wraps : ℕ → Bool
-  wraps u = meets (leadsThrough backs (entry forwards u v) v) (getD reach u 0)
-
   wraps-told : (u : ℕ) {e nodes : ℕ} {b : Bool} → e ≡ getD forwards (u * 64 + v) 0 → nodes ≡ leadsThrough backs e v
-      → meets nodes (getD reach u 0) ≡ b → wraps u ≡ b
+      → meets nodes (getD reach u 0) ≡ b → wrapsFrom forwards backs reach v u ≡ b
   wraps-told u p q h = ap (λ (x : ℕ). meets x (getD reach u 0)) (sym (q ∙ ap (λ (x : ℕ). leadsThrough backs x v) p)) ∙ h
 
   pub wraps-first : false ≡ wrapsAmong forwards backs reach 0 v
@@ -168,13 +153,16 @@ module _ (forwards backs reach : List ℕ) (v : ℕ) where
   pub wraps-found : (n u : ℕ) {e nodes : ℕ} → u < n → e ≡ getD forwards (u * 64 + v) 0 → nodes ≡ leadsThrough backs e v
       → (bitAnd nodes (getD reach u 0) ≡ 0 → ⊥) → true ≡ wrapsAmong forwards backs reach n v
   unfolding wrapsAmong
-  wraps-found n u {e} {nodes} a b c h = sym (any-numbers-of wraps n u a (wraps-told u b c (meets-some nodes (getD reach u 0) h)))
+  wraps-found n u {e} {nodes} a b c h =
+      sym (any-numbers-of (wrapsFrom forwards backs reach v) n u a (wraps-told u b c (meets-some nodes (getD reach u 0) h)))
 
   -- none does
   pub wraps-turn : (u : ℕ) {e nodes : ℕ} → false ≡ wrapsAmong forwards backs reach u v → e ≡ getD forwards (u * 64 + v) 0
       → nodes ≡ leadsThrough backs e v → bitAnd nodes (getD reach u 0) ≡ 0 → false ≡ wrapsAmong forwards backs reach (u + 1) v
   unfolding wrapsAmong
-  wraps-turn u {e} {nodes} a b c h = rw add-one (sym (any-more wraps u ∙ or-of (sym a) (wraps-told u b c (meets-none nodes (getD reach u 0) h))))
+  wraps-turn u {e} {nodes} a b c h =
+      rw add-one
+      (sym (any-more (wrapsFrom forwards backs reach v) u ∙ or-of (sym a) (wraps-told u b c (meets-none nodes (getD reach u 0) h))))
 
   pub wraps-end : (u : ℕ) → false ≡ wrapsAmong forwards backs reach u v → u ≤ 64 → 64 ≤ u → false ≡ wrapsAmong forwards backs reach 64 v
   wraps-end u e h l = last-turn (λ (k : ℕ). wrapsAmong forwards backs reach k v) 64 u e h l

@@ -60,9 +60,13 @@ layerAt rows d u = getD (layersTo rows u) d 0
 unfoldable pub layersAt : List ℕ → ℕ → List ℕ
 layersAt rows d = listBelow (layerAt rows d) 64
 
--- a dangerous pair by way of v leads from some node below n to one of the nodes that stand for it in `reach`
+-- a dangerous pair by way of v leads from u to one of the nodes that stand for u in `reach`
+abbrev pub wrapsFrom : List ℕ → List ℕ → List ℕ → ℕ → ℕ → Bool
+wrapsFrom forwards backs reach v u = meets (leadsThrough backs (entry forwards u v) v) (getD reach u 0)
+
+-- one leads so from some node below n
 unfoldable pub wrapsAmong : List ℕ → List ℕ → List ℕ → ℕ → ℕ → Bool
-wrapsAmong forwards backs reach n v = any (λ u. meets (leadsThrough backs (entry forwards u v) v) (getD reach u 0)) (numbers n)
+wrapsAmong forwards backs reach n v = any (wrapsFrom forwards backs reach v) (numbers n)
 
 -- the first node below `end` by way of which a pair leads so, or `end`
 unfoldable pub firstWrap : List ℕ → List ℕ → List ℕ → ℕ → ℕ

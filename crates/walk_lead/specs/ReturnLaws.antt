@@ -8,48 +8,45 @@ use native.Mathlib.Omega.{arith}
 use lib.Dec.{ltb}
 use lib.ListN.{getD, List·getD-eq-default}
 use borrow.Author.Tests.{ltb-true, ltb-false}
-use Rattle.spec_base.specs.Basic.{has, meets}
-use Rattle.law_base.specs.BoolLaws.{decide, true-false}
+use Rattle.spec_base.specs.Basic.{has}
+use Rattle.law_base.specs.BoolLaws.{decide}
 use Rattle.law_base.specs.ListLaws.{any-numbers, any-numbers-of}
 use Rattle.law_base.specs.SetLaws.{has-nonzero, meets-has, has-meets}
 use Rattle.pick_laws.specs.Pick.{dangerousPicks, reaches}
-use Rattle.pick_laws.specs.Completing.{leads, leastBelow}
+use Rattle.pick_laws.specs.Completing.{leads}
 use Rattle.pick_laws.specs.LeastLaws.{least-most, least-at, least-some}
 use Rattle.edge_word.specs.Coding.{entry, forwardsIn, backsIn}
-use Rattle.walk_reach.specs.Layers.{wordBelow, joinedRows, layer, layersTo}
-use Rattle.walk_reach.specs.NodeWordLaws.{word-in, word-out, list-length, list-at}
+use Rattle.walk_reach.specs.Layers.{joinedRows, layer, layersTo}
+use Rattle.walk_reach.specs.NodeWordLaws.{word-in, word-inside, list-length, list-at}
 use Rattle.walk_reach.specs.LayerLaws.{layers-has}
 use Rattle.walk_lead.specs.Leads.{leadsAlong, leadsThrough, leadRow, leadRows, meetsIn, firstMeeting, returnFrom, shortestReturn}
-use Rattle.walk_lead.specs.Leads.{firstFrom, layerAt, layersAt, wrapsAmong, firstWrap, wrapStart}
+use Rattle.walk_lead.specs.Leads.{firstFrom, layerAt, layersAt, wrapsFrom, wrapsAmong, firstWrap, wrapStart}
 use Rattle.walk_lead.specs.SearchLaws.{first-passes, first-bound, first-least}
 
 -- the fewest steps of a way back from where a pair leads, for the two tables
 abbrev pub returnIn : List ℕ → List ℕ → ℕ
 returnIn forwards backs = shortestReturn (joinedRows forwards) (leadRows forwards backs)
 
--- a word filled by a test has no number from 64 on
-word-inside : (test : ℕ → Bool) (k : ℕ) → has (wordBelow test 64) k ≡ true → k < 64
-word-inside test k h = go (decide (ltb k 64))
-  where
-    go : (ltb k 64 ≡ true) ⊎ (ltb k 64 ≡ false) → k < 64
-    go (inl e) = ltb-true k 64 e
-    go (inr e) = absurd (true-false h (word-out test 64 k (ltb-false k 64 e)))
+-- a dangerous pair by way of v leads from some node to one from which it is reached in at most d steps, among n nodes
+abbrev pub Wraps : List ℕ → List ℕ → ℕ → ℕ → ℕ → Type 0
+Wraps forwards backs n d v = (u : ℕ) × (w : ℕ) × (u < n) × (w < n) × (dangerousPicks (forwardsIn forwards u v) (backsIn backs v w) ≡ true)
+    × (reaches (forwardsIn forwards) n u d w ≡ true)
 
 module _ (forwards backs : List ℕ) (n : ℕ) (full : n ≡ 64) where
-  row-at : (u : ℕ) → u < n → getD (leadRows forwards backs) u 0 ≡ leadRow forwards backs u
+  lead-at : (u : ℕ) → u < n → getD (leadRows forwards backs) u 0 ≡ leadRow forwards backs u
   unfolding leadRows
-  row-at u h = list-at (leadRow forwards backs) 64 u (omega arith) (omega arith)
+  lead-at u h = list-at (leadRow forwards backs) 64 u (omega arith) (omega arith)
 
-  row-inside : (u w : ℕ) → u < n → has (getD (leadRows forwards backs) u 0) w ≡ true → w < n
+  lead-inside : (u w : ℕ) → u < n → has (getD (leadRows forwards backs) u 0) w ≡ true → w < n
   unfolding leadRow
-  row-inside u w a h =
-      let l = word-inside (leads (forwardsIn forwards) (backsIn backs) 64 u) w (ap (λ (x : ℕ). has x w) (sym (row-at u a)) ∙ h) in omega arith
+  lead-inside u w a h =
+      let l = word-inside (leads (forwardsIn forwards) (backsIn backs) 64 u) 64 w (ap (λ (x : ℕ). has x w) (sym (lead-at u a)) ∙ h) in omega arith
 
   -- the row of a node has those to which a dangerous pair leads from it
   pub leads-has : (u w : ℕ) → u < n → w < n → has (getD (leadRows forwards backs) u 0) w ≡ leads (forwardsIn forwards) (backsIn backs) n u w
   unfolding leadRow
   leads-has u w a b =
-      ap (λ (x : ℕ). has x w) (row-at u a) ∙ word-in (leads (forwardsIn forwards) (backsIn backs) 64 u) 64 w (omega arith)
+      ap (λ (x : ℕ). has x w) (lead-at u a) ∙ word-in (leads (forwardsIn forwards) (backsIn backs) 64 u) 64 w (omega arith)
       ∙ ap (λ (k : ℕ). leads (forwardsIn forwards) (backsIn backs) k u w) (sym full)
 
   -- ---- the shortest return
@@ -69,7 +66,7 @@ module _ (forwards backs : List ℕ) (n : ℕ) (full : n ≡ 64) where
       let inside : u < n = omega arith in
       let p = first-passes (meetsAt u) 64 0 (omega arith) in
       let t = meets-has _ _ (ap (meetsAt u) (sym (f .2)) ∙ p) in
-      let l = row-inside u (t .0) inside (t .1) in (
+      let l = lead-inside u (t .0) inside (t .1) in (
         u,
         t .0,
         inside,
@@ -116,21 +113,16 @@ module _ (forwards backs : List ℕ) (n : ℕ) (full : n ≡ 64) where
 
   through-inside : (u v w : ℕ) → has (leadsThrough backs (entry forwards u v) v) w ≡ true → w < n
   unfolding leadsThrough
-  through-inside u v w h = let l = word-inside (leadsAlong backs (entry forwards u v) v) w h in omega arith
+  through-inside u v w h = let l = word-inside (leadsAlong backs (entry forwards u v) v) 64 w h in omega arith
 
-  -- a pair by way of v leads from some node to one from which it is reached in at most d steps
-  abbrev pub Wraps : ℕ → ℕ → Type 0
-  Wraps d v = (u : ℕ) × (w : ℕ) × (u < n) × (w < n) × (dangerousPicks (forwardsIn forwards u v) (backsIn backs v w) ≡ true)
-      × (reaches (forwardsIn forwards) n u d w ≡ true)
+  -- as the search tests it
+  abbrev tested : ℕ → ℕ → ℕ → Bool
+  tested d v u = wrapsFrom forwards backs (layersAt (joinedRows forwards) d) v u
 
-  -- the same as the search tests it
-  abbrev wraps : ℕ → ℕ → ℕ → Bool
-  wraps d v u = meets (leadsThrough backs (entry forwards u v) v) (getD (layersAt (joinedRows forwards) d) u 0)
-
-  wraps-found : (d v : ℕ) → wrapsAmong forwards backs (layersAt (joinedRows forwards) d) n v ≡ true → Wraps d v
+  wraps-found : (d v : ℕ) → wrapsAmong forwards backs (layersAt (joinedRows forwards) d) n v ≡ true → Wraps forwards backs n d v
   unfolding wrapsAmong layerAt
   wraps-found d v h =
-      let f = any-numbers (wraps d v) n h in
+      let f = any-numbers (tested d v) n h in
       let u = f .0 in
       let t = meets-has _ _ (f .2) in
       let l = through-inside u v (t .0) (t .1) in
@@ -147,13 +139,13 @@ module _ (forwards backs : List ℕ) (n : ℕ) (full : n ≡ 64) where
       → reaches (forwardsIn forwards) n u d w ≡ true → wrapsAmong forwards backs (layersAt (joinedRows forwards) d) n v ≡ true
   unfolding wrapsAmong layerAt
   wraps-of d v u w a b c h l =
-      any-numbers-of (wraps d v) n u b
+      any-numbers-of (tested d v) n u b
       (has-meets _ _ w (through-has u v w c ∙ h)
       (ap (λ (x : ℕ). has x w) (reach-at d u b) ∙ layers-has forwards n full u d w a c ∙ l))
 
   -- a pair by way of the node found leads so
   pub wrap-found : (d below : ℕ) → wrapStart forwards backs (joinedRows forwards) d below < below → below ≤ n
-      → Wraps d (wrapStart forwards backs (joinedRows forwards) d below)
+      → Wraps forwards backs n d (wrapStart forwards backs (joinedRows forwards) d below)
   unfolding wrapStart firstWrap
   wrap-found d below h small =
       let test = wrapsAmong forwards backs (layersAt (joinedRows forwards) d) in
