@@ -238,7 +238,7 @@ only chosen g =
     }
 
 -- an edge of it is between chosen nodes
-only-edge : (chosen : ℕ → Bool) (g : Graph) (m i n j : ℕ) (flow : Flow) → only chosen g .edge m i n j flow ≡ true
+pub only-edge : (chosen : ℕ → Bool) (g : Graph) (m i n j : ℕ) (flow : Flow) → only chosen g .edge m i n j flow ≡ true
     → (chosen m ≡ true) × (chosen n ≡ true) × (g .edge m i n j flow ≡ true)
 unfolding only
 only-edge chosen g m i n j flow h =

@@ -17,17 +17,9 @@ use Rattle.walk_step.specs.declared.Taken.{Taken}
 use Rattle.walk_step.specs.StepWord.{flowOf, stepWord, stepOf}
 use Rattle.walk_step.specs.StepWordLaws.{word-step, flow-back}
 use Rattle.walk_step.specs.LeastStep.{Counts, leastStep}
+use Rattle.walk_step.specs.Tabled.{FoundStep}
 use Rattle.walk_step.specs.LeastStepLaws.{StepOf, counts-same, least-found, least-least}
 use Rattle.verdict_laws.specs.Entries.{Ends, edge-ends, ends-edge, place-loose, small-graph, stands-rows}
-
--- the step of a word is an edge out of x that counts, and the word is its
-pub record FoundStep (g : Graph) (x : ℕ) (needs limits : List ℕ) (word : ℕ) (t : Taken) : Type 0 where
-  pub leavesSmall : t .leaves < 1024
-  pub entersSmall : t .enters < 1024
-  pub intoSmall : t .into < 64
-  pub edge : g .edge x (t .leaves) (t .into) (t .enters) (flowOf (t .back)) ≡ true
-  pub counts : Counts (getD needs (t .into) 0) (getD limits (t .into) 0) (flowOf (t .back)) (g .loose x (t .leaves)) (t .leaves) (t .enters)
-  pub same : word ≡ stepWord (t .leaves) (t .enters) (flowOf (t .back)) (t .into)
 
 module _ (nodes : List Node) (few : length nodes ≤ 64) (statements : statementsIn nodes ≤ 512)
     (keys : (n : Node) → List·Memᴰ n nodes → KeysSmall n) (table : List ℕ) (rows : tableRows table ≡ rowsOf nodes)

@@ -4,11 +4,10 @@ use mathlib.Core.List.{List, [], _∷_, map}
 use mathlib.Core.Option.{Option, none, some}
 use mathlib.Core.Path.{_≡_}
 use Prim.Native.Nat.{ℕ, zero, suc, _+_, _*_, _/_, _%_, _≤_, _<_}
-use lib.Dec.{eqb, ltb}
+use lib.Dec.{ltb}
 use lib.ListN.{length, getD, set}
-use Rattle.spec_base.specs.Basic.{any, numbers, has}
-use Rattle.spec_graph.specs.Graph.{Flow, Graph}
-use Rattle.spec_graph.specs.Edge.{loosens}
+use Rattle.spec_base.specs.Basic.{numbers, has}
+use Rattle.spec_graph.specs.Graph.{Graph}
 use Rattle.spec_graph.specs.Walk.{Step, DangerousWalk, FirstWalk}
 use Rattle.law_walk.specs.Parts.{only}
 use Rattle.law_walk.specs.Reach.{Regular}
@@ -20,25 +19,16 @@ use Rattle.pick_laws.specs.Demands.{goingAfter}
 use Rattle.pick_laws.specs.PickLaws.{Picked}
 use Rattle.pick_laws.specs.CompletingLaws.{SmallPlaces}
 use Rattle.edge_word.specs.Coding.{forwardsIn, backsIn}
-use Rattle.place_row.specs.declared.Row.{Row}
-use Rattle.place_row.specs.RowTable.{tableRows}
 use Rattle.walk_reach.specs.Layers.{joinedRows}
 use Rattle.walk_lead.specs.Leads.{leadRows, shortestReturn, wrapStart}
 use Rattle.walk_ways.specs.Ways.{waysTo, openings, firstStart, widestTable}
 use Rattle.walk_need.specs.Needs.{needsOf, limitsOf}
 use Rattle.walk_step.specs.declared.Taken.{Taken}
-use Rattle.walk_step.specs.StepWord.{flowOf, stepWord, stepOf}
-use Rattle.walk_step.specs.LeastStep.{Counts, leastStep}
+use Rattle.walk_step.specs.StepWord.{flowOf, stepOf}
+use Rattle.walk_step.specs.LeastStep.{looseAt, leastStep}
+use Rattle.walk_step.specs.Tabled.{Tabled}
 
 -- ---- the steps
-
--- W4: the row is of node x, at the place, and loose
-unfoldable pub looseRow : ℕ → ℕ → Row → Bool
-looseRow x place p = eqb (p .node) x && eqb (p .place) place && loosens (p .kind)
-
--- some row of node x at the place is loose
-unfoldable pub looseAt : List ℕ → ℕ → ℕ → Bool
-looseAt table x place = any (looseRow x place) (tableRows table)
 
 -- how far a step out of x opens
 unfoldable pub opensFrom : List ℕ → ℕ → Taken → ℕ
@@ -130,17 +120,6 @@ putSteps area k [] = area
 putSteps area k (s ∷ steps) = putSteps (putStep area k s) (suc k) steps
 
 -- ---- what is promised
-
--- the table of places has the edges of the graph, and the least step over it is the least edge that counts
-pub record Tabled (table : List ℕ) (g : Graph) : Type 0 where
-  -- the step found is an edge that counts
-  pub found : (x : ℕ) (needs limits : List ℕ) → leastStep table x needs limits < 134217728
-      → FoundStep g x needs limits (leastStep table x needs limits) (stepOf (leastStep table x needs limits))
-  -- no edge that counts has a lesser word
-  pub least : (x : ℕ) (needs limits : List ℕ) (i y j : ℕ) (flow : Flow) → g .edge x i y j flow ≡ true
-      → Counts (getD needs y 0) (getD limits y 0) flow (g .loose x i) i j → leastStep table x needs limits ≤ stepWord i j flow y
-  -- the loose places are the graph's
-  pub loose : (x i y j : ℕ) (flow : Flow) → g .edge x i y j flow ≡ true → looseAt table x i ≡ g .loose x i
 
 -- a graph with at most 64 nodes, whose places the table has and whose edges the two other tables hold
 pub record Held (table forwards backs : List ℕ) (g : Graph) : Type 0 where

@@ -18,9 +18,10 @@ use Rattle.pick_laws.specs.Completing.{leastBelow, leads}
 use Rattle.edge_word.specs.Coding.{forwardPick, backPick, entry, forwardsIn, backsIn}
 use Rattle.walk_reach.specs.Layers.{withNode, wordBelow, layersTo}
 use Rattle.walk_reach.specs.NodeWordLaws.{bit-shifted, last-turn, word-none, word-or}
-use Rattle.walk_lead.specs.Leads.{firstFrom, leadsAlong, leadsThrough, leadRow, meetsIn, firstMeeting, returnFrom}
+use Rattle.walk_reach.specs.Search.{firstFrom}
+use Rattle.walk_lead.specs.Leads.{leadsAlong, leadsThrough, leadRow, meetsIn, firstMeeting, returnFrom}
 use Rattle.walk_lead.specs.Leads.{layerAt, layersAt, wrapsFrom, wrapsAmong, firstWrap, wrapStart}
-use Rattle.walk_lead.specs.SearchLaws.{first-none, search-stop, search-turn, search-end}
+use Rattle.walk_reach.specs.SearchLaws.{first-none, search-stop, search-turn, search-end}
 
 -- ---- words and tests
 

@@ -7,12 +7,8 @@ use Rattle.spec_base.specs.Basic.{any, numbers, meets}
 use Rattle.pick_laws.specs.Pick.{dangerousPicks}
 use Rattle.pick_laws.specs.Completing.{leastBelow, leads}
 use Rattle.edge_word.specs.Coding.{forwardPick, entry, forwardsIn, backsIn}
+use Rattle.walk_reach.specs.Search.{firstFrom}
 use Rattle.walk_reach.specs.Layers.{wordBelow, listBelow, layersTo}
-
--- the first number from x on that passes the test, of as many as are left
-unfoldable pub firstFrom : (ℕ → Bool) → ℕ → ℕ → ℕ
-firstFrom test zero x = x
-firstFrom test (suc left) x = cond (test x) x (firstFrom test left (suc x))
 
 -- ---- to which nodes dangerous pairs lead
 

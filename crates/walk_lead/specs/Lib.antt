@@ -1,4 +1,3 @@
 pub mod Leads
-pub mod SearchLaws
 pub mod LeadLaws
 pub mod ReturnLaws

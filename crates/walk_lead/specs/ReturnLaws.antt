@@ -20,8 +20,9 @@ use Rattle.walk_reach.specs.Layers.{joinedRows, layer, layersTo}
 use Rattle.walk_reach.specs.NodeWordLaws.{word-in, word-inside, list-length, list-at}
 use Rattle.walk_reach.specs.LayerLaws.{layers-has}
 use Rattle.walk_lead.specs.Leads.{leadsAlong, leadsThrough, leadRow, leadRows, meetsIn, firstMeeting, returnFrom, shortestReturn}
-use Rattle.walk_lead.specs.Leads.{firstFrom, layerAt, layersAt, wrapsFrom, wrapsAmong, firstWrap, wrapStart}
-use Rattle.walk_lead.specs.SearchLaws.{first-passes, first-bound, first-least}
+use Rattle.walk_reach.specs.Search.{firstFrom}
+use Rattle.walk_lead.specs.Leads.{layerAt, layersAt, wrapsFrom, wrapsAmong, firstWrap, wrapStart}
+use Rattle.walk_reach.specs.SearchLaws.{first-passes, first-bound, first-least}
 
 -- the fewest steps of a way back from where a pair leads, for the two tables
 abbrev pub returnIn : List ℕ → List ℕ → ℕ

@@ -95,7 +95,10 @@ module _ (test : ℕ → Bool) where
   first-none zero x h = omega arith
   first-none (suc left) x h = rw (h x) (let rest = first-none left (suc x) h in omega arith)
 
-  -- the search among the numbers below n, as a loop makes it: it stops, turns and ends
+  -- the search among the numbers below n, as a loop makes it: it starts, stops, turns and ends
+  pub search-start : (n : ℕ) → firstFrom test (n - 0) 0 ≡ firstFrom test n 0
+  search-start n = let all : n - 0 ≡ n = omega arith in ap (λ (k : ℕ). firstFrom test k 0) all
+
   pub search-stop : (n x : ℕ) → firstFrom test (n - x) x ≡ firstFrom test n 0 → x < n → test x ≡ true → x ≡ firstFrom test n 0
   search-stop n x same h e = sym (first-here (n - x) x (omega arith) e) ∙ same
 

@@ -4,6 +4,7 @@ use mathlib.Core.List.{List, [], _∷_}
 use Prim.Native.Nat.{ℕ, _≤_, _<_, min}
 use lib.Dec.{eqb, ltb, leb}
 use lib.ListN.{getD}
+use Rattle.spec_base.specs.Basic.{any}
 use Rattle.spec_graph.specs.Graph.{Flow}
 use Rattle.spec_graph.specs.Edge.{loosens}
 use Rattle.place_row.specs.declared.Row.{Row}
@@ -63,3 +64,11 @@ least f most (x ∷ l) = min (f x) (least f most l)
 -- what is promised of a table
 unfoldable pub leastStep : List ℕ → ℕ → List ℕ → List ℕ → ℕ
 leastStep table x needs limits = least (λ p. least (stepFrom needs limits x p) noStep (tableRows table)) noStep (tableRows table)
+
+-- W4: the row is of node x, at the place, and loose
+unfoldable pub looseRow : ℕ → ℕ → Row → Bool
+looseRow x place p = eqb (p .node) x && eqb (p .place) place && loosens (p .kind)
+
+-- some row of node x at the place is loose
+unfoldable pub looseAt : List ℕ → ℕ → ℕ → Bool
+looseAt table x place = any (looseRow x place) (tableRows table)

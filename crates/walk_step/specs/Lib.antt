@@ -1,7 +1,7 @@
-pub mod StepOrder
 pub mod StepWord
 pub mod StepWordLaws
 pub mod LeastStep
 pub mod StepTurns
 pub mod StepTurnLaws
 pub mod LeastStepLaws
+pub mod Tabled

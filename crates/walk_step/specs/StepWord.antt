@@ -5,7 +5,7 @@ use Prim.Native.Nat.{ℕ, _+_, _*_, _/_, _%_}
 use lib.Dec.{eqb}
 use Rattle.spec_graph.specs.Graph.{Flow}
 use Rattle.walk_step.specs.declared.Taken.{Taken}
-use Rattle.walk_step.specs.StepOrder.{flowNumber}
+use Rattle.spec_graph.specs.Walk.{flowNumber}
 
 -- a flow by whether it is back
 abbrev pub flowOf : Bool → Flow

@@ -1,7 +1,8 @@
 -- The first layer from d on that has one of the nodes is the first of all: one that has none keeps this (meeting-turn), one that has one ends it
 -- (meeting-stop).
 use Rattle.walk_lead.specs.LeadLaws.{meeting-stop, meeting-turn, meeting-end}
-use Rattle.walk_lead.specs.Leads.{firstFrom, meetsIn}
+use Rattle.walk_reach.specs.Search.{firstFrom}
+use Rattle.walk_lead.specs.Leads.{meetsIn}
 use native.Mathlib.Omega.{arith}
 use mathlib.Core.Path.{_≡_, refl}
 use Prim.Native.Nat.{_-_, _≤_}

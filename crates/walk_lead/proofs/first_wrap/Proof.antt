@@ -1,7 +1,8 @@
 -- The first node from v on by way of which a pair leads so is the first of all: one without such a pair keeps this (search-turn), one with one
 -- ends it (search-stop).
-use Rattle.walk_lead.specs.SearchLaws.{search-start, search-stop, search-turn, search-end}
-use Rattle.walk_lead.specs.Leads.{firstFrom, wrapsAmong, firstWrap}
+use Rattle.walk_reach.specs.SearchLaws.{search-start, search-stop, search-turn, search-end}
+use Rattle.walk_reach.specs.Search.{firstFrom}
+use Rattle.walk_lead.specs.Leads.{wrapsAmong, firstWrap}
 use native.Mathlib.Omega.{arith}
 use mathlib.Core.Path.{_≡_, sym, _∙_}
 use Prim.Native.Nat.{_-_, _≤_}

@@ -1,0 +1,2 @@
+pub mod FirstSteps
+pub mod GreedyLaws
