@@ -1,6 +1,6 @@
 -- The least step over the table of the nodes' rows is the least edge out of a node of their summary graph that counts.
 use mathlib.Core.Path.{_≡_, refl, sym, ap, ap₂, subst, _∙_}
-use mathlib.Core.Bool.{Bool, true}
+use mathlib.Core.Bool.{true}
 use mathlib.Core.List.{List, List·Memᴰ, Memᴰ·map}
 use Prim.Native.Nat.{ℕ, _≤_, _<_}
 use native.Mathlib.Omega.{arith}
@@ -18,14 +18,14 @@ use Rattle.walk_step.specs.StepWord.{flowOf, stepWord, stepOf}
 use Rattle.walk_step.specs.StepWordLaws.{word-step, flow-back}
 use Rattle.walk_step.specs.LeastStep.{Counts, leastStep}
 use Rattle.walk_step.specs.Tabled.{FoundStep}
-use Rattle.walk_step.specs.LeastStepLaws.{StepOf, counts-same, least-found, least-least}
+use Rattle.walk_step.specs.LeastStepLaws.{RowStep, counts-same, least-found, least-least}
 use Rattle.verdict_laws.specs.Entries.{Ends, edge-ends, ends-edge, place-loose, small-graph, stands-rows}
 
 module _ (nodes : List Node) (few : length nodes ≤ 64) (statements : statementsIn nodes ≤ 512)
     (keys : (n : Node) → List·Memᴰ n nodes → KeysSmall n) (table : List ℕ) (rows : tableRows table ≡ rowsOf nodes)
     (x : ℕ) (needs limits : List ℕ) where
   -- a step between rows is an edge between their places
-  row-edge : {word : ℕ} (s : StepOf (rowsOf nodes) x needs limits word)
+  row-edge : {word : ℕ} (s : RowStep (rowsOf nodes) x needs limits word)
       → (graphOf nodes .edge x (s .p .place) (s .q .node) (s .q .place) (s .flow) ≡ true)
       × (graphOf nodes .loose x (s .p .place) ≡ loosens (s .p .kind))
   unfolding rowsOf rowOf
@@ -61,8 +61,8 @@ module _ (nodes : List Node) (few : length nodes ≤ 64) (statements : statement
       word : ℕ
       word = leastStep table x needs limits
 
-      s : StepOf (rowsOf nodes) x needs limits word
-      s = subst (λ (l : List Row). StepOf l x needs limits word) rows (least-found x needs limits table h)
+      s : RowStep (rowsOf nodes) x needs limits word
+      s = subst (λ (l : List Row). RowStep l x needs limits word) rows (least-found x needs limits table h)
 
       step : Taken
       step = record { leaves = s .p .place; enters = s .q .place; back = isBack (s .flow); into = s .q .node }
@@ -90,7 +90,7 @@ module _ (nodes : List Node) (few : length nodes ≤ 64) (statements : statement
       → leastStep table x needs limits ≤ stepWord i j flow y
   unfolding rowsOf rowOf
   step-least i y j flow h c =
-      least-least x needs limits table (subst (λ (l : List Row). StepOf l x needs limits (stepWord i j flow y)) (sym rows) (record {
+      least-least x needs limits table (subst (λ (l : List Row). RowStep l x needs limits (stepWord i j flow y)) (sym rows) (record {
         p = rowOf (e .s);
         q = rowOf (e .t);
         flow = flow;

@@ -32,18 +32,19 @@ use Rattle.walk_pick.specs.declared.PickedEdges.{PickedEdges}
 use Rattle.walk_pick.specs.Picks.{rowForwardWord, rowBackWord, wordsBetween, picksOf}
 use Rattle.verdict_laws.specs.Entries.{small-graph, rows-greatest}
 
+-- the table's rows are the nodes' rows
+pub rows-same : (nodes : List Node) → statementsIn nodes ≤ 512 → tableRows (tableOf (rowsOf nodes)) ≡ rowsOf nodes
+rows-same nodes statements = table-rows (rowsOf nodes) (let e = rowsOf-length nodes in omega arith)
+
 module _ (nodes : List Node) (few : length nodes ≤ 64) (statements : statementsIn nodes ≤ 512)
     (keys : (n : Node) → List·Memᴰ n nodes → KeysSmall n) (r : PickedEdges) (picked : r ≡ picksOf (tableOf (rowsOf nodes))) where
-  -- the table's rows are the nodes' rows
-  rows-same : tableRows (tableOf (rowsOf nodes)) ≡ rowsOf nodes
-  rows-same = table-rows (rowsOf nodes) (let e = rowsOf-length nodes in omega arith)
-
   -- what is picked from the table of the nodes' places stands for all edges
   picks-greatest : GreatestWords (graphOf nodes) (r .forwards) (r .backs)
   unfolding picksOf
   picks-greatest =
       subst (λ (p : PickedEdges). GreatestWords (graphOf nodes) (p .forwards) (p .backs)) (sym picked)
-      (subst (λ (rows : List Row). GreatestWords (graphOf nodes) (wordsBetween rowForwardWord rows) (wordsBetween rowBackWord rows)) (sym rows-same)
+      (subst (λ (rows : List Row). GreatestWords (graphOf nodes) (wordsBetween rowForwardWord rows) (wordsBetween rowBackWord rows))
+      (sym (rows-same nodes statements))
       (rows-greatest nodes few statements keys))
 
   -- the walk of what is picked is a dangerous closed walk of at most 65 steps, or it is empty and there is none

@@ -107,6 +107,17 @@ step-opens whole chosen x t f few =
     rw f
     (let least : t .enters ≡ min (t .enters) 1024 = omega arith in ap (λ (k : ℕ). cond (whole .loose x (t .leaves)) 1024 k) least)
 
+-- with no step left the walk has ended at its start
+finish-last : (g : Graph) (forwards backs : Picks) (n s : ℕ) (ph : Phase) (x : ℕ) → begun ph ≡ true → canFinish g forwards backs n s zero ph x ≡ true
+    → (x ≡ s) × (ended g ph ≡ true)
+unfolding canFinish canEnd begun needed exactly ended
+finish-last g forwards backs n s starting x on c = absurd (false≢true on)
+finish-last g forwards backs n s (opening e) x on c =
+    let past = leb-true 1025 (openBelow g e) c in
+    let most = open-most g e in let z : ⊥ = omega arith in absurd z
+finish-last g forwards backs n s closing x on c = (eqb-true x s c, refl)
+finish-last g forwards backs n s (ending f e) x on c = let both = and-true (eqb x s) _ c in (eqb-true x s (both .0), both .1)
+
 module _ {whole : Graph} {table : List ℕ} (tabled : Tabled table whole) {forwards : Picks} {backs : List ℕ} (n : ℕ) (full : n ≡ 64)
     (p : Prepared) (regular : Regular (only (has (p .nodes)) whole)) (inside : whole .size ≤ n) (small : SmallPlaces whole)
     (picks : Picked (only (has (p .nodes)) whole) n forwards (backsIn backs)) (in-s : p .start < n)
@@ -222,7 +233,32 @@ module _ {whole : Graph} {table : List ℕ} (tabled : Tabled table whole) {forwa
       opens : t .back ≡ false → cond (looseAt table x (t .leaves)) 1024 (t .enters) ≡ openBelow g (stepTaken x t)
       opens f =
           let loose = tabled .loose x (t .leaves) (t .into) (t .enters) (flowOf (t .back)) (found .edge) in
-          ap (λ (b : Bool). cond b 1024 (t .enters)) loose ∙ forward-opens f (found .entersSmall)
+          ap (λ (b : Bool). cond b 1024 (t .enters)) loose ∙ step-opens whole (has (p .nodes)) x t f (found .entersSmall)
 
-      forward-opens : t .back ≡ false → t .enters < 1024 → cond (whole .loose x (t .leaves)) 1024 (t .enters) ≡ openBelow g (stepTaken x t)
-      forward-opens f few = step-opens whole (has (p .nodes)) x t f few
+  -- where the walk can be completed in so many steps, the least steps complete it
+  steps-greedy : (r : ℕ) (ph : Phase) (x : ℕ) → r ≤ suc most → x < n → fits ph ≡ true → begun ph ≡ true → can r ph x ≡ true
+      → Greedy g (p .start) can r ph x (stepsFrom table backs p r (goingIn g ph) x)
+  unfolding stepsFrom
+  steps-greedy zero ph x h in-x fit on c = let t = finished ph on c in stop (t .0) (t .1)
+    where
+      finished : (q : Phase) → begun q ≡ true → can zero q x ≡ true → (x ≡ p .start) × (ended g q ≡ true)
+      finished q o c = finish-last g forwards (backsIn backs) n (p .start) q x o c
+  steps-greedy (suc r) ph x h in-x fit on c =
+      let taking = taken-choice r ph x (omega arith) fit (finish-counted picks few-places (p .start) r ph x in-x in-s on c) in
+      let t = taken table backs p r (goingIn g ph) x in
+      let next = taking .chosen .next in
+      go (stepTaken x t) (t .into) (taking .chosen .choice) (taking .least)
+      (subst (λ (k : Going). Greedy g (p .start) can r next (t .into) (stepsFrom table backs p r k (t .into))) (sym (taking .going))
+      (steps-greedy r next (t .into) (omega arith) (taking .inInto) (taking .chosen .fit) (taking .chosen .more) (taking .chosen .choice .rest)))
+
+  -- and so from the start, where some first step counts
+  pub start-greedy : (r : ℕ) → r ≤ most → Counted picks few-places (p .start) r Going.Starting (p .start)
+      → Greedy g (p .start) can (suc r) starting (p .start) (stepsFrom table backs p (suc r) Going.Starting (p .start))
+  unfolding stepsFrom goingIn fits
+  start-greedy r h counted =
+      let taking = taken-choice r starting (p .start) h refl counted in
+      let t = taken table backs p r Going.Starting (p .start) in
+      let next = taking .chosen .next in
+      go (stepTaken (p .start) t) (t .into) (taking .chosen .choice) (taking .least)
+      (subst (λ (k : Going). Greedy g (p .start) can r next (t .into) (stepsFrom table backs p r k (t .into))) (sym (taking .going))
+      (steps-greedy r next (t .into) (omega arith) (taking .inInto) (taking .chosen .fit) (taking .chosen .more) (taking .chosen .choice .rest)))

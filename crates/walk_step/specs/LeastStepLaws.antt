@@ -1,6 +1,6 @@
 -- The least step is that of two rows, and no two rows have a lesser one that counts.
 use mathlib.Core.Path.{_≡_, refl, ap, ap₂, _∙_}
-use mathlib.Core.Bool.{Bool, true, false, cond, _&&_}
+use mathlib.Core.Bool.{Bool, true, false, cond}
 use mathlib.Core.List.{List, [], _∷_, List·Memᴰ}
 use mathlib.Core.List.List·Memᴰ.{List·Memᴰ·head, List·Memᴰ·tail}
 use mathlib.Core.Logic.{_⊎_, inl, inr}
@@ -50,8 +50,8 @@ unfolding forwardCounts backCounts opensTo
 flow-counts need limit Flow.forward p q h = let b = and-true _ _ h in (b .1, leb-true need _ (b .0))
 flow-counts need limit Flow.back p q h = let b = and-true _ _ h in (b .1, ltb-true (p .place) limit (b .0))
 
-counts-flow : (need limit : ℕ) (flow : Flow) (p q : Row) → rowStands flow p q ≡ true → Counts need limit flow (loosens (p .kind)) (p .place) (q .place)
-    → flowCounts need limit flow p q ≡ true
+counts-flow : (need limit : ℕ) (flow : Flow) (p q : Row) → rowStands flow p q ≡ true
+    → Counts need limit flow (loosens (p .kind)) (p .place) (q .place) → flowCounts need limit flow p q ≡ true
 unfolding forwardCounts backCounts opensTo
 counts-flow need limit Flow.forward p q s c = and-of (le-leb need _ c) s
 counts-flow need limit Flow.back p q s c = and-of (lt-ltb (p .place) limit c) s
@@ -63,7 +63,7 @@ counts-same Flow.forward n l b e f c = let d = ap₂ (λ (x : Bool) (y : ℕ). c
 counts-same Flow.back n l b e f c = omega arith
 
 -- a step that counts from a row of node x, with this word
-pub record StepOf (rows : List Row) (x : ℕ) (needs limits : List ℕ) (word : ℕ) : Type 0 where
+pub record RowStep (rows : List Row) (x : ℕ) (needs limits : List ℕ) (word : ℕ) : Type 0 where
   pub p : Row
   pub q : Row
   pub flow : Flow
@@ -113,14 +113,14 @@ counted-word need limit p q h = go (decide (leb f b))
 module _ (x : ℕ) (needs limits : List ℕ) where
   -- what two rows give
   pair-word : (rows : List Row) (p q : Row) (word : ℕ) → List·Memᴰ p rows → List·Memᴰ q rows → word ≡ stepFrom needs limits x p q → word < 134217728
-      → StepOf rows x needs limits word
+      → RowStep rows x needs limits word
   unfolding stepFrom pairStep leavesFrom hasWord
   pair-word rows p q word m n e h = go (decide (leavesFrom x p)) (decide (hasWord q))
     where
       counted : ℕ
       counted = countedStep (getD needs (q .node) 0) (getD limits (q .node) 0) p q
 
-      go : (leavesFrom x p ≡ true) ⊎ (leavesFrom x p ≡ false) → (hasWord q ≡ true) ⊎ (hasWord q ≡ false) → StepOf rows x needs limits word
+      go : (leavesFrom x p ≡ true) ⊎ (leavesFrom x p ≡ false) → (hasWord q ≡ true) ⊎ (hasWord q ≡ false) → RowStep rows x needs limits word
       go (inr a) b = let d = e ∙ ap (λ (t : Bool). cond t (pairStep needs limits p q) 134217728) a in absurd (omega arith)
       go (inl a) (inr b) =
           let d = e ∙ ap (λ (t : Bool). cond t (pairStep needs limits p q) 134217728) a ∙ ap (λ (t : Bool). cond t counted 134217728) b in
@@ -149,7 +149,7 @@ module _ (x : ℕ) (needs limits : List ℕ) where
 
   module _ (table : List ℕ) where
     -- a least word below that of no step is that of a step
-    pub least-found : leastStep table x needs limits < 134217728 → StepOf (tableRows table) x needs limits (leastStep table x needs limits)
+    pub least-found : leastStep table x needs limits < 134217728 → RowStep (tableRows table) x needs limits (leastStep table x needs limits)
     unfolding leastStep
     least-found h =
         let rows = tableRows table in
@@ -159,7 +159,7 @@ module _ (x : ℕ) (needs limits : List ℕ) where
         pair-word rows (outer .0) (inner .0) (leastStep table x needs limits) (outer .1) (inner .1) (e ∙ inner .2) h
 
     -- no step that counts has a lesser word
-    pub least-least : {word : ℕ} → StepOf (tableRows table) x needs limits word → leastStep table x needs limits ≤ word
+    pub least-least : {word : ℕ} → RowStep (tableRows table) x needs limits word → leastStep table x needs limits ≤ word
     unfolding leastStep stepFrom pairStep countedStep flowStep leavesFrom hasWord
     least-least {word} s = rw (s .same) (omega (arith, outer, inner, pair))
       where

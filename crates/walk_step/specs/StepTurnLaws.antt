@@ -1,17 +1,16 @@
 -- What the code does with two rows, with one row after the other, and that the last of it is the least step of the table.
 use mathlib.Core.Path.{_≡_, refl, sym, ap, ap₂, _∙_}
-use mathlib.Core.Bool.{Bool, true, false, cond, _&&_}
+use mathlib.Core.Bool.{Bool, true, false, cond}
 use mathlib.Core.List.{List, [], _∷_, map}
 use mathlib.Core.Logic.{_⊎_, inl, inr}
 use Prim.Native.Nat.{ℕ, zero, suc, _+_, _*_, _≤_, _<_, min}
 use native.Mathlib.Nat.{le-antisymm, add-zero, zero-add, suc-add, add-suc}
 use native.Mathlib.Numerals.{add-one}
 use native.Mathlib.Omega.{arith}
-use lib.Dec.{eqb, ltb, leb}
 use lib.ListN.{getD}
 use borrow.Author.Tests.{eq-eqb, ne-eqb, ltb-true, lt-ltb, le-ltb, lt-leb, le-leb}
 use Rattle.spec_base.specs.Basic.{numbers, numbersFrom, meets}
-use Rattle.law_base.specs.BoolLaws.{decide, and-true, and-of, and-left, and-right}
+use Rattle.law_base.specs.BoolLaws.{decide, and-true}
 use Rattle.spec_graph.specs.Graph.{Flow}
 use Rattle.spec_graph.specs.Edge.{loosens}
 use Rattle.edge_kinds.specs.Kinds.{kindFacts, looseBit}
@@ -19,7 +18,7 @@ use Rattle.edge_kinds.specs.KindLaws.{told, answer}
 use Rattle.place_row.specs.declared.Row.{Row}
 use Rattle.place_row.specs.RowTable.{rowAt, rowCount, rowForward, rowBack, tableRows}
 use Rattle.pick_laws.specs.Completing.{leastBelow}
-use Rattle.walk_step.specs.StepWord.{stepWord, noStep}
+use Rattle.walk_step.specs.StepWord.{stepWord}
 use Rattle.walk_step.specs.StepWordLaws.{word-small, forward-first, word-leaves}
 use Rattle.walk_step.specs.LeastStep.{opensTo, forwardCounts, backCounts, flowCounts, flowStep, countedStep, hasWord, pairStep}
 use Rattle.walk_step.specs.LeastStep.{leavesFrom, stepFrom, least, leastStep}
@@ -135,8 +134,8 @@ module _ (table needs limits : List ℕ) (p : Row) where
   unfolding rowLeast leastBelow
   row-first best = refl
 
-  pub row-turn : (j best : ℕ) {q : Row} {l r : ℕ} → q ≡ rowAt table j → l ≡ rowLeast table j needs limits p best → r ≡ min l (pairStep needs limits p q)
-      → r ≡ rowLeast table (j + 1) needs limits p best
+  pub row-turn : (j best : ℕ) {q : Row} {l r : ℕ} → q ≡ rowAt table j → l ≡ rowLeast table j needs limits p best
+      → r ≡ min l (pairStep needs limits p q) → r ≡ rowLeast table (j + 1) needs limits p best
   unfolding rowLeast leastBelow
   row-turn j best same h e = rw (add-one j) (e ∙ ap₂ min h (ap (pairStep needs limits p) same))
 
@@ -264,7 +263,8 @@ module _ (table : List ℕ) (n x : ℕ) (needs limits : List ℕ) where
           omega arith
 
   -- what is promised: all rows with all rows
-  pub all-least : (i : ℕ) {best : ℕ} → n ≡ rowCount table → i ≤ n → n ≤ i → best ≡ leastRows table n x needs limits i → best ≡ leastStep table x needs limits
+  pub all-least : (i : ℕ) {best : ℕ} → n ≡ rowCount table → i ≤ n → n ≤ i → best ≡ leastRows table n x needs limits i
+      → best ≡ leastStep table x needs limits
   unfolding leastStep tableRows
   all-least i rows most least′ h =
       h ∙ ap (leastRows table n x needs limits) (le-antisymm most least′) ∙ rows-least n

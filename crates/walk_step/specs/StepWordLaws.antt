@@ -1,6 +1,6 @@
 -- The word of a step stands for that step, is below the word of no step, and orders steps.
 use mathlib.Core.Path.{_≡_, refl, ap, _∙_}
-use mathlib.Core.Bool.{Bool, true, false, _&&_, _||_}
+use mathlib.Core.Bool.{true, false, _&&_}
 use mathlib.Core.List.{List, [], _∷_}
 use mathlib.Core.Logic.{_⊎_, inl, inr}
 use Prim.Native.Nat.{ℕ, _+_, _*_, _/_, _%_, _≤_, _<_}
@@ -10,9 +10,8 @@ use lib.Dec.{eqb, ltb}
 use borrow.Author.Tests.{eq-eqb, ne-eqb, eqb-true, ltb-true}
 use Rattle.law_base.specs.BoolLaws.{false-of, true-false, or-true, and-true}
 use Rattle.spec_graph.specs.Graph.{Flow, isBack}
-use Rattle.walk_step.specs.declared.Taken.{Taken}
 use Rattle.spec_graph.specs.Walk.{flowNumber, smaller}
-use Rattle.walk_step.specs.StepWord.{flowOf, stepWord, noStep, stepOf}
+use Rattle.walk_step.specs.StepWord.{flowOf, stepWord, stepOf}
 
 flow-few : (flow : Flow) → flowNumber flow ≤ 1
 flow-few Flow.forward = omega arith

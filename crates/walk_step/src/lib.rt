@@ -1,10 +1,8 @@
 // The least step out of a node that counts, over a table of places. A step is an edge as one word, ordered by the place left, the place entered, the
 // flow (forward before back) and the node entered: so the lesser word is the lesser step.
 
-ghost use mathlib.Core.Bool.{cond};
 ghost use mathlib.Core.Path.{_≡_};
-ghost use Prim.Native.Nat.{_*_, _≤_, _<_, min};
-ghost use lib.ListN.{getD};
+ghost use Prim.Native.Nat.{_≤_, min};
 ghost use Rattle.walk_step.specs.StepWord.{flowOf, stepWord, stepOf};
 ghost use Rattle.walk_step.specs.LeastStep.{hasWord, opensTo, forwardCounts, backCounts, countedStep, pairStep, leastStep};
 ghost use Rattle.walk_step.specs.StepTurns.{rowLeast, fromRow};
