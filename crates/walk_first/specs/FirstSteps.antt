@@ -20,7 +20,7 @@ use Rattle.pick_laws.specs.PickLaws.{Picked}
 use Rattle.pick_laws.specs.CompletingLaws.{SmallPlaces}
 use Rattle.edge_word.specs.Coding.{forwardsIn, backsIn}
 use Rattle.walk_reach.specs.Layers.{joinedRows}
-use Rattle.walk_lead.specs.Leads.{leadRows, shortestReturn, wrapStart}
+use Rattle.walk_lead.specs.Leads.{leadRows, returnIn, wrapStart}
 use Rattle.walk_ways.specs.Ways.{waysTo, openings, firstStart, widestTable}
 use Rattle.walk_need.specs.Needs.{needsOf, limitsOf}
 use Rattle.walk_step.specs.declared.Taken.{Taken}
@@ -84,13 +84,9 @@ unfoldable pub walkOf : List ℕ → List ℕ → List ℕ → ℕ → ℕ → L
 walkOf table forwards backs nodes d =
     stepsFrom table backs (preparedFor forwards backs nodes d (startOf forwards backs d)) (d + 2) Going.Starting (startOf forwards backs d)
 
--- the fewest steps from a dangerous pair back to its first node, or 64
-abbrev pub returnOf : List ℕ → List ℕ → ℕ
-returnOf forwards backs = shortestReturn (joinedRows forwards) (leadRows forwards backs)
-
 -- the first walk of the tables: none where no dangerous pair has a way back
 unfoldable pub firstSteps : List ℕ → List ℕ → List ℕ → ℕ → List Step
-firstSteps table forwards backs nodes = cond (ltb (returnOf forwards backs) 64) (walkOf table forwards backs nodes (returnOf forwards backs)) []
+firstSteps table forwards backs nodes = cond (ltb (returnIn forwards backs) 64) (walkOf table forwards backs nodes (returnIn forwards backs)) []
 
 -- ---- some of the nodes
 

@@ -143,7 +143,7 @@ module _ {whole : Graph} {table : List ℕ} (tabled : Tabled table whole) {forwa
   abbrev wordThere : ℕ → Going → ℕ → ℕ
   wordThere r going x = leastStep table x (needsThere r going) (limitsThere r going)
 
-  few-places : SmallPlaces g
+  pub few-places : SmallPlaces g
   few-places m i k j flow h = small m i k j flow (only-edge (has (p .nodes)) whole m i k j flow h .2)
 
   -- an edge that counts has no lesser word

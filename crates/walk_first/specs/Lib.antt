@@ -1,2 +1,3 @@
 pub mod FirstSteps
 pub mod GreedyLaws
+pub mod FirstLaws

@@ -8,7 +8,7 @@ use Rattle.pick_laws.specs.Pick.{dangerousPicks}
 use Rattle.pick_laws.specs.Completing.{leastBelow, leads}
 use Rattle.edge_word.specs.Coding.{forwardPick, entry, forwardsIn, backsIn}
 use Rattle.walk_reach.specs.Search.{firstFrom}
-use Rattle.walk_reach.specs.Layers.{wordBelow, listBelow, layersTo}
+use Rattle.walk_reach.specs.Layers.{wordBelow, listBelow, layersTo, joinedRows}
 
 -- ---- to which nodes dangerous pairs lead
 
@@ -45,6 +45,10 @@ returnFrom rows leads u = firstMeeting (layersTo rows u) (getD leads u 0)
 -- the fewest steps in which any of 64 nodes is reached so, or 64
 unfoldable pub shortestReturn : List ℕ → List ℕ → ℕ
 shortestReturn rows leads = leastBelow (returnFrom rows leads) 64 64
+
+-- the same for the two tables of edges
+abbrev pub returnIn : List ℕ → List ℕ → ℕ
+returnIn forwards backs = shortestReturn (joinedRows forwards) (leadRows forwards backs)
 
 -- ---- by way of which nodes a pair with so short a way back leads
 

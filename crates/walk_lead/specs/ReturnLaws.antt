@@ -19,14 +19,10 @@ use Rattle.edge_word.specs.Coding.{entry, forwardsIn, backsIn}
 use Rattle.walk_reach.specs.Layers.{joinedRows, layer, layersTo}
 use Rattle.walk_reach.specs.NodeWordLaws.{word-in, word-inside, list-length, list-at}
 use Rattle.walk_reach.specs.LayerLaws.{layers-has}
-use Rattle.walk_lead.specs.Leads.{leadsAlong, leadsThrough, leadRow, leadRows, meetsIn, firstMeeting, returnFrom, shortestReturn}
+use Rattle.walk_lead.specs.Leads.{leadsAlong, leadsThrough, leadRow, leadRows, meetsIn, firstMeeting, returnFrom, shortestReturn, returnIn}
 use Rattle.walk_reach.specs.Search.{firstFrom}
 use Rattle.walk_lead.specs.Leads.{layerAt, layersAt, wrapsFrom, wrapsAmong, firstWrap, wrapStart}
 use Rattle.walk_reach.specs.SearchLaws.{first-passes, first-bound, first-least}
-
--- the fewest steps of a way back from where a pair leads, for the two tables
-abbrev pub returnIn : List ℕ → List ℕ → ℕ
-returnIn forwards backs = shortestReturn (joinedRows forwards) (leadRows forwards backs)
 
 -- a dangerous pair by way of v leads from some node to one from which it is reached in at most d steps, among n nodes
 abbrev pub Wraps : List ℕ → List ℕ → ℕ → ℕ → ℕ → Type 0

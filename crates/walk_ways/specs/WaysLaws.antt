@@ -119,7 +119,7 @@ module _ (forwards : List ℕ) (n : ℕ) (full : n ≡ 64) where
 
 -- ---- the places of an edge's word
 
-word-opens : (x : ℕ) → opensBelow (forwardPick x) ≤ 1024
+pub word-opens : (x : ℕ) → opensBelow (forwardPick x) ≤ 1024
 unfolding forwardPick forwardEdge
 word-opens x = go (eqb x 0) (leb 2097152 x)
   where
@@ -128,7 +128,7 @@ word-opens x = go (eqb x 0) (leb 2097152 x)
     go false true = omega arith
     go false false = omega arith
 
-word-leaves : (y : ℕ) (q : Pick) → backPick y ≡ some q → q .leaves < 1024
+pub word-leaves : (y : ℕ) (q : Pick) → backPick y ≡ some q → q .leaves < 1024
 unfolding backPick backEdge
 word-leaves y q = go (eqb y 0)
   where
