@@ -20,7 +20,7 @@ use Rattle.walk_reach.specs.Layers.{joinedRows, layer, layersTo}
 use Rattle.walk_reach.specs.NodeWordLaws.{word-in, word-inside, list-length, list-at}
 use Rattle.walk_reach.specs.LayerLaws.{layers-has}
 use Rattle.walk_lead.specs.Leads.{leadsAlong, leadsThrough, leadRow, leadRows, meetsIn, firstMeeting, returnFrom, shortestReturn}
-use Rattle.walk_lead.specs.Leads.{firstFrom, layerAt, layersAt, wrapsFrom, wrapsAmong, firstWrap, wrapStart}
+use Rattle.walk_lead.specs.Leads.{firstFrom, layerAt, layersAt, wrapsFrom, wrapsAmong, wrapStart}
 use Rattle.walk_lead.specs.SearchLaws.{first-passes, first-bound, first-least}
 
 -- the fewest steps of a way back from where a pair leads, for the two tables
@@ -146,7 +146,7 @@ module _ (forwards backs : List ℕ) (n : ℕ) (full : n ≡ 64) where
   -- a pair by way of the node found leads so
   pub wrap-found : (d below : ℕ) → wrapStart forwards backs (joinedRows forwards) d below < below → below ≤ n
       → Wraps forwards backs n d (wrapStart forwards backs (joinedRows forwards) d below)
-  unfolding wrapStart firstWrap
+  unfolding wrapStart
   wrap-found d below h small =
       let test = wrapsAmong forwards backs (layersAt (joinedRows forwards) d) in
       let v = firstFrom (test 64) (min below 64) 0 in
@@ -156,12 +156,12 @@ module _ (forwards backs : List ℕ) (n : ℕ) (full : n ≡ 64) where
   pub wrap-least : (d below v u w : ℕ) → d < 64 → v < below → v < n → u < n → w < n
       → dangerousPicks (forwardsIn forwards u v) (backsIn backs v w) ≡ true → reaches (forwardsIn forwards) n u d w ≡ true
       → wrapStart forwards backs (joinedRows forwards) d below ≤ v
-  unfolding wrapStart firstWrap
+  unfolding wrapStart
   wrap-least d below v u w a b c i j h l =
       let test = wrapsAmong forwards backs (layersAt (joinedRows forwards) d) in
       first-least (test 64) (min below 64) 0 v zero-le (omega arith) (ap (λ (k : ℕ). test k v) (sym full) ∙ wraps-of d v u w a i j h l)
 
   pub wrap-bound : (d below : ℕ) → wrapStart forwards backs (joinedRows forwards) d below ≤ below
-  unfolding wrapStart firstWrap
+  unfolding wrapStart
   wrap-bound d below =
       let h = first-bound (wrapsAmong forwards backs (layersAt (joinedRows forwards) d) 64) (min below 64) 0 in omega arith
