@@ -16,7 +16,7 @@ use Rattle.law_base.specs.ListLaws.{any-numbers, any-numbers-of}
 use Rattle.spec_graph.specs.Graph.{Flow, Graph}
 use Rattle.spec_graph.specs.Walk.{Step, isDangerous, DangerousWalk, FirstWalk}
 use Rattle.law_walk.specs.Reach.{Regular, roundsFor}
-use Rattle.law_walk.specs.Parts.{only}
+use Rattle.law_walk.specs.Parts.{only, only-edge}
 use Rattle.law_walk.specs.Phases.{Phase, Accepted, accepted-length, normal}
 use Rattle.law_walk.specs.Phases.Phase.{starting}
 use Rattle.law_walk.specs.Phases.Accepted.{stop, go}
@@ -61,14 +61,11 @@ module _ (table forwards backs : List ℕ) (nodes n : ℕ) (full : n ≡ 64) {wh
   d = returnIn forwards backs
 
   places : SmallPlaces g
-  places m i k j flow h = small m i k j flow (chosen-edge m i k j flow h)
-    where
-      chosen-edge : (m i k j : ℕ) (flow : Flow) → g .edge m i k j flow ≡ true → whole .edge m i k j flow ≡ true
-      chosen-edge m i k j flow h = ?w
+  places m i k j flow h = small m i k j flow (only-edge (has nodes) whole m i k j flow h .2)
 
   -- where some dangerous walk is, some dangerous pair has a way back
   pub danger-returns : DangerousWalk g → d < 64
-  unfolding nodeTest returnsAt leads
+  unfolding nodeTest returnsAt leads only
   danger-returns walk =
       let test = node-complete regular picks inside walk in
       let a = any-numbers (λ u. any (λ v. any (returnsAt F B n u v) (numbers n)) (numbers n)) n test in
@@ -80,3 +77,64 @@ module _ (table forwards backs : List ℕ) (nodes n : ℕ) (full : n ≡ 64) {wh
       (any-numbers-of (λ v. dangerousPicks (F (a .0) v) (B v (c .0))) n (b .0) (b .1) (both .0))
       (subst (λ (k : ℕ). reaches F n (a .0) k (c .0) ≡ true) rounds (both .1)) in
       omega arith
+
+  -- what is accepted with a step begins at a node
+  accepted-inside : {s r x : ℕ} {ph : Phase} {walk : List Step} → Accepted g s (suc r) ph x walk → x < n
+  unfolding only
+  accepted-inside {x = x} (go step y node edge after rest) =
+      let out = regular .inNodes x (step .leaves) y (step .enters) (step .flow) edge .0 in omega (arith, out)
+
+  -- a way back is of no fewer steps
+  exact-least : (u w r : ℕ) → u < n → w < n → leads F B n u w ≡ true → exactly F n u r w ≡ true → d < 64 → d ≤ r
+  exact-least u w r in-u in-w lead way below = by-size (decide (ltb r 64))
+    where
+      by-size : (ltb r 64 ≡ true) ⊎ (ltb r 64 ≡ false) → d ≤ r
+      by-size (inl e) =
+          return-least forwards backs n full u w r in-u in-w (ltb-true r 64 e) lead (exactly-reaches F n u r r w way (omega arith))
+      by-size (inr e) = let l = ltb-false r 64 e in omega arith
+
+  -- a way back of at most d steps has exactly d
+  exact-way : (u w : ℕ) → u < n → w < n → leads F B n u w ≡ true → reaches F n u d w ≡ true → d < 64 → exactly F n u d w ≡ true
+  exact-way u w in-u in-w lead way below =
+      let t = reaches-exactly F n u d w way in
+      let least = exact-least u w (t .0) in-u in-w lead (t .2) below in
+      let most = t .1 in
+      let same : t .0 ≡ d = omega arith in subst (λ (r : ℕ). exactly F n u r w ≡ true) same (t .2)
+
+  -- the start
+  abbrev later : ℕ
+  later = firstStart (joinedRows forwards) (leadRows forwards backs) (d + 2)
+
+  abbrev s : ℕ
+  s = wrapStart forwards backs (joinedRows forwards) d later
+
+  lead-premise : (u w : ℕ) → u < n → w < n → has (getD (leadRows forwards backs) u 0) w ≡ leads F B n u w
+  lead-premise = leads-has forwards backs n full
+
+  -- where a pair leads to a node from which d steps go back, a walk of d + 2 steps can start
+  lead-needed : (u w : ℕ) → w < n → leads F B n u w ≡ true → exactly F n u d w ≡ true → needed F B n u (d + 2) u ≡ 0
+  lead-needed u w in-w lead way =
+      let two : d + 2 ≡ suc (suc d) = omega arith in
+      let test = needed-later F B n u (λ a b. word-opens (entry forwards a b)) (λ a b. word-leaves (entry backs a b)) d u in
+      rw two
+      (eqb-true _ 0
+      (test ∙ or-right _ (any-numbers-of (λ z. leads F B n u z && exactly F n u d z) n w in-w (and-of lead way))))
+
+  module _ (below : d < 64) where
+    later-below : later < 64
+    later-below =
+        let t = return-found forwards backs n full below in
+        let lead = t .4 in
+        let way = exact-way (t .0) (t .1) (t .2) (t .3) lead (t .5) below in
+        let least = start-least forwards backs n full (leadRows forwards backs) lead-premise (d + 2) (t .0) (omega arith)
+        (let small-u = t .2 in omega arith) (lead-needed (t .0) (t .1) (t .3) lead way) in
+        let small-u = t .2 in omega arith
+
+    s-most : s ≤ later
+    s-most = wrap-bound forwards backs n full d later
+
+    in-s : s < n
+    in-s = let a = later-below in let b = s-most in omega arith
+
+    prepared : Prepared
+    prepared = preparedFor forwards backs nodes d s
