@@ -23,7 +23,7 @@ use Rattle.law_walk.specs.Phases.Accepted.{stop, go}
 use Rattle.law_walk.specs.Greedy.{Greedy, greedy-accepted, greedy-first}
 use Rattle.pick_laws.specs.declared.Going.{Going}
 use Rattle.pick_laws.specs.declared.Pick.{Pick}
-use Rattle.pick_laws.specs.Pick.{Picks, picked, dangerousPicks, reaches, returnsAt, nodeTest}
+use Rattle.pick_laws.specs.Pick.{Picks, picked, dangerousPicks, onwardTo, reaches, returnsAt, nodeTest}
 use Rattle.pick_laws.specs.PickLaws.{Picked, dangerous-some, node-complete}
 use Rattle.pick_laws.specs.Completing.{exactly, needed, widest, leads, leavesAt, opensBelow}
 use Rattle.pick_laws.specs.ExactLaws.{exactly-reaches, reaches-exactly}
@@ -118,7 +118,7 @@ module _ (table forwards backs : List ℕ) (nodes n : ℕ) (full : n ≡ 64) {wh
       let test = needed-later F B n u (λ a b. word-opens (entry forwards a b)) (λ a b. word-leaves (entry backs a b)) d u in
       rw two
       (eqb-true _ 0
-      (test ∙ or-right _ (any-numbers-of (λ z. leads F B n u z && exactly F n u d z) n w in-w (and-of lead way))))
+      (test ∙ or-right (any (onwardTo F (λ y. eqb (needed F B n u (suc d) y) 0) u) (numbers n)) (any-numbers-of (λ z. leads F B n u z && exactly F n u d z) n w in-w (and-of lead way))))
 
   module _ (below : d < 64) where
     later-below : later < 64
@@ -136,5 +136,44 @@ module _ (table forwards backs : List ℕ) (nodes n : ℕ) (full : n ≡ 64) {wh
     in-s : s < n
     in-s = let a = later-below in let b = s-most in omega arith
 
-    prepared : Prepared
-    prepared = preparedFor forwards backs nodes d s
+    -- what is worked out for the walk
+    worked : let p = preparedFor forwards backs nodes d s in Worked F backs n s (p .ways) (p .opened) (p .wide) (d + 1)
+    unfolding preparedFor wideAt
+    worked = record {
+      ends = λ r x h l. ways-has forwards n full s (d + 2) r x (omega arith) (omega arith) l;
+      opens = λ r x h l.
+          openings-has forwards backs n full (leadRows forwards backs) lead-premise s (d + 2) r x (omega arith) (omega arith) l;
+      widths = λ r x h l.
+          let inside-rounds : r < 64 = omega arith in
+          rw (lt-ltb r 64 inside-rounds) (widest-at forwards n full s (d + 1) r x in-s (omega arith) inside-rounds l);
+    }
+
+    -- some first step counts
+    counted : Counted picks places s (d + 1) Going.Starting s
+    unfolding limitsIn startingLimit leads
+    counted = by-start (decide (ltb s later))
+      where
+        two : d + 2 ≡ suc (d + 1)
+        two = omega arith
+
+        by-start : (ltb s later ≡ true) ⊎ (ltb s later ≡ false) → Counted picks places s (d + 1) Going.Starting s
+        by-start (inr e) =
+            let l = ltb-false s later e in
+            let most = s-most in
+            let same : s ≡ later = omega arith in
+            let zero-needed = start-found forwards backs n full (leadRows forwards backs) lead-premise (d + 2) s (omega arith) same
+            (let few = in-s in omega arith) in
+            start-counted picks places s (d + 1) s in-s (subst (λ (k : ℕ). needed F B n s k s ≡ 0) two zero-needed)
+        by-start (inl e) =
+            let t = wrap-found forwards backs n full d later (ltb-true s later e) (let l = later-below in omega arith) in
+            let pair = dangerous-some (F (t .0) s) (B s (t .1)) (t .4) in
+            let q = pair .1 in
+            let lead = any-numbers-of (λ v. dangerousPicks (F (t .0) v) (B v (t .1))) n s in-s (t .4) in
+            let way = exact-way (t .0) (t .1) (t .2) (t .3) lead (t .5) below in
+            let few = word-leaves (entry backs s (t .1)) q (pair .3) in
+            let leaves : leavesAt (B s (t .1)) ≡ q .leaves = ap leavesAt (pair .3) in
+            let opens = dangerous-below (F (t .0) s) (B s (t .1)) (t .4) (omega arith) in
+            let wide = exactly-widest F n (t .0) s (q .leaves) d (t .1) (omega arith) way in
+            let one : d + 1 ≡ suc d = omega arith in
+            back-counted picks places s (d + 1) Going.Starting s (t .1) q in-s (t .3) (pair .3)
+            (subst (λ (k : ℕ). q .leaves < startingLimit F n s k (t .1)) (sym one) wide)
