@@ -43,7 +43,12 @@ use Rattle.walk_need.specs.Needs.{wideAt}
 use Rattle.walk_need.specs.NeedLaws.{Worked}
 use Rattle.walk_step.specs.Tabled.{Tabled}
 use Rattle.walk_first.specs.FirstSteps.{Prepared, stepsFrom, startOf, preparedFor, walkOf}
-use Rattle.walk_first.specs.GreedyLaws.{few-places, start-greedy}
+use Rattle.walk_first.specs.GreedyLaws.{start-greedy}
+
+-- a walk without a step is not dangerous
+empty-safe : (g : Graph) → isDangerous g [] ≡ true → false ≡ true
+unfolding isDangerous
+empty-safe g h = h
 
 module _ (table forwards backs : List ℕ) (nodes n : ℕ) (full : n ≡ 64) {whole : Graph} (tabled : Tabled table whole)
     (regular : Regular (only (has nodes) whole)) (inside : whole .size ≤ n) (small : SmallPlaces whole)
@@ -177,3 +182,66 @@ module _ (table forwards backs : List ℕ) (nodes n : ℕ) (full : n ≡ 64) {wh
             let one : d + 1 ≡ suc d = omega arith in
             back-counted picks places s (d + 1) Going.Starting s (t .1) q in-s (t .3) (pair .3)
             (subst (λ (k : ℕ). q .leaves < startingLimit F n s k (t .1)) (sym one) wide)
+
+    -- the least steps are greedy choices
+    greedy : Greedy g s (canFinish g F B n s) (suc (d + 1)) starting s (stepsFrom table backs (preparedFor forwards backs nodes d s) (suc (d + 1)) Going.Starting s)
+    unfolding preparedFor
+    greedy =
+        start-greedy tabled n full (preparedFor forwards backs nodes d s) regular inside places picks in-s worked (d + 1) (omega arith) counted
+
+    -- what a dangerous walk tells of its length and its start
+    walk-told : (first : Step) (rest : List Step) → isDangerous g (first ∷ rest) ≡ true
+        → (first .node < n) × ((r : ℕ) × (length rest ≡ suc r) × (d ≤ r) × (r ≡ d → s ≤ first .node))
+    unfolding only
+    walk-told first rest h =
+        let other = normal regular first rest h in
+        let t = accepted-leads regular picks inside places (first .node) refl (other .1) in
+        let in-first = accepted-inside (other .1) in
+        let back = t .2 in
+        (in-first, (t .0, t .1, exact-least (back .0) (back .1) (t .0) (back .2) (back .3) (back .4) (back .5) below, λ e. start-told in-first (t .0) e (t .3)))
+      where
+        x : ℕ
+        x = first .node
+
+        before : later ≤ x → s ≤ x
+        before l = let most = s-most in omega arith
+
+        start-told : x < n → (r : ℕ) → r ≡ d
+            → (needed F B n x (suc (suc r)) x ≡ 0)
+            ⊎ ((u : ℕ) × (w : ℕ) × (u < n) × (w < n) × (dangerousPicks (F u x) (B x w) ≡ true) × (exactly F n u r w ≡ true))
+            → s ≤ x
+        start-told in-x r e (inl z) =
+            let two : suc (suc r) ≡ d + 2 = omega arith in
+            before
+            (start-least forwards backs n full (leadRows forwards backs) lead-premise (d + 2) x (omega arith) (omega arith)
+            (subst (λ (k : ℕ). needed F B n x k x ≡ 0) two z))
+        start-told in-x r e (inr (u, w, in-u, in-w, pair, way)) = by-later (decide (ltb x later))
+          where
+            by-later : (ltb x later ≡ true) ⊎ (ltb x later ≡ false) → s ≤ x
+            by-later (inl l) =
+                wrap-least forwards backs n full d later x u w below (ltb-true x later l) in-x in-u in-w pair
+                (exactly-reaches F n u r d w way (omega arith))
+            by-later (inr l) = before (ltb-false x later l)
+
+    -- Req 01: the walk is the first
+    pub walk-first : FirstWalk g (walkOf table forwards backs nodes d)
+    unfolding walkOf startOf only
+    walk-first =
+        let two : suc (d + 1) ≡ d + 2 = omega arith in
+        subst (λ (k : ℕ). FirstWalk g (stepsFrom table backs (preparedFor forwards backs nodes d s) k Going.Starting s)) two
+        (greedy-first regular (can-complete regular picks inside places s) greedy fewest lowest)
+      where
+        fewest : (other : List Step) → isDangerous g other ≡ true → suc (d + 1) ≤ length other
+        fewest [] h = absurd (false≢true (empty-safe g h))
+        fewest (first ∷ rest) h = let t = walk-told first rest h in let long = t .1 .1 in let least = t .1 .2 in omega arith
+
+        lowest : (first : Step) (rest : List Step) → isDangerous g (first ∷ rest) ≡ true → length rest ≡ d + 1 → s ≤ first .node
+        lowest first rest h e = let t = walk-told first rest h in let long = t .1 .1 in t .1 .3 (omega arith)
+
+    -- it has two steps more than the way back
+    pub walk-length : length (walkOf table forwards backs nodes d) ≡ d + 2
+    unfolding walkOf startOf
+    walk-length =
+        let two : suc (d + 1) ≡ d + 2 = omega arith in
+        subst (λ (k : ℕ). length (stepsFrom table backs (preparedFor forwards backs nodes d s) k Going.Starting s) ≡ k) two
+        (accepted-length (greedy-accepted greedy))

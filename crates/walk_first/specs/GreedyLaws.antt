@@ -119,7 +119,7 @@ finish-last g forwards backs n s closing x on c = (eqb-true x s c, refl)
 finish-last g forwards backs n s (ending f e) x on c = let both = and-true (eqb x s) _ c in (eqb-true x s (both .0), both .1)
 
 module _ {whole : Graph} {table : List ℕ} (tabled : Tabled table whole) {forwards : Picks} {backs : List ℕ} (n : ℕ) (full : n ≡ 64)
-    (p : Prepared) (regular : Regular (only (has (p .nodes)) whole)) (inside : whole .size ≤ n) (small : SmallPlaces whole)
+    (p : Prepared) (regular : Regular (only (has (p .nodes)) whole)) (inside : whole .size ≤ n) (few-places : SmallPlaces (only (has (p .nodes)) whole))
     (picks : Picked (only (has (p .nodes)) whole) n forwards (backsIn backs)) (in-s : p .start < n)
     {most : ℕ} (worked : Worked forwards backs n (p .start) (p .ways) (p .opened) (p .wide) most) where
   abbrev g : Graph
@@ -143,9 +143,6 @@ module _ {whole : Graph} {table : List ℕ} (tabled : Tabled table whole) {forwa
   abbrev wordThere : ℕ → Going → ℕ → ℕ
   wordThere r going x = leastStep table x (needsThere r going) (limitsThere r going)
 
-  pub few-places : SmallPlaces g
-  few-places m i k j flow h = small m i k j flow (only-edge (has (p .nodes)) whole m i k j flow h .2)
-
   -- an edge that counts has no lesser word
   edge-least : (r : ℕ) (ph : Phase) (x : ℕ) (step : Step) (y : ℕ) → r ≤ most → step .node ≡ x
       → g .edge x (step .leaves) y (step .enters) (step .flow) ≡ true
@@ -154,7 +151,7 @@ module _ {whole : Graph} {table : List ℕ} (tabled : Tabled table whole) {forwa
   unfolding only
   edge-least r ph x step y h node edge c =
       let e = only-edge (has (p .nodes)) whole x (step .leaves) y (step .enters) (step .flow) edge in
-      let few = small x (step .leaves) y (step .enters) (step .flow) (e .2) in
+      let few = few-places x (step .leaves) y (step .enters) (step .flow) edge in
       let into = regular .inNodes x (step .leaves) y (step .enters) (step .flow) edge .1 in
       let in-y : y < n = omega (arith, into) in
       let facts = counts-facts g (needsNow r (goingIn g ph)) (limitsNow r (goingIn g ph)) step y (step .flow) refl (few .1) c in
