@@ -3,11 +3,13 @@ use mathlib.Core.Bool.{cond}
 use mathlib.Core.List.{List}
 use mathlib.Core.Path.{_≡_, refl, sym, ap, subst, _∙_}
 use Prim.Native.Nat.{ℕ}
+use native.Mathlib.Decide.{ℕ-discrete}
 use lib.Dec.{eqb}
 use borrow.Author.Tests.{eq-eqb, ne-eqb}
 use Rattle.text_read.specs.declared.Parsed.{Parsed}
 use Rattle.unfold.specs.declared.Unfolded.{Unfolded}
-use Rattle.export_word.specs.Word.{refusalWord, valueWord}
+use Rattle.verdict_of.specs.VerdictLaws.{judged-one}
+use Rattle.export_word.specs.Word.{refusalWord, valueWord, verdictWord}
 use Rattle.exports.specs.Stages.{middleLine, readWord, lastNodeTold, unfoldWord, Unfolds, Judges, UnfoldStage, VerdictStage}
 
 -- ---- the numbers
@@ -55,3 +57,19 @@ module _ {p q : Parsed} {before : List ℕ} {r : ℕ} {after : List ℕ} (same :
   pub verdict-goes-on : Judges (p .work) before r after → VerdictStage q before r after
   verdict-goes-on u =
       subst (λ (x : Parsed). VerdictStage x before r after) same (record { refuses = λ other. absurd (other accepted); goes-on = λ _. u })
+
+-- ---- nothing is free
+
+-- Req 01: a text's answer and the area before settle what the stage of the verdict answers and leaves
+pub verdict-stage-one : {p : Parsed} {before : List ℕ} {r s : ℕ} {after rest : List ℕ} → VerdictStage p before r after → VerdictStage p before s rest
+    → (r ≡ s) × (after ≡ rest)
+verdict-stage-one {p} {before} {r} {s} {after} {rest} x y = go (ℕ-discrete (p .number) 0)
+  where
+    go : Dec (p .number ≡ 0) → (r ≡ s) × (after ≡ rest)
+    go (no other) =
+        let a = x .refuses other in
+        let b = y .refuses other in (a .0 ∙ sym (b .0), a .1 ∙ sym (b .1))
+    go (yes e) =
+        let a = x .goes-on e in
+        let b = y .goes-on e in
+        let same = judged-one (a .settled) (b .settled) in (a .word ∙ ap verdictWord (same .0) ∙ sym (b .word), same .1)

@@ -21,6 +21,7 @@ use Rattle.spec_report.specs.Report.{
 }
 use Rattle.spec_report.specs.Report.{refusalReport, robustReport, dangerReport, Report}
 use Rattle.spec_report.specs.Report.Report.{refusal, unfolding-refusal, robust, danger}
+use Rattle.law_report.specs.ShownWalk.{first-short}
 use Rattle.report_print.specs.DecimalLaws.{decimal-few}
 
 -- so many bytes at most
@@ -78,4 +79,4 @@ pub report-size : {text bytes : List ℕ} → Report text bytes → length bytes
 report-size (refusal number line isRead) = omega (arith, refusal-sized number line .few)
 report-size (unfolding-refusal lines isRead many) = omega (arith, refusal-sized 22 0 .few)
 report-size (robust lines isRead few none-dangerous) = omega (arith, robust-sized (countsOf lines) .few)
-report-size (danger lines isRead few walk dangerous short) = omega (arith, danger-sized (countsOf lines) walk .few)
+report-size (danger lines isRead few walk first) = omega (arith, danger-sized (countsOf lines) walk .few, first-short lines few first)

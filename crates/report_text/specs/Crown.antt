@@ -1,6 +1,6 @@
 -- What the printed word `robust` is worth. Believed: its first part, up to `Promised`.
 --
--- Take any text, and any bytes that are a report of it; `report_text::report_of` prints nothing else. Look at the second line of the report. If it
+-- Take any text, and the bytes that are its report; `report_text::report_of` prints nothing else. Look at the second line of the report. If it
 -- begins with the word `robust`, then the text is a lawful workload, and whatever schedule its programs run through under Read Committed, there is
 -- an order in which the same transactions, run one after the other, read the same and leave the same after. The second line of no other
 -- report begins with that word: that of a refusal begins with a digit, that of a danger with a d.
@@ -113,7 +113,7 @@ crown {text} (unfolding-refusal lines isRead many) h =
     let d = second-of-refusal 22 0 in
     absurd (omega arith)
 crown {text} (robust lines isRead few none-dangerous) h = (lines, isRead, serialisable text lines isRead none-dangerous)
-crown {text} (danger lines isRead few walk dangerous short) h =
+crown {text} (danger lines isRead few walk first) h =
     let r = first-of-word (fromSecondLine (dangerReport (countsOf lines) walk)) h in
     let d = second-of-danger (countsOf lines) walk in
     absurd (omega arith)

@@ -10,7 +10,7 @@ use Rattle.spec_text.specs.Reading.Outcome.{accepted}
 use Rattle.spec_report.specs.Report.{Report}
 use Rattle.report_print.specs.declared.Printed.{Printed}
 
--- P: the bytes up to the length are a report of the text, and the others are 0; which dangerous walk is shown is free
+-- P: the bytes up to the length are the report of the text, and the others are 0; nothing is free (`reported-is`)
 pub record Reported (text : List ℕ) (r : Printed) : Type 0 where
   pub size : length (r .bytes) ≡ 8192
   pub fits : r .length ≤ 8192

@@ -1,12 +1,13 @@
 -- The printed report of a text, case by case.
 use mathlib.Core.Bool.{false}
-use mathlib.Core.List.{List}
+use mathlib.Core.List.{List, _++_}
+use mathlib.Core.Logic.{_↔_}
 use mathlib.Core.Option.{Option, none, some}
-use mathlib.Core.Path.{_≡_, refl, sym, ap, subst, _∙_}
+use mathlib.Core.Path.{_≡_, refl, sym, ap, ap₂, subst, _∙_}
 use Prim.Native.Nat.{ℕ, _-_, _/_}
 use native.Mathlib.Omega.{arith}
-use lib.ListN.{length, replicate, length-append, length-replicate}
-use lib.Seq.{take-at, drop-at}
+use lib.ListN.{length, replicate, length-append, length-replicate, take-append-drop}
+use lib.Seq.{take-at, drop-at, length-take-le}
 use Rattle.law_base.specs.BoolLaws.{true-false}
 use Rattle.spec_text.specs.declared.Workload.{Workload}
 use Rattle.spec_text.specs.Reading.{read}
@@ -19,6 +20,8 @@ use Rattle.spec_report.specs.State.StateRefusal.{not-given, too-many, too-short
 use Rattle.spec_report.specs.Refusals.{taken-given}
 use Rattle.spec_report.specs.Report.{Report, refusalReport, dangerReport}
 use Rattle.spec_report.specs.Report.Report.{refusal, unfolding-refusal, robust, danger}
+use Rattle.law_report.specs.ShownWalk.{first-short}
+use Rattle.law_report.specs.One.{theReport, report-is}
 use Rattle.text_read.specs.declared.Parsed.{Parsed}
 use Rattle.text_read.specs.Parse.{parsedAs}
 use Rattle.refusal_laws.specs.RefusalLaws.{parsed-refused, parsed-accepted}
@@ -92,9 +95,10 @@ module _ {w : Workload} (text : List ℕ) (isRead : read text ≡ accepted (line
       → Report text (bytesFor answer after)
   unfolding bytesFor
   word-reported few (robust-word none-dangerous serial) = robust (linesOf w) isRead few none-dangerous
-  word-reported few (danger-word walk dangerous short) =
-      subst (λ (l : List Step). Report text (dangerReport (countsOf (linesOf w)) l)) (sym (walk-shown walk before short))
-      (danger (linesOf w) isRead few walk dangerous short)
+  word-reported few (danger-word walk first) =
+      subst (λ (l : List Step). Report text (dangerReport (countsOf (linesOf w)) l))
+      (sym (walk-shown walk before (first-short (linesOf w) few first)))
+      (danger (linesOf w) isRead few walk first)
 
   judged-reported : {answer : Told} {after : List ℕ} → Judged w before answer after → Report text (bytesFor answer after)
   unfolding bytesFor
@@ -105,3 +109,20 @@ module _ {w : Workload} (text : List ℕ) (isRead : read text ≡ accepted (line
 pub value-reported : {w : Workload} {before after : List ℕ} {answer : Told} {r : Printed} → length before ≡ 260 → Judged w before answer after
     → r ≡ printedAs (bytesFor answer after) → ValueReported w r
 value-reported {before = before} long j e text isRead given = reported-as (judged-reported text isRead given before long j) e
+
+-- ---- nothing is free
+
+-- Req 01: the promise is an equation: what is answered is the text's one report, printed
+pub reported-is : {text : List ℕ} {r : Printed} → Reported text r ↔ (r ≡ printedAs (theReport text))
+unfolding printedAs
+reported-is {text} {r} = (λ h. settled h, λ e. reported-as (report-is .1 refl) e)
+  where
+    settled : Reported text r → r ≡ printedAs (theReport text)
+    settled h =
+        let size = h .size in
+        let fits = h .fits in
+        let same = report-is .0 (h .report) in
+        let long : r .length ≡ length (theReport text) = sym (length-take-le (r .length) (r .bytes) (omega arith)) ∙ ap length same in
+        let bytes : r .bytes ≡ theReport text ++ replicate (8192 - length (theReport text)) 0 =
+        sym (take-append-drop (r .length) (r .bytes)) ∙ ap₂ _++_ same (h .others ∙ ap (λ (n : ℕ). replicate (8192 - n) 0) long) in
+        λ i. record { length = long i; bytes = bytes i }

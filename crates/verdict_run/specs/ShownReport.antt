@@ -19,7 +19,7 @@ bytesRead (Ended t) = t .count
 bytesRead (Full t) = t .count
 bytesRead (Failed t) = t .count
 
--- P: the bytes are a report of the text that was read: where the input ended, of the bytes that came; where the area is full, of every
+-- P: the bytes are the report of the text that was read: where the input ended, of the bytes that came; where the area is full, of every
 -- text that begins with it, since what follows was not read; where a read failed, of none
 abbrev pub ReportRead : List ℕ → Input → List ℕ → Type 0
 ReportRead area (Ended t) bytes = Report (take (t .count) area) bytes

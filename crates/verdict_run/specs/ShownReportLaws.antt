@@ -17,12 +17,12 @@ use Rattle.stdin.specs.declared.Input.the-variants.{Ended, Full, Failed}
 use Rattle.stdin.specs.Ends.{Ends}
 use Rattle.verdict_run.specs.ShownReport.{Came, bytesRead, ReportRead, Shows}
 
--- texts that read alike have the same reports
+-- texts that read alike have the same report
 same-reading : {text other bytes : List ℕ} → read other ≡ read text → Report text bytes → Report other bytes
 same-reading e (refusal number line isRead) = refusal number line (e ∙ isRead)
 same-reading e (unfolding-refusal lines isRead many) = unfolding-refusal lines (e ∙ isRead) many
 same-reading e (robust lines isRead few none-dangerous) = robust lines (e ∙ isRead) few none-dangerous
-same-reading e (danger lines isRead few walk dangerous short) = danger lines (e ∙ isRead) few walk dangerous short
+same-reading e (danger lines isRead few walk first) = danger lines (e ∙ isRead) few walk first
 
 -- a text that is too long is refused by 1
 too-long : (text : List ℕ) → 32768 < length text → read text ≡ refused 1 0
