@@ -1,4 +1,6 @@
 pub mod Pick
 pub mod PickLaws
 pub mod Completing
+pub mod ExactLaws
+pub mod LeastLaws
 pub mod NeededLaws

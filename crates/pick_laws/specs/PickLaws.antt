@@ -61,7 +61,7 @@ rounds-more (suc m) zero h = absurd (not-suc-le-zero h)
 rounds-more (suc m) (suc n) h = le-of-suc-le-suc h
 
 -- a node is reached from itself, in any number of steps
-reaches-here : (forwards : Picks) (n u d w : ℕ) → w ≡ u → reaches forwards n u d w ≡ true
+pub reaches-here : (forwards : Picks) (n u d w : ℕ) → w ≡ u → reaches forwards n u d w ≡ true
 unfolding reaches
 reaches-here forwards n u zero w e = eq-eqb w u e
 reaches-here forwards n u (suc d) w e = or-left (any (onwardTo forwards (reaches forwards n u d) w) (numbers n)) (reaches-here forwards n u d w e)

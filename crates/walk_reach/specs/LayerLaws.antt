@@ -9,15 +9,15 @@ use native.Mathlib.Numerals.{add-one}
 use native.Mathlib.Omega.{arith}
 use lib.Dec.{eqb, ltb}
 use lib.ListN.{getD}
-use borrow.Author.Tests.{ltb-true, ltb-false, ne-eqb}
+use borrow.Author.Tests.{ltb-false, ne-eqb}
 use Rattle.spec_base.specs.Basic.{any, numbers, has, meets}
-use Rattle.law_base.specs.BoolLaws.{decide, true-false, same-test, and-true, and-of}
+use Rattle.law_base.specs.BoolLaws.{decide, same-test, and-true, and-of}
 use Rattle.law_base.specs.ListLaws.{any-numbers, any-numbers-of}
 use Rattle.law_base.specs.SetLaws.{has-empty, has-bitOr, has-bit, meets-has, has-meets, meets-comm, meets-empty}
 use Rattle.pick_laws.specs.Pick.{picked, onwardTo, reaches}
 use Rattle.edge_word.specs.Coding.{forwardPick, forwardEdge, entry, forwardsIn}
 use Rattle.walk_reach.specs.Layers.{withNode, wordBelow, joinedBit, joinedRow, joinedRows, growsTo, grown, layer, layersTo}
-use Rattle.walk_reach.specs.NodeWordLaws.{last-turn, word-out, word-in, word-none, list-at}
+use Rattle.walk_reach.specs.NodeWordLaws.{last-turn, word-in, word-inside, word-none, list-at}
 
 -- ---- turn by turn
 
@@ -77,11 +77,7 @@ module _ (forwards : List ℕ) (n : ℕ) (full : n ≡ 64) where
 
   row-inside : (w k : ℕ) → has (joinedRow forwards w) k ≡ true → k < n
   unfolding joinedRow
-  row-inside w k h = go (decide (ltb k 64))
-    where
-      go : (ltb k 64 ≡ true) ⊎ (ltb k 64 ≡ false) → k < n
-      go (inl e) = let l = ltb-true k 64 e in omega arith
-      go (inr e) = let l = ltb-false k 64 e in absurd (true-false h (word-out (joinedBit forwards w) 64 k l))
+  row-inside w k h = let l = word-inside (joinedBit forwards w) 64 k h in omega arith
 
   -- an edge goes from w to one of the nodes
   pub row-meets : (nodes : ℕ) (rest : ℕ → Bool) (w : ℕ) → w < n → ((k : ℕ) → k < n → has nodes k ≡ rest k)

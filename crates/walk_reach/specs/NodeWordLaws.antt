@@ -6,15 +6,17 @@ use mathlib.Core.Logic.{_⊎_, inl, inr}
 use Prim.Native.Nat.{ℕ, zero, suc, _+_, _*_, _%_, _^_, _≤_, _<_}
 use native.Mathlib.Nat.{one-mul, mod-eq-of-lt, not-suc-le-zero}
 use native.Mathlib.Numerals.{add-one}
+use native.Mathlib.Decide.{decLt}
 use native.Mathlib.Omega.{arith}
+use lib.Bits.{bitOr}
 use lib.Dec.{eqb}
 use lib.ListN.{length, getD, set, length-set, length-replicate}
 use lib.Pow.{pow-lt}
 use lib.Seq.{getD-set-same, getD-set-other}
 use borrow.Author.Tests.{eqb-true, eqb-false, eq-eqb, ne-eqb}
 use Rattle.spec_base.specs.Basic.{has}
-use Rattle.law_base.specs.BoolLaws.{decide}
-use Rattle.law_base.specs.SetLaws.{has-empty, has-bitOr, has-bit}
+use Rattle.law_base.specs.BoolLaws.{decide, true-false}
+use Rattle.law_base.specs.SetLaws.{has-empty, has-equal, has-bitOr, has-bit}
 use Rattle.walk_reach.specs.Layers.{withNode, wordBelow, listBelow}
 
 -- ---- turn by turn
@@ -78,18 +80,38 @@ module _ (test : ℕ → Bool) where
       go rest (inr e) =
           let apart = eqb-false k n e in with-other (wordBelow test n) (test n) n k apart ∙ rest (omega arith)
 
+  -- so what it has is below n
+  pub word-inside : (n k : ℕ) → has (wordBelow test n) k ≡ true → k < n
+  word-inside n k h = go (decLt k n)
+    where
+      go : Dec (k < n) → k < n
+      go (yes l) = l
+      go (no d) = absurd (true-false h (word-out n k (omega arith)))
+
   -- none where none passes
   pub word-none : ((k : ℕ) → test k ≡ false) → (n : ℕ) → wordBelow test n ≡ 0
   unfolding wordBelow withNode
   word-none none zero = refl
   word-none none (suc n) = rw (none n) (word-none none n)
 
-list-length : (f : ℕ → ℕ) (n : ℕ) → length (listBelow f n) ≡ 64
+-- the union of two such words has the numbers that pass either test
+pub word-or : (p q r : ℕ → Bool) (n : ℕ) → ((k : ℕ) → r k ≡ p k || q k) → bitOr (wordBelow p n) (wordBelow q n) ≡ wordBelow r n
+word-or p q r n same =
+    has-equal (bitOr (wordBelow p n) (wordBelow q n)) (wordBelow r n) (λ k. has-bitOr (wordBelow p n) (wordBelow q n) k ∙ go k (decLt k n))
+  where
+    go : (k : ℕ) → Dec (k < n) → has (wordBelow p n) k || has (wordBelow q n) k ≡ has (wordBelow r n) k
+    go k (yes l) = ap₂ (λ (a b : Bool). a || b) (word-in p n k l) (word-in q n k l) ∙ sym (same k) ∙ sym (word-in r n k l)
+    go k (no d) =
+        let l : n ≤ k = omega arith in
+        ap₂ (λ (a b : Bool). a || b) (word-out p n k l) (word-out q n k l) ∙ sym (word-out r n k l)
+
+-- a list filled so has 64 words
+pub list-length : (f : ℕ → ℕ) (n : ℕ) → length (listBelow f n) ≡ 64
 unfolding listBelow
 list-length f zero = length-replicate {A = ℕ} 64 0
 list-length f (suc n) = length-set (listBelow f n) n (f n) ∙ list-length f n
 
--- a list filled so holds what was given
+-- and holds what was given
 pub list-at : (f : ℕ → ℕ) (n i : ℕ) → n ≤ 64 → i < n → getD (listBelow f n) i 0 ≡ f i
 unfolding listBelow
 list-at f zero i h l = absurd (not-suc-le-zero l)

@@ -1,0 +1,4 @@
+pub mod Leads
+pub mod SearchLaws
+pub mod LeadLaws
+pub mod ReturnLaws

@@ -1,0 +1,167 @@
+-- What the search for the shortest return tells of the edges: some pair has a way back of so many steps, and none has a shorter one.
+use mathlib.Core.Path.{_≡_, sym, ap, _∙_}
+use mathlib.Core.Bool.{Bool, true, false}
+use mathlib.Core.Logic.{_⊎_, inl, inr}
+use mathlib.Core.List.{List}
+use Prim.Native.Nat.{ℕ, _≤_, _<_, zero-le, min}
+use native.Mathlib.Omega.{arith}
+use lib.Dec.{ltb}
+use lib.ListN.{getD, List·getD-eq-default}
+use borrow.Author.Tests.{ltb-true, ltb-false}
+use Rattle.spec_base.specs.Basic.{has}
+use Rattle.law_base.specs.BoolLaws.{decide}
+use Rattle.law_base.specs.ListLaws.{any-numbers, any-numbers-of}
+use Rattle.law_base.specs.SetLaws.{has-nonzero, meets-has, has-meets}
+use Rattle.pick_laws.specs.Pick.{dangerousPicks, reaches}
+use Rattle.pick_laws.specs.Completing.{leads}
+use Rattle.pick_laws.specs.LeastLaws.{least-bound, least-at, least-found}
+use Rattle.edge_word.specs.Coding.{entry, forwardsIn, backsIn}
+use Rattle.walk_reach.specs.Layers.{joinedRows, layer, layersTo}
+use Rattle.walk_reach.specs.NodeWordLaws.{word-in, word-inside, list-length, list-at}
+use Rattle.walk_reach.specs.LayerLaws.{layers-has}
+use Rattle.walk_lead.specs.Leads.{leadsAlong, leadsThrough, leadRow, leadRows, meetsIn, firstMeeting, returnFrom, shortestReturn}
+use Rattle.walk_lead.specs.Leads.{firstFrom, layerAt, layersAt, wrapsFrom, wrapsAmong, firstWrap, wrapStart}
+use Rattle.walk_lead.specs.SearchLaws.{first-passes, first-bound, first-least}
+
+-- the fewest steps of a way back from where a pair leads, for the two tables
+abbrev pub returnIn : List ℕ → List ℕ → ℕ
+returnIn forwards backs = shortestReturn (joinedRows forwards) (leadRows forwards backs)
+
+-- a dangerous pair by way of v leads from some node to one from which it is reached in at most d steps, among n nodes
+abbrev pub Wraps : List ℕ → List ℕ → ℕ → ℕ → ℕ → Type 0
+Wraps forwards backs n d v = (u : ℕ) × (w : ℕ) × (u < n) × (w < n) × (dangerousPicks (forwardsIn forwards u v) (backsIn backs v w) ≡ true)
+    × (reaches (forwardsIn forwards) n u d w ≡ true)
+
+module _ (forwards backs : List ℕ) (n : ℕ) (full : n ≡ 64) where
+  lead-at : (u : ℕ) → u < n → getD (leadRows forwards backs) u 0 ≡ leadRow forwards backs u
+  unfolding leadRows
+  lead-at u h = list-at (leadRow forwards backs) 64 u (omega arith) (omega arith)
+
+  lead-inside : (u w : ℕ) → u < n → has (getD (leadRows forwards backs) u 0) w ≡ true → w < n
+  unfolding leadRow
+  lead-inside u w a h =
+      let l = word-inside (leads (forwardsIn forwards) (backsIn backs) 64 u) 64 w (ap (λ (x : ℕ). has x w) (sym (lead-at u a)) ∙ h) in omega arith
+
+  -- the row of a node has those to which a dangerous pair leads from it
+  pub leads-has : (u w : ℕ) → u < n → w < n → has (getD (leadRows forwards backs) u 0) w ≡ leads (forwardsIn forwards) (backsIn backs) n u w
+  unfolding leadRow
+  leads-has u w a b =
+      ap (λ (x : ℕ). has x w) (lead-at u a) ∙ word-in (leads (forwardsIn forwards) (backsIn backs) 64 u) 64 w (omega arith)
+      ∙ ap (λ (k : ℕ). leads (forwardsIn forwards) (backsIn backs) k u w) (sym full)
+
+  -- ---- the shortest return
+
+  -- a node to which a pair leads from u is in layer d
+  abbrev meetsAt : ℕ → ℕ → Bool
+  meetsAt u = meetsIn (layersTo (joinedRows forwards) u) (getD (leadRows forwards backs) u 0)
+
+  -- a pair has a way back of the fewest steps
+  pub return-found : returnIn forwards backs < 64
+      → (u : ℕ) × (w : ℕ) × (u < n) × (w < n) × (leads (forwardsIn forwards) (backsIn backs) n u w ≡ true)
+      × (reaches (forwardsIn forwards) n u (returnIn forwards backs) w ≡ true)
+  unfolding shortestReturn returnFrom firstMeeting meetsIn
+  return-found h =
+      let f = least-found (returnFrom (joinedRows forwards) (leadRows forwards backs)) 64 64 h in
+      let u = f .0 in
+      let inside : u < n = omega arith in
+      let p = first-passes (meetsAt u) 64 0 (omega arith) in
+      let t = meets-has _ _ (ap (meetsAt u) (sym (f .2)) ∙ p) in
+      let l = lead-inside u (t .0) inside (t .1) in (
+        u,
+        t .0,
+        inside,
+        l,
+        sym (leads-has u (t .0) inside l) ∙ t .1,
+        sym (layers-has forwards n full u (returnIn forwards backs) (t .0) h l) ∙ t .2,
+      )
+
+  -- and none has one of fewer
+  pub return-least : (u w r : ℕ) → u < n → w < n → r < 64 → leads (forwardsIn forwards) (backsIn backs) n u w ≡ true
+      → reaches (forwardsIn forwards) n u r w ≡ true → returnIn forwards backs ≤ r
+  unfolding shortestReturn returnFrom firstMeeting meetsIn
+  return-least u w r a b c h l =
+      let p = has-meets _ _ w (leads-has u w a b ∙ h) (layers-has forwards n full u r w c b ∙ l) in
+      let first = first-least (meetsAt u) 64 0 r zero-le (omega arith) p in
+      let least = least-at (returnFrom (joinedRows forwards) (leadRows forwards backs)) 64 64 u (omega arith) in omega arith
+
+  pub return-bound : returnIn forwards backs ≤ 64
+  unfolding shortestReturn
+  return-bound = least-bound (returnFrom (joinedRows forwards) (leadRows forwards backs)) 64 64
+
+  -- ---- the start
+
+  reach-at : (d u : ℕ) → u < n → getD (layersAt (joinedRows forwards) d) u 0 ≡ layerAt (joinedRows forwards) d u
+  unfolding layersAt
+  reach-at d u h = list-at (layerAt (joinedRows forwards) d) 64 u (omega arith) (omega arith)
+
+  -- there is no layer from 64 on
+  layer-inside : (d u w : ℕ) → has (layerAt (joinedRows forwards) d u) w ≡ true → d < 64
+  unfolding layerAt layersTo
+  layer-inside d u w h = go (decide (ltb d 64))
+    where
+      none : 64 ≤ d → layerAt (joinedRows forwards) d u ≡ 0
+      none l = let long = list-length (layer (joinedRows forwards) u) 64 in List·getD-eq-default (layersTo (joinedRows forwards) u) 0 (omega arith)
+
+      go : (ltb d 64 ≡ true) ⊎ (ltb d 64 ≡ false) → d < 64
+      go (inl e) = ltb-true d 64 e
+      go (inr e) = absurd (has-nonzero (layerAt (joinedRows forwards) d u) w h (none (ltb-false d 64 e)))
+
+  through-has : (u v w : ℕ) → w < n
+      → has (leadsThrough backs (entry forwards u v) v) w ≡ dangerousPicks (forwardsIn forwards u v) (backsIn backs v w)
+  unfolding leadsThrough leadsAlong
+  through-has u v w h = word-in (leadsAlong backs (entry forwards u v) v) 64 w (omega arith)
+
+  through-inside : (u v w : ℕ) → has (leadsThrough backs (entry forwards u v) v) w ≡ true → w < n
+  unfolding leadsThrough
+  through-inside u v w h = let l = word-inside (leadsAlong backs (entry forwards u v) v) 64 w h in omega arith
+
+  -- as the search tests it
+  abbrev tested : ℕ → ℕ → ℕ → Bool
+  tested d v u = wrapsFrom forwards backs (layersAt (joinedRows forwards) d) v u
+
+  wraps-found : (d v : ℕ) → wrapsAmong forwards backs (layersAt (joinedRows forwards) d) n v ≡ true → Wraps forwards backs n d v
+  unfolding wrapsAmong layerAt
+  wraps-found d v h =
+      let f = any-numbers (tested d v) n h in
+      let u = f .0 in
+      let t = meets-has _ _ (f .2) in
+      let l = through-inside u v (t .0) (t .1) in
+      let r : has (layerAt (joinedRows forwards) d u) (t .0) ≡ true = ap (λ (x : ℕ). has x (t .0)) (sym (reach-at d u (f .1))) ∙ t .2 in (
+        u,
+        t .0,
+        f .1,
+        l,
+        sym (through-has u v (t .0) l) ∙ t .1,
+        sym (layers-has forwards n full u d (t .0) (layer-inside d u (t .0) r) l) ∙ r,
+      )
+
+  wraps-of : (d v u w : ℕ) → d < 64 → u < n → w < n → dangerousPicks (forwardsIn forwards u v) (backsIn backs v w) ≡ true
+      → reaches (forwardsIn forwards) n u d w ≡ true → wrapsAmong forwards backs (layersAt (joinedRows forwards) d) n v ≡ true
+  unfolding wrapsAmong layerAt
+  wraps-of d v u w a b c h l =
+      any-numbers-of (tested d v) n u b
+      (has-meets _ _ w (through-has u v w c ∙ h)
+      (ap (λ (x : ℕ). has x w) (reach-at d u b) ∙ layers-has forwards n full u d w a c ∙ l))
+
+  -- a pair by way of the node found leads so
+  pub wrap-found : (d below : ℕ) → wrapStart forwards backs (joinedRows forwards) d below < below → below ≤ n
+      → Wraps forwards backs n d (wrapStart forwards backs (joinedRows forwards) d below)
+  unfolding wrapStart firstWrap
+  wrap-found d below h small =
+      let test = wrapsAmong forwards backs (layersAt (joinedRows forwards) d) in
+      let v = firstFrom (test 64) (min below 64) 0 in
+      wraps-found d v (ap (λ (k : ℕ). test k v) full ∙ first-passes (test 64) (min below 64) 0 (omega arith))
+
+  -- and none by way of a lower one does
+  pub wrap-least : (d below v u w : ℕ) → d < 64 → v < below → v < n → u < n → w < n
+      → dangerousPicks (forwardsIn forwards u v) (backsIn backs v w) ≡ true → reaches (forwardsIn forwards) n u d w ≡ true
+      → wrapStart forwards backs (joinedRows forwards) d below ≤ v
+  unfolding wrapStart firstWrap
+  wrap-least d below v u w a b c i j h l =
+      let test = wrapsAmong forwards backs (layersAt (joinedRows forwards) d) in
+      first-least (test 64) (min below 64) 0 v zero-le (omega arith) (ap (λ (k : ℕ). test k v) (sym full) ∙ wraps-of d v u w a i j h l)
+
+  pub wrap-bound : (d below : ℕ) → wrapStart forwards backs (joinedRows forwards) d below ≤ below
+  unfolding wrapStart firstWrap
+  wrap-bound d below =
+      let h = first-bound (wrapsAmong forwards backs (layersAt (joinedRows forwards) d) 64) (min below 64) 0 in omega arith
