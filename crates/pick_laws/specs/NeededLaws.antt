@@ -73,7 +73,8 @@ module _ (forwards backs : Picks) (n s : ℕ) where
   pub needed-test : (r x : ℕ)
       → eqb (needed forwards backs n s (suc r) x) 0 ≡ any (opensInto forwards (needed forwards backs n s r) x) (numbers n)
   unfolding needed
-  needed-test r x = nothing-needed (any (opensInto forwards (needed forwards backs n s r) x) (numbers n)) (leavesFirst backs n (exactly forwards n s r) x)
+  needed-test r x =
+      nothing-needed (any (opensInto forwards (needed forwards backs n s r) x) (numbers n)) (leavesFirst backs n (exactly forwards n s r) x)
 
   -- a walk cannot be opened in no step
   pub needed-none : (x : ℕ) → eqb (needed forwards backs n s zero x) 0 ≡ false
@@ -150,7 +151,8 @@ module _ (forwards backs : Picks) (n s : ℕ) (opens : (u v : ℕ) → opensBelo
           b = and-true _ _ (t .2)
 
           go : (y : ℕ) → y < n → picked (forwards x y) ≡ true → needed forwards backs n s (suc r) y ≤ opensBelow (forwards x y)
-              → (needed forwards backs n s (suc r) y ≡ 0) ⊎ (needed forwards backs n s (suc r) y ≡ suc (leavesFirst backs n (exactly forwards n s r) y))
+              → (needed forwards backs n s (suc r) y ≡ 0)
+              ⊎ (needed forwards backs n s (suc r) y ≡ suc (leavesFirst backs n (exactly forwards n s r) y))
               → on || pair ≡ true
           go y l p m (inl e) = or-left pair (any-numbers-of (onwardTo forwards _ x) n y l (and-of p (eq-eqb _ 0 e)))
           go y l p m (inr e) = or-right on (back y l m e)

@@ -88,7 +88,8 @@ module _ (forwards : List ℕ) (n : ℕ) (full : n ≡ 64) where
   unfolding widestWord widest widthInto
   word-widest s zero x i h = rw (lt-ltb s 64 (omega arith)) refl
   word-widest s (suc r) x i h =
-      greatest-same _ _ 64 (one (λ y l. word-widest s r y i (omega arith))) ∙ ap (greatestBelow (λ y. cond (picked (forwardsIn forwards x y)) (widest (forwardsIn forwards) n s r y) 0)) (sym full)
+      greatest-same _ _ 64 (one (λ y l. word-widest s r y i (omega arith)))
+      ∙ ap (greatestBelow (λ y. cond (picked (forwardsIn forwards x y)) (widest (forwardsIn forwards) n s r y) 0)) (sym full)
     where
       one : ((y : ℕ) → y < 64 → widestWord forwards (joinedRows forwards) s r y ≡ widest (forwardsIn forwards) n s r y)
           → (y : ℕ) → y < 64 → cond (has (getD (joinedRows forwards) x 0) y) (widestWord forwards (joinedRows forwards) s r y) 0
@@ -168,8 +169,9 @@ module _ (forwards backs : List ℕ) (n : ℕ) (full : n ≡ 64) (leadRows : Lis
       ≡ eqb (needed (forwardsIn forwards) (backsIn backs) n s r x) 0
   unfolding openings
   openings-has s steps r x h l k =
+      let ways = waysTo (joinedRows forwards) s steps in
       ap (λ (w : ℕ). has w x)
-      (filled-at 66 (opening (joinedRows forwards) leadRows (waysTo (joinedRows forwards) s steps)) (suc (min steps 65)) r (omega arith) (omega arith))
+      (filled-at 66 (opening (joinedRows forwards) leadRows ways) (suc (min steps 65)) r (omega arith) (omega arith))
       ∙ opening-has s steps r x h l k
 
   -- at the node found a walk of so many steps can start
