@@ -19,7 +19,7 @@ use Rattle.edge_word.specs.Coding.{forwardPick, backPick, entry, forwardsIn, ba
 use Rattle.walk_reach.specs.Layers.{withNode, wordBelow, layersTo}
 use Rattle.walk_reach.specs.NodeWordLaws.{bit-shifted, last-turn, word-none, word-or}
 use Rattle.walk_lead.specs.Leads.{firstFrom, leadsAlong, leadsThrough, leadRow, meetsIn, firstMeeting, returnFrom}
-use Rattle.walk_lead.specs.Leads.{layerAt, layersAt, wrapsFrom, wrapsAmong, firstWrap, wrapStart}
+use Rattle.walk_lead.specs.Leads.{layerAt, layersAt, wrapsFrom, wrapsAmong, wrapStart}
 use Rattle.walk_lead.specs.SearchLaws.{first-none, search-stop, search-turn, search-end}
 
 -- ---- words and tests
@@ -168,11 +168,12 @@ module _ (forwards backs reach : List ℕ) (v : ℕ) where
   wraps-end u e h l = last-turn (λ (k : ℕ). wrapsAmong forwards backs reach k v) 64 u e h l
 
 -- below no node there is none
-pub wrap-none : (forwards backs rows : List ℕ) (d below : ℕ) {end : ℕ} → end ≡ min below 64 → end ≡ 0 → 0 ≡ wrapStart forwards backs rows d below
-unfolding wrapStart firstWrap firstFrom
-wrap-none forwards backs rows d below a b = rw (sym a ∙ b) refl
+pub wrap-none : (forwards backs rows : List ℕ) (d below : ℕ) → below ≡ 0 → 0 ≡ wrapStart forwards backs rows d below
+unfolding wrapStart firstFrom
+wrap-none forwards backs rows d below z = rw z refl
 
-pub wrap-sought : (forwards backs rows : List ℕ) (d below : ℕ) {end r : ℕ} {reach : List ℕ} → end ≡ min below 64
-    → reach ≡ layersAt rows d → r ≡ firstWrap forwards backs reach end → r ≡ wrapStart forwards backs rows d below
+-- else it is found among the layers and below the end that are given
+pub wrap-sought : (forwards backs rows : List ℕ) (d below : ℕ) {end r : ℕ} {reach : List ℕ} → end ≡ min below 64 → reach ≡ layersAt rows d
+    → r ≡ firstFrom (wrapsAmong forwards backs reach 64) end 0 → r ≡ wrapStart forwards backs rows d below
 unfolding wrapStart
-wrap-sought forwards backs rows d below a b c = c ∙ ap₂ (firstWrap forwards backs) b a
+wrap-sought forwards backs rows d below a b c = c ∙ ap₂ (λ (l : List ℕ) (k : ℕ). firstFrom (wrapsAmong forwards backs l 64) k 0) b a

@@ -68,11 +68,7 @@ wrapsFrom forwards backs reach v u = meets (leadsThrough backs (entry forwards u
 unfoldable pub wrapsAmong : List ℕ → List ℕ → List ℕ → ℕ → ℕ → Bool
 wrapsAmong forwards backs reach n v = any (wrapsFrom forwards backs reach v) (numbers n)
 
--- the first node below `end` by way of which a pair leads so, or `end`
-unfoldable pub firstWrap : List ℕ → List ℕ → List ℕ → ℕ → ℕ
-firstWrap forwards backs reach end = firstFrom (wrapsAmong forwards backs reach 64) end 0
-
 -- the first node below `below` and 64 by way of which a dangerous pair leads from a node to one from which it is reached in at most d steps; else the
 -- lesser of `below` and 64
 unfoldable pub wrapStart : List ℕ → List ℕ → List ℕ → ℕ → ℕ → ℕ
-wrapStart forwards backs rows d below = firstWrap forwards backs (layersAt rows d) (min below 64)
+wrapStart forwards backs rows d below = firstFrom (wrapsAmong forwards backs (layersAt rows d) 64) (min below 64) 0

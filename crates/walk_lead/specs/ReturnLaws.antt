@@ -20,7 +20,7 @@ use Rattle.walk_reach.specs.Layers.{joinedRows, layer, layersTo}
 use Rattle.walk_reach.specs.NodeWordLaws.{word-in, word-inside, list-length, list-at}
 use Rattle.walk_reach.specs.LayerLaws.{layers-has}
 use Rattle.walk_lead.specs.Leads.{leadsAlong, leadsThrough, leadRow, leadRows, meetsIn, firstMeeting, returnFrom, shortestReturn}
-use Rattle.walk_lead.specs.Leads.{firstFrom, layerAt, layersAt, wrapsFrom, wrapsAmong, firstWrap, wrapStart}
+use Rattle.walk_lead.specs.Leads.{firstFrom, layerAt, layersAt, wrapsFrom, wrapsAmong, wrapStart}
 use Rattle.walk_lead.specs.SearchLaws.{first-passes, first-bound, first-least}
 
 -- the fewest steps of a way back from where a pair leads, for the two tables
@@ -33,6 +33,7 @@ Wraps forwards backs n d v = (u : ℕ) × (w : ℕ) × (u < n) × (w < n) × (da
     × (reaches (forwardsIn forwards) n u d w ≡ true)
 
 module _ (forwards backs : List ℕ) (n : ℕ) (full : n ≡ 64) where
+  -- the row of a node, and that it has nodes alone
   lead-at : (u : ℕ) → u < n → getD (leadRows forwards backs) u 0 ≡ leadRow forwards backs u
   unfolding leadRows
   lead-at u h = list-at (leadRow forwards backs) 64 u (omega arith) (omega arith)
@@ -84,12 +85,14 @@ module _ (forwards backs : List ℕ) (n : ℕ) (full : n ≡ 64) where
       let first = first-least (meetsAt u) 64 0 r zero-le (omega arith) p in
       let least = least-at (returnFrom (joinedRows forwards) (leadRows forwards backs)) 64 64 u (omega arith) in omega arith
 
+  -- 64 where none has any
   pub return-bound : returnIn forwards backs ≤ 64
   unfolding shortestReturn
   return-bound = least-bound (returnFrom (joinedRows forwards) (leadRows forwards backs)) 64 64
 
   -- ---- the start
 
+  -- the layer of a node
   reach-at : (d u : ℕ) → u < n → getD (layersAt (joinedRows forwards) d) u 0 ≡ layerAt (joinedRows forwards) d u
   unfolding layersAt
   reach-at d u h = list-at (layerAt (joinedRows forwards) d) 64 u (omega arith) (omega arith)
@@ -106,6 +109,7 @@ module _ (forwards backs : List ℕ) (n : ℕ) (full : n ≡ 64) where
       go (inl e) = ltb-true d 64 e
       go (inr e) = absurd (has-nonzero (layerAt (joinedRows forwards) d u) w h (none (ltb-false d 64 e)))
 
+  -- the nodes to which a pair leads from u by way of v
   through-has : (u v w : ℕ) → w < n
       → has (leadsThrough backs (entry forwards u v) v) w ≡ dangerousPicks (forwardsIn forwards u v) (backsIn backs v w)
   unfolding leadsThrough leadsAlong
@@ -119,6 +123,7 @@ module _ (forwards backs : List ℕ) (n : ℕ) (full : n ≡ 64) where
   abbrev tested : ℕ → ℕ → ℕ → Bool
   tested d v u = wrapsFrom forwards backs (layersAt (joinedRows forwards) d) v u
 
+  -- the search's test passes for just the nodes by way of which a pair leads so
   wraps-found : (d v : ℕ) → wrapsAmong forwards backs (layersAt (joinedRows forwards) d) n v ≡ true → Wraps forwards backs n d v
   unfolding wrapsAmong layerAt
   wraps-found d v h =
@@ -146,7 +151,7 @@ module _ (forwards backs : List ℕ) (n : ℕ) (full : n ≡ 64) where
   -- a pair by way of the node found leads so
   pub wrap-found : (d below : ℕ) → wrapStart forwards backs (joinedRows forwards) d below < below → below ≤ n
       → Wraps forwards backs n d (wrapStart forwards backs (joinedRows forwards) d below)
-  unfolding wrapStart firstWrap
+  unfolding wrapStart
   wrap-found d below h small =
       let test = wrapsAmong forwards backs (layersAt (joinedRows forwards) d) in
       let v = firstFrom (test 64) (min below 64) 0 in
@@ -156,12 +161,13 @@ module _ (forwards backs : List ℕ) (n : ℕ) (full : n ≡ 64) where
   pub wrap-least : (d below v u w : ℕ) → d < 64 → v < below → v < n → u < n → w < n
       → dangerousPicks (forwardsIn forwards u v) (backsIn backs v w) ≡ true → reaches (forwardsIn forwards) n u d w ≡ true
       → wrapStart forwards backs (joinedRows forwards) d below ≤ v
-  unfolding wrapStart firstWrap
+  unfolding wrapStart
   wrap-least d below v u w a b c i j h l =
       let test = wrapsAmong forwards backs (layersAt (joinedRows forwards) d) in
       first-least (test 64) (min below 64) 0 v zero-le (omega arith) (ap (λ (k : ℕ). test k v) (sym full) ∙ wraps-of d v u w a i j h l)
 
+  -- where none does, it is at most the bound
   pub wrap-bound : (d below : ℕ) → wrapStart forwards backs (joinedRows forwards) d below ≤ below
-  unfolding wrapStart firstWrap
+  unfolding wrapStart
   wrap-bound d below =
       let h = first-bound (wrapsAmong forwards backs (layersAt (joinedRows forwards) d) 64) (min below 64) 0 in omega arith

@@ -9,10 +9,10 @@ use edge_word::dangerous;
 use walk_reach::layers_to;
 use word_list::word_at;
 ghost use mathlib.Core.Path.{_≡_};
-ghost use Prim.Native.Nat.{_≤_, _<_, min};
+ghost use Prim.Native.Nat.{_<_, min};
 ghost use Rattle.walk_reach.specs.Layers.{withNode, layersTo};
 ghost use Rattle.walk_lead.specs.Leads.{leadsAlong, leadsThrough, leadRow, leadRows, firstMeeting, shortestReturn};
-ghost use Rattle.walk_lead.specs.Leads.{layerAt, layersAt, wrapsAmong, firstWrap, wrapStart};
+ghost use Rattle.walk_lead.specs.Leads.{layersAt, wrapsAmong, wrapStart};
 
 // The nodes of a word, and node w too where the forward edge of word e to v and the back edge from v to w are dangerous.
 fn with_lead(backs: &[u64], e: u64, v: usize, word: u64, w: usize) -> u64
@@ -72,20 +72,6 @@ pub fn lead_rows(forwards: &[u64], backs: &[u64]) -> [u64; NODES]
     rows
 }
 
-// The first of the layers that has one of the nodes, or 64 where none has.
-fn first_meeting(layers: &[u64; NODES], nodes: u64) -> usize
-    ensures { λ r. ⌜ r ≡ firstMeeting (now (layers .entry)) nodes ⌝ }
-{
-    let mut d: usize = 0;
-    while d < NODES {
-        if nodes & layers[d] != 0 {
-            return d;
-        }
-        d += 1;
-    }
-    NODES
-}
-
 // In how many steps u is reached from one of the nodes, or 64 where it is reached from none. No layer is worked out where there is no node.
 fn return_from(rows: &[u64; NODES], nodes: u64, u: usize) -> usize
     ensures { λ r. ⌜ r ≡ firstMeeting (layersTo (now (rows .entry)) u) nodes ⌝ }
@@ -94,7 +80,14 @@ fn return_from(rows: &[u64; NODES], nodes: u64, u: usize) -> usize
         return NODES;
     }
     let layers = layers_to(rows, u);
-    first_meeting(&layers, nodes)
+    let mut d: usize = 0;
+    while d < NODES {
+        if nodes & layers[d] != 0 {
+            return d;
+        }
+        d += 1;
+    }
+    NODES
 }
 
 // The lesser of two numbers.
@@ -121,22 +114,15 @@ pub fn shortest_return(rows: &[u64; NODES], leads: &[u64; NODES]) -> usize
     least
 }
 
-// The nodes from which u is reached in at most d steps; none for 64 steps or more.
-fn layer_at(rows: &[u64; NODES], u: usize, d: usize) -> u64
-    ensures { λ r. ⌜ r ≡ layerAt (now (rows .entry)) d u ⌝ }
-{
-    let layers = layers_to(rows, u);
-    word_at(&layers, d)
-}
-
-// For each node the nodes from which it is reached in at most d steps.
+// For each node the nodes from which it is reached in at most d steps; none for 64 steps or more.
 fn layers_at(rows: &[u64; NODES], d: usize) -> [u64; NODES]
     ensures { λ r. ⌜ r ≡ layersAt (now (rows .entry)) d ⌝ }
 {
     let mut reach = [0u64; NODES];
     let mut u: usize = 0;
     while u < NODES {
-        reach[u] = layer_at(rows, u, d);
+        let layers = layers_to(rows, u);
+        reach[u] = word_at(&layers, d);
         u += 1;
     }
     reach
@@ -159,21 +145,6 @@ fn wraps_at(forwards: &[u64], backs: &[u64], reach: &[u64; NODES], v: usize) -> 
     false
 }
 
-// The first node below `end` by way of which some dangerous pair leads so, or `end` where there is none.
-fn first_wrap(forwards: &[u64], backs: &[u64], reach: &[u64; NODES], end: usize) -> usize
-    requires { ⌜ end ≤ 64 ⌝ }
-    ensures { λ r. ⌜ r ≡ firstWrap (now (forwards .entry)) (now (backs .entry)) (now (reach .entry)) end ⌝ }
-{
-    let mut v: usize = 0;
-    while v < end {
-        if wraps_at(forwards, backs, reach, v) {
-            return v;
-        }
-        v += 1;
-    }
-    end
-}
-
 // The first node below `below`, and below 64, by way of which a dangerous pair leads from a node to one from which that node is reached in at most d
 // steps; where there is none, `below` or 64, whichever is less. A closed walk that begins with the pair's back edge begins at such a node.
 pub fn wrap_start(
@@ -185,10 +156,17 @@ pub fn wrap_start(
 ) -> usize
     ensures { λ r. ⌜ r ≡ wrapStart (now (forwards .entry)) (now (backs .entry)) (now (rows .entry)) d below ⌝ }
 {
-    let end = lesser(below, NODES);
-    if end == 0 {
+    if below == 0 {
         return 0;
     }
+    let end = lesser(below, NODES);
     let reach = layers_at(rows, d);
-    first_wrap(forwards, backs, &reach, end)
+    let mut v: usize = 0;
+    while v < end {
+        if wraps_at(forwards, backs, &reach, v) {
+            return v;
+        }
+        v += 1;
+    }
+    end
 }

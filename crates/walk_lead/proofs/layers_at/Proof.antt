@@ -1,6 +1,7 @@
--- After u turns the first u words are the layers of their nodes (list-turn); after 64 all are.
+-- After u turns the first u words are the layers of their nodes (list-turn, layer-read); after 64 all are.
 use Rattle.walk_reach.specs.NodeWordLaws.{list-turn, last-turn}
 use Rattle.walk_reach.specs.Layers.{listBelow}
+use Rattle.walk_lead.specs.LeadLaws.{layer-read}
 use Rattle.walk_lead.specs.Leads.{layerAt, layersAt}
 use native.Mathlib.Omega.{arith}
 use mathlib.Core.Path.{_≡_, refl}
@@ -19,8 +20,14 @@ loop-holds : tie.Need-loop-holds Inv-loop μ-loop
 unfolding listBelow
 loop-holds c = (omega arith, refl)
 
-layer-at-requires : tie.Need-layer-at-requires Inv-loop μ-loop
-layer-at-requires c κs = search needs
+layers-to-requires : tie.Need-layers-to-requires Inv-loop μ-loop
+layers-to-requires c κs = search needs
+
+slice-aggregate-word-at : tie.Need-slice-aggregate-word-at Inv-loop μ-loop
+slice-aggregate-word-at c = search needs
+
+word-at-requires : tie.Need-word-at-requires Inv-loop μ-loop
+word-at-requires c κs = search needs
 
 mul-reach : tie.Need-mul-reach Inv-loop μ-loop
 mul-reach c = search needs
@@ -35,7 +42,10 @@ loop-less : tie.Need-loop-less Inv-loop μ-loop
 loop-less c = search needs
 
 loop-again : tie.Need-loop-again Inv-loop μ-loop
-loop-again c = (omega arith, list-turn (layerAt _ _) _ (c .before .before .loop .inv .1) (c .layer-at .ensures) refl)
+loop-again c =
+    let c2 = c .before .before in
+    let read = layer-read _ _ _ (c2 .layers-to .ensures) (c .word-at .ensures) in
+    (omega arith, list-turn (layerAt _ _) _ (c2 .before .before .loop .inv .1) read refl)
 
 returns : tie.Need-returns Inv-loop μ-loop
 unfolding layersAt
@@ -48,7 +58,9 @@ layers-at-spec =
     Inv-loop
     μ-loop
     loop-holds
-    layer-at-requires
+    layers-to-requires
+    slice-aggregate-word-at
+    word-at-requires
     mul-reach
     array-write-reach
     add-u
