@@ -1,3 +1,5 @@
 pub mod FirstSteps
 pub mod GreedyLaws
 pub mod FirstLaws
+pub mod TakingLaws
+pub mod ChosenLaws
