@@ -3,3 +3,4 @@ pub mod GreedyLaws
 pub mod FirstLaws
 pub mod TakingLaws
 pub mod ChosenLaws
+pub mod AnswerLaws

@@ -3,7 +3,6 @@ use Rattle.walk_first.specs.FirstSteps.{chosenWord, chosenWords}
 use Rattle.walk_ways.specs.Ways.{filled}
 use Rattle.walk_ways.specs.FilledLaws.{filled-turn}
 use Rattle.walk_reach.specs.NodeWordLaws.{last-turn}
-use native.Mathlib.Numerals.{add-one}
 use borrow.Author.Needs.{needs}
 use native.Mathlib.Omega.{arith}
 use mathlib.Core.Path.{_≡_, refl, ap, sym, _∙_}
@@ -41,7 +40,7 @@ loop-less : tie.Need-loop-less Inv-loop μ-loop
 loop-less c = search needs
 
 loop-again : tie.Need-loop-again Inv-loop μ-loop
-loop-again c = (omega arith, rw add-one (filled-turn _ _ _ (c .before .before .loop .inv .1) (c .chosen-word .ensures) refl))
+loop-again c = (omega arith, filled-turn _ _ _ (c .before .before .loop .inv .1) (c .chosen-word .ensures) refl)
 
 returns : tie.Need-returns Inv-loop μ-loop
 unfolding chosenWords
