@@ -5,4 +5,3 @@ pub mod FieldLaws
 pub mod WordLaws
 pub mod Progress
 pub mod FieldStep
-pub mod FieldSteps

@@ -5,13 +5,14 @@ use spec_text::StatementKind;
 use text_number::FieldForm;
 use text_number::FieldRead;
 ghost use mathlib.Core.Path.{_≡_};
+ghost use mathlib.Core.List.{[], _∷_};
 ghost use Prim.Native.Nat.{_+_};
 ghost use lib.ListN.{drop};
 ghost use Rattle.spec_text.specs.Text.{lineOf, kindOf};
 ghost use Rattle.text_number.specs.Digits.{formOf};
-ghost use Rattle.text_fields.specs.Field.{fieldLength, setIf, stepAt, lineAfterWord};
+ghost use Rattle.text_fields.specs.Field.{fieldLength, numberIf, setIf, numbersBy, setsBy, stepAt, stepsAt, lineAfterWord};
 ghost use Rattle.text_fields.specs.Answer.{lineAnswer, valueOr4};
-ghost use Rattle.text_fields.specs.FieldStep.{kindAnswer, stepAnswer, NumberStep};
+ghost use Rattle.text_fields.specs.FieldStep.{kindAnswer, stepAnswer, fieldsAnswer};
 
 // The line that the bytes are, or that they are none.
 pub enum LineRead {
@@ -22,6 +23,12 @@ pub enum LineRead {
 // A field's value and where the field ends.
 enum FieldStep {
     Value(u64, usize),
+    Wrong,
+}
+
+// The values of three fields and where the last of them ends.
+enum FieldsRead {
+    Values(u64, u64, u64, usize),
     Wrong,
 }
 
@@ -99,24 +106,62 @@ fn kind_of(word: &[u8]) -> KindRead
     }
 }
 
-// A number where the kind has the field.
-fn next_number(bytes: &[u8], at: usize, there: bool) -> FieldStep
-    ensures { λ r. ⌜ NumberStep (now (bytes .entry)) at there r ⌝ }
+// The form of a field that holds a number where the kind has it.
+fn number_form(there: bool) -> FieldForm
+    ensures { λ r. ⌜ formOf r ≡ numberIf there ⌝ }
 {
     if there {
-        return next_field(bytes, at, FieldForm::Number);
+        return FieldForm::Number;
     }
-    next_field(bytes, at, FieldForm::Nothing)
+    FieldForm::Nothing
 }
 
-// A set where the kind has the field.
-fn next_set(bytes: &[u8], at: usize, there: bool) -> FieldStep
-    ensures { λ r. ⌜ stepAnswer (now (bytes .entry)) r ≡ stepAt (setIf there) (drop at (now (bytes .entry))) ⌝ }
+// The form of a field that holds a set where the kind has it.
+fn set_form(there: bool) -> FieldForm
+    ensures { λ r. ⌜ formOf r ≡ setIf there ⌝ }
 {
     if there {
-        return next_field(bytes, at, FieldForm::Set);
+        return FieldForm::Set;
     }
-    next_field(bytes, at, FieldForm::Nothing)
+    FieldForm::Nothing
+}
+
+// Three fields, each after the space at the place where the one before it ends.
+fn next_fields(bytes: &[u8], at: usize, f: FieldForm, g: FieldForm, h: FieldForm) -> FieldsRead
+    ensures { λ r. ⌜
+        fieldsAnswer (now (bytes .entry)) r ≡ stepsAt (formOf f ∷ formOf g ∷ formOf h ∷ []) (drop at (now (bytes .entry)))
+        ⌝ }
+{
+    let FieldStep::Value(x, x_end) = next_field(bytes, at, f) else {
+        return FieldsRead::Wrong;
+    };
+    let FieldStep::Value(y, y_end) = next_field(bytes, x_end, g) else {
+        return FieldsRead::Wrong;
+    };
+    let FieldStep::Value(z, end) = next_field(bytes, y_end, h) else {
+        return FieldsRead::Wrong;
+    };
+    FieldsRead::Values(x, y, z, end)
+}
+
+// The three numbers of a line whose kind has these facts.
+fn next_numbers(bytes: &[u8], at: usize, facts: u64) -> FieldsRead
+    ensures { λ r. ⌜ fieldsAnswer (now (bytes .entry)) r ≡ stepsAt (numbersBy facts) (drop at (now (bytes .entry))) ⌝ }
+{
+    let id = number_form(facts & line_kinds::ID != 0);
+    let rel = number_form(facts & line_kinds::REL != 0);
+    let to = number_form(facts & line_kinds::TO != 0);
+    next_fields(bytes, at, id, rel, to)
+}
+
+// The three sets of a line whose kind has these facts.
+fn next_sets(bytes: &[u8], at: usize, facts: u64) -> FieldsRead
+    ensures { λ r. ⌜ fieldsAnswer (now (bytes .entry)) r ≡ stepsAt (setsBy facts) (drop at (now (bytes .entry))) ⌝ }
+{
+    let reads = set_form(facts & line_kinds::READS != 0);
+    let writes = set_form(facts & line_kinds::WRITES != 0);
+    let tests = set_form(facts & line_kinds::TESTS != 0);
+    next_fields(bytes, at, reads, writes, tests)
 }
 
 // The line of a kind whose six fields stand after its word, from the place where the word ends.
@@ -124,30 +169,10 @@ fn line_after_word(bytes: &[u8], at: usize, kind: LineKind) -> LineRead
     ensures { λ r. ⌜ lineAnswer r ≡ valueOr4 (lineAfterWord kind (drop at (now (bytes .entry)))) ⌝ }
 {
     let facts = line_kinds::line_facts(kind);
-    let FieldStep::Value(id, id_end) = next_number(bytes, at, facts & line_kinds::ID != 0) else {
+    let FieldsRead::Values(id, rel, to, middle) = next_numbers(bytes, at, facts) else {
         return LineRead::Wrong;
     };
-    let FieldStep::Value(rel, rel_end) = next_number(bytes, id_end, facts & line_kinds::REL != 0)
-    else {
-        return LineRead::Wrong;
-    };
-    let FieldStep::Value(to, to_end) = next_number(bytes, rel_end, facts & line_kinds::TO != 0)
-    else {
-        return LineRead::Wrong;
-    };
-    let FieldStep::Value(reads, reads_end) = next_set(bytes, to_end, facts & line_kinds::READS != 0)
-    else {
-        return LineRead::Wrong;
-    };
-    let FieldStep::Value(writes, writes_end) = next_set(
-        bytes,
-        reads_end,
-        facts & line_kinds::WRITES != 0,
-    ) else {
-        return LineRead::Wrong;
-    };
-    let FieldStep::Value(tests, end) = next_set(bytes, writes_end, facts & line_kinds::TESTS != 0)
-    else {
+    let FieldsRead::Values(reads, writes, tests, end) = next_sets(bytes, middle, facts) else {
         return LineRead::Wrong;
     };
     if end < bytes.len() {
