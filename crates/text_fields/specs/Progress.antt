@@ -1,4 +1,5 @@
 -- A line read in steps: fields one after the other give the values of their forms, so three numbers and then three sets give the line.
+use mathlib.Core.Bool.{not}
 use mathlib.Core.List.{List, [], _∷_, _++_}
 use mathlib.Core.Option.{Option, none, some}
 use mathlib.Core.Path.{_≡_, refl, sym, ap, _∙_}
@@ -8,9 +9,9 @@ use lib.ListN.{length, drop, drop-of-length-le}
 use lib.Seq.{drop-cons}
 use Rattle.spec_text.specs.declared.LineKind.{LineKind}
 use Rattle.spec_text.specs.Text.{Form, formsOf, valuesOf, lineWith}
-use Rattle.line_kinds.specs.Kinds.{lineFacts}
+use Rattle.line_kinds.specs.Kinds.{lineFacts, lacksFact, hasId, hasRel, hasTo}
 use Rattle.line_kinds.specs.KindLaws.{forms-told}
-use Rattle.text_fields.specs.Field.{othersIn, formsWith, numberIf, stepAt, withStep, stepsAt, numbersBy, setsBy, lineFrom, lineAfterWord}
+use Rattle.text_fields.specs.Field.{othersIn, formsWith, numberIf, setIf, stepAt, withStep, stepsAt, numbersBy, setsBy, lineFrom, lineAfterWord}
 use Rattle.text_fields.specs.FieldLaws.{inFront, values-none, values-some, values-end, values-over, number-step-small}
 
 -- values after others
@@ -52,7 +53,7 @@ steps-read (form ∷ forms) more rest = go (stepAt form rest) refl (steps-read f
 -- the numbers and the sets are all fields of a line
 line-steps : (k : LineKind) {facts : ℕ} (rest : List ℕ) → facts ≡ lineFacts k
     → lineAfterWord k rest ≡ lineFrom k (joinedBy (stepsAt (numbersBy facts) rest) (setsBy facts))
-unfolding lineAfterWord numbersBy setsBy formsWith
+unfolding lineAfterWord numbersBy setsBy formsWith numberIf setIf
 line-steps k rest e = rw (e, forms-told k) (ap (lineFrom k) (steps-read (numbersBy (lineFacts k)) (setsBy (lineFacts k)) rest))
 
 sets-read : (facts : ℕ) (rest : List ℕ) → valuesOf (setsBy facts) (othersIn rest) ≡ joinedBy (stepsAt (setsBy facts) rest) []
@@ -113,9 +114,12 @@ steps-split form forms rest {n} {values} {later} e = go (stepAt form rest) refl 
 -- the three numbers are below 256
 pub numbers-small : (facts : ℕ) (rest : List ℕ) {id rel to : ℕ} {later : List ℕ}
     → stepsAt (numbersBy facts) rest ≡ some (id ∷ rel ∷ to ∷ [], later) → (id < 256) × (rel < 256) × (to < 256)
-unfolding numbersBy
+unfolding numbersBy numberIf
 numbers-small facts rest e =
     let first = steps-split _ _ rest e in
     let second = steps-split _ _ (first .0) (first .2) in
-    let third = steps-split _ _ (second .0) (second .2) in
-    (number-step-small _ rest (first .1), number-step-small _ (first .0) (second .1), number-step-small _ (second .0) (third .1))
+    let third = steps-split _ _ (second .0) (second .2) in (
+      number-step-small (not (lacksFact facts hasId)) rest (first .1),
+      number-step-small (not (lacksFact facts hasRel)) (first .0) (second .1),
+      number-step-small (not (lacksFact facts hasTo)) (second .0) (third .1),
+    )

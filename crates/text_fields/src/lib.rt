@@ -10,7 +10,7 @@ ghost use Prim.Native.Nat.{_+_};
 ghost use lib.ListN.{drop};
 ghost use Rattle.spec_text.specs.Text.{lineOf, kindOf};
 ghost use Rattle.text_number.specs.Digits.{formOf};
-ghost use Rattle.text_fields.specs.Field.{fieldLength, numberIf, setIf, numbersBy, setsBy, stepAt, stepsAt, lineAfterWord};
+ghost use Rattle.text_fields.specs.Field.{fieldLength, formIf, stepAt, stepsAt, lineAfterWord};
 ghost use Rattle.text_fields.specs.Answer.{lineAnswer, valueOr4};
 ghost use Rattle.text_fields.specs.FieldStep.{kindAnswer, stepAnswer, fieldsAnswer};
 
@@ -51,16 +51,26 @@ fn field_end(bytes: &[u8], at: usize) -> usize
     i
 }
 
-// The field after the space at a place, read by its form.
-fn next_field(bytes: &[u8], at: usize, form: FieldForm) -> FieldStep
-    ensures { λ r. ⌜ stepAnswer (now (bytes .entry)) r ≡ stepAt (formOf form) (drop at (now (bytes .entry))) ⌝ }
+// The form of a field: nothing but `-` where the kind lacks the field.
+fn form_if(there: bool, form: FieldForm) -> FieldForm
+    ensures { λ r. ⌜ formOf r ≡ formIf there (formOf form) ⌝ }
+{
+    if there {
+        return form;
+    }
+    FieldForm::Nothing
+}
+
+// The field after the space at a place, read by its form where the kind has it.
+fn next_field(bytes: &[u8], at: usize, form: FieldForm, there: bool) -> FieldStep
+    ensures { λ r. ⌜ stepAnswer (now (bytes .entry)) r ≡ stepAt (formIf there (formOf form)) (drop at (now (bytes .entry))) ⌝ }
 {
     if bytes.len() <= at {
         return FieldStep::Wrong;
     }
     let start = at + 1;
     let end = field_end(bytes, start);
-    let r = text_number::field_of(form, &bytes[start..end]);
+    let r = text_number::field_of(form_if(there, form), &bytes[start..end]);
     match r {
         FieldRead::Value(v) => FieldStep::Value(v, end),
         FieldRead::Wrong => FieldStep::Wrong,
@@ -106,62 +116,23 @@ fn kind_of(word: &[u8]) -> KindRead
     }
 }
 
-// The form of a field that holds a number where the kind has it.
-fn number_form(there: bool) -> FieldForm
-    ensures { λ r. ⌜ formOf r ≡ numberIf there ⌝ }
-{
-    if there {
-        return FieldForm::Number;
-    }
-    FieldForm::Nothing
-}
-
-// The form of a field that holds a set where the kind has it.
-fn set_form(there: bool) -> FieldForm
-    ensures { λ r. ⌜ formOf r ≡ setIf there ⌝ }
-{
-    if there {
-        return FieldForm::Set;
-    }
-    FieldForm::Nothing
-}
-
-// Three fields, each after the space at the place where the one before it ends.
-fn next_fields(bytes: &[u8], at: usize, f: FieldForm, g: FieldForm, h: FieldForm) -> FieldsRead
+// Three fields of one form, each where the kind has it and each after the space at the place where the one before it ends.
+fn next_fields(bytes: &[u8], at: usize, form: FieldForm, f: bool, g: bool, h: bool) -> FieldsRead
     ensures { λ r. ⌜
-        fieldsAnswer (now (bytes .entry)) r ≡ stepsAt (formOf f ∷ formOf g ∷ formOf h ∷ []) (drop at (now (bytes .entry)))
+        fieldsAnswer (now (bytes .entry)) r
+        ≡ stepsAt (formIf f (formOf form) ∷ formIf g (formOf form) ∷ formIf h (formOf form) ∷ []) (drop at (now (bytes .entry)))
         ⌝ }
 {
-    let FieldStep::Value(x, x_end) = next_field(bytes, at, f) else {
+    let FieldStep::Value(x, x_end) = next_field(bytes, at, form, f) else {
         return FieldsRead::Wrong;
     };
-    let FieldStep::Value(y, y_end) = next_field(bytes, x_end, g) else {
+    let FieldStep::Value(y, y_end) = next_field(bytes, x_end, form, g) else {
         return FieldsRead::Wrong;
     };
-    let FieldStep::Value(z, end) = next_field(bytes, y_end, h) else {
+    let FieldStep::Value(z, end) = next_field(bytes, y_end, form, h) else {
         return FieldsRead::Wrong;
     };
     FieldsRead::Values(x, y, z, end)
-}
-
-// The three numbers of a line whose kind has these facts.
-fn next_numbers(bytes: &[u8], at: usize, facts: u64) -> FieldsRead
-    ensures { λ r. ⌜ fieldsAnswer (now (bytes .entry)) r ≡ stepsAt (numbersBy facts) (drop at (now (bytes .entry))) ⌝ }
-{
-    let id = number_form(facts & line_kinds::ID != 0);
-    let rel = number_form(facts & line_kinds::REL != 0);
-    let to = number_form(facts & line_kinds::TO != 0);
-    next_fields(bytes, at, id, rel, to)
-}
-
-// The three sets of a line whose kind has these facts.
-fn next_sets(bytes: &[u8], at: usize, facts: u64) -> FieldsRead
-    ensures { λ r. ⌜ fieldsAnswer (now (bytes .entry)) r ≡ stepsAt (setsBy facts) (drop at (now (bytes .entry))) ⌝ }
-{
-    let reads = set_form(facts & line_kinds::READS != 0);
-    let writes = set_form(facts & line_kinds::WRITES != 0);
-    let tests = set_form(facts & line_kinds::TESTS != 0);
-    next_fields(bytes, at, reads, writes, tests)
 }
 
 // The line of a kind whose six fields stand after its word, from the place where the word ends.
@@ -169,10 +140,24 @@ fn line_after_word(bytes: &[u8], at: usize, kind: LineKind) -> LineRead
     ensures { λ r. ⌜ lineAnswer r ≡ valueOr4 (lineAfterWord kind (drop at (now (bytes .entry)))) ⌝ }
 {
     let facts = line_kinds::line_facts(kind);
-    let FieldsRead::Values(id, rel, to, middle) = next_numbers(bytes, at, facts) else {
+    let FieldsRead::Values(id, rel, to, middle) = next_fields(
+        bytes,
+        at,
+        FieldForm::Number,
+        facts & line_kinds::ID != 0,
+        facts & line_kinds::REL != 0,
+        facts & line_kinds::TO != 0,
+    ) else {
         return LineRead::Wrong;
     };
-    let FieldsRead::Values(reads, writes, tests, end) = next_sets(bytes, middle, facts) else {
+    let FieldsRead::Values(reads, writes, tests, end) = next_fields(
+        bytes,
+        middle,
+        FieldForm::Set,
+        facts & line_kinds::READS != 0,
+        facts & line_kinds::WRITES != 0,
+        facts & line_kinds::TESTS != 0,
+    ) else {
         return LineRead::Wrong;
     };
     if end < bytes.len() {
