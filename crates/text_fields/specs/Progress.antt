@@ -11,7 +11,8 @@ use Rattle.spec_text.specs.declared.LineKind.{LineKind}
 use Rattle.spec_text.specs.Text.{Form, formsOf, valuesOf, lineWith}
 use Rattle.line_kinds.specs.Kinds.{lineFacts, lacksFact, hasId, hasRel, hasTo}
 use Rattle.line_kinds.specs.KindLaws.{forms-told}
-use Rattle.text_fields.specs.Field.{othersIn, formsWith, numberIf, setIf, stepAt, withStep, stepsAt, numbersBy, setsBy, lineFrom, lineAfterWord}
+use Rattle.text_fields.specs.Field.{othersIn, formsWith, numberIf, setIf, stepAt, withStep, stepsAt, numbersBy, setsBy}
+use Rattle.text_fields.specs.Field.{lineFrom, lineAfterWord}
 use Rattle.text_fields.specs.FieldLaws.{inFront, values-none, values-some, values-end, values-over, number-step-small}
 
 -- values after others

@@ -1,5 +1,5 @@
--- The words are the counts of the state, and an `en` is in order in a body whose innermost block is a loop or a second arm: so `first_fault` is given
--- the tests that `checkAs` lists for `en`.
+-- The words are the counts of the state, and an `en` is in order in a body whose innermost block is a loop or a second arm: so `first_fault`
+-- is given the tests that `checkAs` lists for `en`.
 use Rattle.line_state.specs.StateSteps.{roomOf, orderedOf, namedAs, setsFitAs, isLinkOf}
 use Rattle.line_state.specs.StateWords.{stateIn}
 use borrow.Author.Needs.{needs}

@@ -1,4 +1,5 @@
--- The words are the counts of the state, and room and order ask the same of a loop and of a branch: so `first_fault` gives the number of either kind.
+-- The words are the counts of the state, and room and order ask the same of a loop and of a branch: so `first_fault` gives the number of
+-- either kind.
 use Rattle.line_state.specs.StateSteps.{roomOf, orderedOf, namedAs, setsFitAs, isLinkOf}
 use Rattle.line_state.specs.StateWords.{stateIn}
 use borrow.Author.Needs.{needs}

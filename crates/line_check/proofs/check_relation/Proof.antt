@@ -1,5 +1,5 @@
--- The words are the counts of the state: so `first_fault` is given the tests that `checkAs` lists for a relation, in order where all lines so far are
--- relations.
+-- The words are the counts of the state: so `first_fault` is given the tests that `checkAs` lists for a relation, in order where all lines so
+-- far are relations.
 use Rattle.line_state.specs.StateSteps.{roomOf, orderedOf, namedAs, setsFitAs, isLinkOf}
 use Rattle.line_state.specs.StateWords.{stateIn}
 use native.Mathlib.Omega.{arith}

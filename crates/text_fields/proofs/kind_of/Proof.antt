@@ -35,7 +35,8 @@ two c =
 
 -- so their number tells the kind
 told : (c : tie.After-wide2)
-    → kindBy (c .before .before .wide .result * 256 + c .wide2 .result) kinds ≡ kindOf (c .before .before .before .before .before .before .args .word .now)
+    → kindBy (c .before .before .wide .result * 256 + c .wide2 .result) kinds
+    ≡ kindOf (c .before .before .before .before .before .before .args .word .now)
 told c =
     rw (c .before .before .wide .ensures, c .wide2 .ensures)
     (kind-number _ (c .before .before .before .before .if1 .left) (omega (arith, two c, c .wide2 .ensures)))
