@@ -13,8 +13,8 @@ use Rattle.spec_base.specs.Basic.{all}
 use Rattle.law_base.specs.BoolLaws.{and-true}
 use Rattle.line_state.specs.StateSteps.{nextOf}
 use Rattle.line_state.specs.StateWords.{arrayIn, stateIn}
-use Rattle.line_take.specs.Stores.{putIn, cellsIn, stepIn, Store, fits, storeIn, storesIn, arrayAfter, arrayAfterStores, countAfter, countAfterStores}
-use Rattle.line_take.specs.Stores.{stateAfterStores, Took}
+use Rattle.line_take.specs.Stores.{putIn, cellsIn, stepIn, Store, fits, storeIn, storesIn, arrayAfter, arrayAfterStores}
+use Rattle.line_take.specs.Stores.{countAfter, countAfterStores, stateAfterStores, Took}
 use Rattle.line_take.specs.Stores.Store.{cell, count, step}
 
 -- a store below, within or above an array

@@ -47,20 +47,30 @@ take-kind-spec =
     (λ c. c .match .keys9)
     (λ c κs. (omega arith, c .before .before .before .before .pre))
     (λ c. c .before .words .given)
-    (λ c. took (c .before .before .before .before .before .before .before) (c .before .before .before .before .enum-told .given .1) (c .before .before .take-relation .ensures))
+    (λ c. let arm = c .before .before .before .before in
+    took (arm .before .before .before) (arm .enum-told .given .1) (c .before .before .take-relation .ensures))
     (λ c. c .before .words2 .given)
-    (λ c. took (c .before .before .before .before .before .before .before) (c .before .before .before .before .enum-told2 .given .1) (c .before .before .take-key .ensures))
+    (λ c. let arm = c .before .before .before .before in
+    took (arm .before .before .before) (arm .enum-told2 .given .1) (c .before .before .take-key .ensures))
     (λ c. c .before .words3 .given)
-    (λ c. took (c .before .before .before .before .before .before .before) (c .before .before .before .before .enum-told3 .given .1) (c .before .before .take-program .ensures))
+    (λ c. let arm = c .before .before .before .before in
+    took (arm .before .before .before) (arm .enum-told3 .given .1) (c .before .before .take-program .ensures))
     (λ c. c .before .words4 .given)
-    (λ c. took (c .before .before .before .before .before .before .before .before) (c .before .before .before .before .before .kind .given .1) (c .before .before .take-statement .ensures))
+    (λ c. let arm = c .before .before .before .before .before in
+    took (arm .before .before .before) (arm .kind .given .1) (c .before .before .take-statement .ensures))
     (λ c. c .before .words5 .given)
-    (λ c. took (c .before .before .before .before .before .before .before) (c .before .before .before .before .enum-told4 .given .1) (c .before .before .take-opening .ensures))
+    (λ c. let arm = c .before .before .before .before in
+    took (arm .before .before .before) (arm .enum-told4 .given .1) (c .before .before .take-opening .ensures))
     (λ c. c .before .words6 .given)
-    (λ c. took (c .before .before .before .before .before .before .before) (c .before .before .before .before .enum-told5 .given .1) (c .before .before .take-opening2 .ensures))
+    (λ c. let arm = c .before .before .before .before in
+    took (arm .before .before .before) (arm .enum-told5 .given .1) (c .before .before .take-opening2 .ensures))
     (λ c. c .before .words7 .given)
-    (λ c. took (c .before .before .before .before .before .before .before) (c .before .before .before .before .enum-told6 .given .1) (c .before .before .take-second .ensures))
+    (λ c. let arm = c .before .before .before .before in
+    took (arm .before .before .before) (arm .enum-told6 .given .1) (c .before .before .take-second .ensures))
     (λ c. c .before .words8 .given)
-    (λ c. took (c .before .before .before .before .before .before .before) (c .before .before .before .before .enum-told7 .given .1) (c .before .before .take-closing .ensures))
+    (λ c. let arm = c .before .before .before .before in
+    took (arm .before .before .before) (arm .enum-told7 .given .1) (c .before .before .take-closing .ensures))
     (λ c. c .before .words9 .given)
-    (λ c. took (c .before .before .before .before .before .before .before) (c .before .before .before .before .enum-told8 .given .1) (took-link (c .before .before .before .before .before .before .before .pre) (c .before .before .count-line .ensures))))
+    (λ c. let arm = c .before .before .before .before in
+    took (arm .before .before .before) (arm .enum-told8 .given .1)
+    (took-link (arm .before .before .before .pre) (c .before .before .count-line .ensures))))
