@@ -1,7 +1,6 @@
 -- Each arm calls the tests of its kind, and the line's tests are those of its own kind (check-kind); loops and branches share one function.
 use mathlib.Core.Path.{_≡_}
 use Prim.Native.Nat.{ℕ}
-use borrow.Author.Needs.{needs}
 use Rattle.spec_text.specs.declared.LineKind.{LineKind}
 use Rattle.line_state.specs.StateSteps.{checkAs, checkOf}
 use Rattle.line_state.specs.StateWords.{stateIn}
@@ -19,24 +18,24 @@ pub check-spec : {M : Type 1} → statement M
 check-spec =
     tie.close
     (tie.spec
-    (λ c. search needs)
-    (λ c κs. search needs)
-    (λ c. search needs)
-    (λ c κs. search needs)
-    (λ c. search needs)
-    (λ c κs. search needs)
-    (λ c. search needs)
-    (λ c κs. search needs)
-    (λ c. search needs)
-    (λ c κs. search needs)
-    (λ c. search needs)
-    (λ c κs. search needs)
-    (λ c. search needs)
-    (λ c κs. search needs)
-    (λ c. search needs)
-    (λ c κs. search needs)
-    (λ c. search needs)
-    (λ c κs. search needs)
+    (λ c. c .match .keys1)
+    (λ c κs. tt)
+    (λ c. c .match .keys2)
+    (λ c κs. tt)
+    (λ c. c .match .keys3)
+    (λ c κs. tt)
+    (λ c. c .match .keys4)
+    (λ c κs. tt)
+    (λ c. c .match .keys5)
+    (λ c κs. tt)
+    (λ c. c .match .keys6)
+    (λ c κs. tt)
+    (λ c. c .match .keys7)
+    (λ c κs. tt)
+    (λ c. c .match .keys8)
+    (λ c κs. tt)
+    (λ c. c .match .keys9)
+    (λ c κs. tt)
     (λ c. tested (c .before .before .before .before) (c .before .enum-told .given .1) (c .check-relation .ensures))
     (λ c. tested (c .before .before .before .before) (c .before .enum-told2 .given .1) (c .check-key .ensures))
     (λ c. tested (c .before .before .before .before) (c .before .enum-told3 .given .1) (c .check-program .ensures))
