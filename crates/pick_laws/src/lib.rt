@@ -26,6 +26,3 @@ pub enum Going {
     Closing,
     Ending(u64),
 }
-
-// The words of a step in the area of a walk.
-pub const STEP_WORDS: usize = 4;
