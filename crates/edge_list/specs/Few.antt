@@ -15,7 +15,7 @@ use Rattle.spec_graph.specs.Edge as E
 use Rattle.spec_report.specs.State.{StateRefusal, tooMany}
 use Rattle.spec_report.specs.Refusals.{taken-given}
 use Rattle.place_row.specs.RowTable.{rowsOf, tableOf}
-use Rattle.edge_count.specs.declared.Edge.{Edge}
+use Rattle.edge_record.specs.declared.Edge.{Edge}
 use Rattle.edge_count.specs.declared.Counts.{Counts}
 use Rattle.edge_count.specs.Slots.{tableEdges, tableCounts, slots, countsBelow}
 use Rattle.edge_count.specs.SlotLaws.{rows-small, edges-few as slots-few}

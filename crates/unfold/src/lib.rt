@@ -5,6 +5,7 @@ use unfold_bounds::totals_refused;
 use unfold_count::count_all;
 use unfold_count::count_run;
 use unfold_laws::PROGRAM;
+use unfold_laws::UNFOLDINGS;
 use unfold_laws::UnfoldingTable;
 use unfold_write::write_run;
 use value_given::is_given;
@@ -25,9 +26,9 @@ ghost use Rattle.unfold.specs.PieceTable.{added, table};
 pub struct Unfolded {
     pub refusal: u8,
     pub count: u64,
-    pub program: [u8; 64],
-    pub start: [u64; 64],
-    pub length: [u64; 64],
+    pub program: [u8; UNFOLDINGS],
+    pub start: [u64; UNFOLDINGS],
+    pub length: [u64; UNFOLDINGS],
 }
 
 // One row more of the table.
@@ -133,9 +134,9 @@ fn empty_table() -> UnfoldingTable
     UnfoldingTable {
         count: 0,
         used: 0,
-        program: [0u8; 64],
-        start: [0u64; 64],
-        length: [0u64; 64],
+        program: [0u8; UNFOLDINGS],
+        start: [0u64; UNFOLDINGS],
+        length: [0u64; UNFOLDINGS],
     }
 }
 
@@ -162,9 +163,9 @@ fn refused(number: u8) -> Unfolded
     Unfolded {
         refusal: number,
         count: 0,
-        program: [0u8; 64],
-        start: [0u64; 64],
-        length: [0u64; 64],
+        program: [0u8; UNFOLDINGS],
+        start: [0u64; UNFOLDINGS],
+        length: [0u64; UNFOLDINGS],
     }
 }
 
