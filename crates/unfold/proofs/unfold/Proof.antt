@@ -26,18 +26,9 @@ use Rattle.value_tables.proofs.id_tables.Reads as id-tables-reads
 use Rattle.unfold.proofs.refused.Reads as refused-reads
 use Rattle.unfold.proofs.unfold_tables.Reads as unfold-tables-reads
 
-is-given-requires : tie.Need-is-given-requires
-is-given-requires c κs = search needs
-
-refused-requires : tie.Need-refused-requires
-refused-requires c κs = search needs
-
 returns : tie.Need-returns
 returns c =
     not-given-ids _ _ _ (c .before .before .is-given .ensures .no (not-true _ (c .before .if1 .taken))) (c .refused .ensures)
-
-id-tables-requires : tie.Need-id-tables-requires
-id-tables-requires c κs = search needs
 
 array-share-prefix-codes : tie.Need-array-share-prefix-codes
 array-share-prefix-codes c =
@@ -78,9 +69,6 @@ slice-aggregate-unfold-tables-2 c =
     (ids-length (entry .args .w) (c6 .is-given .ensures .yes (not-false _ (c5 .if1 .left))) (c4 .id-tables .result .words)
     (ids-words _ _ (c4 .id-tables .ensures)))
 
-slice-aggregate-unfold-tables-3 : tie.Need-slice-aggregate-unfold-tables-3
-slice-aggregate-unfold-tables-3 c = search needs
-
 unfold-tables-requires : tie.Need-unfold-tables-requires
 unfold-tables-requires c κs =
     let c6 = c .before .before .before .before .before .before in
@@ -89,9 +77,6 @@ unfold-tables-requires c κs =
     let entry = c8 .before .before in
     ready-ids (entry .args .w) (c8 .is-given .ensures .yes (not-false _ (c7 .if1 .left))) _ _ (ids-codes _ _ (c6 .id-tables .ensures))
     (ids-words _ _ (c6 .id-tables .ensures))
-
-same-length : tie.Need-same-length
-same-length c = search needs
 
 returns-2 : tie.Need-returns-2
 returns-2 c =
@@ -106,15 +91,15 @@ pub unfold-spec : {M : Type 1} → statement M
 unfold-spec =
     tie.close
     (tie.spec
-    is-given-requires
-    refused-requires
+    (λ c κs. search needs)
+    (λ c κs. search needs)
     returns
-    id-tables-requires
+    (λ c κs. search needs)
     array-share-prefix-codes
     slice-aggregate-unfold-tables
     array-share-prefix-words
     slice-aggregate-unfold-tables-2
-    slice-aggregate-unfold-tables-3
+    (λ c. search needs)
     unfold-tables-requires
-    same-length
+    (λ c. search needs)
     returns-2)

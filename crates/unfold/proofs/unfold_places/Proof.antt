@@ -28,18 +28,9 @@ use Rattle.value_tables.proofs.place_tables.Reads as place-tables-reads
 use Rattle.unfold.proofs.refused.Reads as refused-reads
 use Rattle.unfold.proofs.unfold_tables.Reads as unfold-tables-reads
 
-is-given-requires : tie.Need-is-given-requires
-is-given-requires c κs = search needs
-
-refused-requires : tie.Need-refused-requires
-refused-requires c κs = search needs
-
 returns : tie.Need-returns
 returns c =
     not-given-places _ _ _ (c .before .before .is-given .ensures .no (not-true _ (c .before .if1 .taken))) (c .refused .ensures)
-
-place-tables-requires : tie.Need-place-tables-requires
-place-tables-requires c κs = search needs
 
 array-share-prefix-codes : tie.Need-array-share-prefix-codes
 array-share-prefix-codes c =
@@ -111,9 +102,6 @@ unfold-tables-requires c κs =
     (places-codes _ _ (c7 .place-tables .ensures)) (places-words _ _ (c7 .place-tables .ensures))
     (places-marks _ _ (c7 .place-tables .ensures))
 
-same-length : tie.Need-same-length
-same-length c = search needs
-
 returns-2 : tie.Need-returns-2
 returns-2 c =
     let c10 = c .before .before .before .before .before .before .before .before .before .before in
@@ -128,10 +116,10 @@ pub unfold-places-spec : {M : Type 1} → statement M
 unfold-places-spec =
     tie.close
     (tie.spec
-    is-given-requires
-    refused-requires
+    (λ c κs. search needs)
+    (λ c κs. search needs)
     returns
-    place-tables-requires
+    (λ c κs. search needs)
     array-share-prefix-codes
     slice-aggregate-unfold-tables
     array-share-prefix-words
@@ -139,5 +127,5 @@ unfold-places-spec =
     array-share-prefix-marks
     slice-aggregate-unfold-tables-3
     unfold-tables-requires
-    same-length
+    (λ c. search needs)
     returns-2)
