@@ -9,8 +9,7 @@ use unfold_laws::UNFOLDINGS;
 use unfold_laws::UnfoldingTable;
 use unfold_write::write_run;
 use value_given::is_given;
-use value_tables::id_tables;
-use value_tables::place_tables;
+use value_tables::write_tables;
 ghost use mathlib.Core.List.{[]};
 ghost use mathlib.Core.Path.{_≡_};
 ghost use Prim.Native.Nat.{_+_, _-_, _<_};
@@ -207,9 +206,9 @@ pub fn unfold(w: Workload, area: &mut [u64]) -> Unfolded
         return refused(21);
     }
     let n = w.count;
-    let t = id_tables(w);
+    let t = write_tables(w);
     let codes = t.codes;
-    let words = t.words;
+    let words = t.ids;
     let marks = [0u32; 1];
     unfold_tables(&codes[..n], &words[..n], &marks[..1], area)
 }
@@ -222,9 +221,9 @@ pub fn unfold_places(w: Workload, area: &mut [u64]) -> Unfolded
         return refused(21);
     }
     let n = w.count;
-    let t = place_tables(w);
+    let t = write_tables(w);
     let codes = t.codes;
-    let words = t.words;
+    let words = t.numbers;
     let marks = t.marks;
     unfold_tables(&codes[..n], &words[..n], &marks[..n], area)
 }
