@@ -95,10 +95,13 @@ pub +write-block+write-run-spec : {M : Type 1} → statement M
     (λ c κs. search needs)
     (λ c.
     let first = c .before .before .before .before .before .before in
+    let entry = first .before .before .before .before .before .before .before .before .before .before .before in
+    let room = entry .good .1 .1 .1 .1 .1 .1 .1 .0 in
     omega (
       arith,
-      lays-inside _ _ (c .before .before .before .before .before .before .before .before .before .before .before .before .before .before .before .before .before .args .out .now) _ _ _ _ (first .write-run2 .ensures .lays) (c .before .before .write-run3 .ensures .lays),
-      (c .before .before .before .before .before .before .before .before .before .before .before .before .before .before .before .before .before .good .1 .1 .1 .1 .1 .1 .1 .0),
+      lays-inside _ _ (entry .args .out .now) _ _ _ _ (first .write-run2 .ensures .lays)
+          (c .before .before .write-run3 .ensures .lays),
+      room,
     ))
     (λ c. search needs)
     (λ c.
@@ -158,11 +161,9 @@ pub +write-block+write-run-spec : {M : Type 1} → statement M
     (λ c κs. search needs)
     (λ c.
     let first = c .before .before .before .before .before .before .before in
-    omega (
-      arith,
-      lays-inside _ _ (c .before .before .before .before .before .before .before .before .before .before .before .before .before .before .before .before .before .before .before .args .out .now) _ _ _ _ (first .lay-word .ensures) (c .before .before .write-run .ensures .lays),
-      (c .before .before .before .before .before .before .before .before .before .before .before .before .before .before .before .before .before .before .before .good .1 .1 .1 .1 .1 .1 .1 .0),
-    ))
+    let entry = first .before .before .before .before .before .before .before .before .before .before .before .before in
+    let room = entry .good .1 .1 .1 .1 .1 .1 .1 .0 in
+    omega (arith, lays-inside _ _ (entry .args .out .now) _ _ _ _ (first .lay-word .ensures) (c .before .before .write-run .ensures .lays), room))
     (λ c. search needs)
     (λ c.
     let c4 = c .before .before .before .before in
@@ -187,11 +188,9 @@ pub +write-block+write-run-spec : {M : Type 1} → statement M
     (λ c κs. search needs)
     (λ c.
     let first = c .before .before .before .before .before .before in
-    omega (
-      arith,
-      lays-inside _ _ (c .before .before .before .before .before .before .before .before .before .before .before .before .before .before .before .before .before .before .before .args .out .now) _ _ _ _ (first .write-block .ensures) (c .before .before .write-run2 .ensures .lays),
-      (c .before .before .before .before .before .before .before .before .before .before .before .before .before .before .before .before .before .before .before .good .1 .1 .1 .1 .1 .1 .1 .0),
-    ))
+    let entry = first .before .before .before .before .before .before .before .before .before .before .before .before .before in
+    let room = entry .good .1 .1 .1 .1 .1 .1 .1 .0 in
+    omega (arith, lays-inside _ _ (entry .args .out .now) _ _ _ _ (first .write-block .ensures) (c .before .before .write-run2 .ensures .lays), room))
     (λ c. search needs)
     (λ c.
     let c6 = c .before .before .before .before .before .before in
