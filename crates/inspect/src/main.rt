@@ -2,11 +2,11 @@
 // are words and file names in order: `--read`, `--unfold`, `--edges`, `--report` and `--areas` say what is printed of the files after them.
 
 use check::same;
-use edge_count::Edge;
-use edge_count::Found;
 use edge_list::EdgeAnswer;
 use edge_list::EdgeCounts;
 use edge_put::Put;
+use edge_record::Edge;
+use edge_record::Found;
 use libc::STDOUT_FILENO;
 use place_row::ROWS;
 use place_row::TABLE_WORDS;

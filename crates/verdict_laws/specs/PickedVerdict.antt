@@ -13,7 +13,6 @@ use Rattle.law_base.specs.BoolLaws.{or-false}
 use Rattle.spec_text.specs.declared.Line.{Line}
 use Rattle.spec_text.specs.declared.Workload.{Workload}
 use Rattle.spec_text.specs.Value.{Given, linesOf}
-use Rattle.law_text.specs.ValueLaws.{given-read}
 use Rattle.spec_graph.specs.Unfolding.{Node, nodesOf}
 use Rattle.spec_graph.specs.Graph.{isBack}
 use Rattle.spec_graph.specs.Edge.{edgesOf, graphOf}
@@ -23,7 +22,8 @@ use Rattle.spec_report.specs.State.{statementsIn, tooMany, countsOf, summaryGra
 use Rattle.place_row.specs.declared.Row.{Row}
 use Rattle.place_row.specs.RowTable.{rowsOf, tableOf, tableRows}
 use Rattle.place_row.specs.RowTableLaws.{KeysSmall, table-rows}
-use Rattle.place_laws.specs.Placed.{keys-below, rowsOf-length, accepted-edges}
+use Rattle.node_laws.specs.GivenNodes.{given-places}
+use Rattle.place_laws.specs.Placed.{rowsOf-length, given-edges}
 use Rattle.edge_count.specs.Slots.{tableEdges, tableCounts}
 use Rattle.edge_word.specs.Greatest.{GreatestWords, greatest-picked}
 use Rattle.walk_find.specs.TableWalk.{tableWalk}
@@ -71,7 +71,7 @@ unfolding tooMany summaryGraph countsOf picksOf tableCounts
 given-picked w r given fits picked = record {
   edges = ap (λ (p : PickedEdges). p .edges) picked ∙ ap length same;
   back = ap (λ (p : PickedEdges). p .back) picked ∙ ap (count (λ e. isBack (e .flow))) same;
-  verdict = picks-verdict (nodesOf (linesOf w)) few statements (keys-below (given .text) (linesOf w) (given-read given)) r picked;
+  verdict = picks-verdict (nodesOf (linesOf w)) few statements (λ n m. given-places given n m .keys) r picked;
 }
   where
     both : (ltb 64 (length (nodesOf (linesOf w))) ≡ false) × (ltb 512 (statementsIn (nodesOf (linesOf w))) ≡ false)
@@ -84,4 +84,4 @@ given-picked w r given fits picked = record {
     statements = ltb-false 512 (statementsIn (nodesOf (linesOf w))) (both .1)
 
     same : tableEdges (tableOf (rowsOf (nodesOf (linesOf w)))) ≡ edgesOf (nodesOf (linesOf w))
-    same = accepted-edges (given .text) (linesOf w) (given-read given) fits
+    same = given-edges given fits
