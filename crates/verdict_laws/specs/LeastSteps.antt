@@ -6,9 +6,9 @@ use Prim.Native.Nat.{ℕ, _≤_, _<_}
 use native.Mathlib.Omega.{arith}
 use lib.ListN.{length, getD}
 use Rattle.law_base.specs.ListLaws.{map-member}
-use Rattle.spec_graph.specs.Graph.{Flow, Graph, isBack}
+use Rattle.spec_graph.specs.Graph.{Flow, isBack}
 use Rattle.spec_graph.specs.Unfolding.{Node}
-use Rattle.spec_graph.specs.Edge.{Place, at, loosens, placesOf, graphOf}
+use Rattle.spec_graph.specs.Edge.{Place, loosens, placesOf, graphOf}
 use Rattle.spec_report.specs.State.{statementsIn}
 use Rattle.place_row.specs.declared.Row.{Row}
 use Rattle.place_row.specs.RowTable.{rowOf, rowsOf, rowStands, tableRows}

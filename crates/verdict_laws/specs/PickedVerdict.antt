@@ -27,7 +27,7 @@ use Rattle.walk_first.specs.FirstSteps.{Held}
 use Rattle.verdict_laws.specs.Tables.{nodes-held}
 
 -- the table's rows are the nodes' rows
-pub rows-same : (nodes : List Node) → statementsIn nodes ≤ 512 → tableRows (tableOf (rowsOf nodes)) ≡ rowsOf nodes
+rows-same : (nodes : List Node) → statementsIn nodes ≤ 512 → tableRows (tableOf (rowsOf nodes)) ≡ rowsOf nodes
 rows-same nodes statements = table-rows (rowsOf nodes) (let e = rowsOf-length nodes in omega arith)
 
 -- what is told of a workload: P1 its counts, and that the table of its places and what is picked from it hold its summary graph
