@@ -1,7 +1,7 @@
 -- Some row is loose where one that is looked at is, and none is where each of them is not.
 use mathlib.Core.Path.{_≡_, refl, sym, ap, _∙_}
 use mathlib.Core.Bool.{Bool, true, false}
-use mathlib.Core.List.{List, map}
+use mathlib.Core.List.{List}
 use mathlib.Core.Logic.{_⊎_, inl, inr}
 use Prim.Native.Nat.{ℕ, _+_, _≤_, _<_}
 use native.Mathlib.Omega.{arith}
@@ -15,6 +15,7 @@ use Rattle.edge_kinds.specs.KindLaws.{told}
 use Rattle.place_row.specs.declared.Row.{Row}
 use Rattle.place_row.specs.RowTable.{rowAt, rowCount, tableRows}
 use Rattle.walk_step.specs.LeastStep.{looseRow, looseAt}
+use Rattle.walk_step.specs.StepTurns.{NoneBefore}
 
 -- ---- one row
 
@@ -33,10 +34,6 @@ module _ (x place : ℕ) (p : Row) where
   loose-told e f h = rw (eq-eqb (p .node) x e, eq-eqb (p .place) place f) (h ∙ told (p .kind) .loosens)
 
 -- ---- one row after the other
-
--- the first k rows are not loose
-unfoldable pub NoneBefore : List ℕ → ℕ → ℕ → ℕ → Type 0
-NoneBefore table x place k = (i : ℕ) → i < k → looseRow x place (rowAt table i) ≡ false
 
 module _ (table : List ℕ) (x place : ℕ) where
   -- what is promised, row by row

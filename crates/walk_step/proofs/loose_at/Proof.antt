@@ -1,5 +1,6 @@
--- The rows before the one looked at are not loose (none-turn): the first that is decides (loose-found), and after the last there is none (loose-none).
-use Rattle.walk_step.specs.LooseLaws.{NoneBefore, none-first, none-turn, loose-found, loose-none}
+-- The rows before the one looked at are not loose (none-turn): the first that is decides (loose-found); after the last there is none (loose-none).
+use Rattle.walk_step.specs.StepTurns.{NoneBefore}
+use Rattle.walk_step.specs.LooseLaws.{none-first, none-turn, loose-found, loose-none}
 use Prim.Native.Nat.{_-_}
 use borrow.Author.Needs.{needs}
 use Rattle.walk_step.proofs.loose_at.Statement.{statement}
