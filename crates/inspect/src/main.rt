@@ -16,7 +16,7 @@ use spec_text::Line;
 use spec_text::LineKind;
 use spec_text::Workload;
 use verdict_told::Verdict;
-use walk_find::WALK_WORDS;
+use walk_first::WALK_WORDS;
 ghost use Rattle.io.specs.Counts.{Counts};
 ghost use Rattle.edge_list.specs.EdgesSettled.{PutSettled};
 

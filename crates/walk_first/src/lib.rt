@@ -32,10 +32,11 @@ ghost use Rattle.pick_laws.specs.Demands.{goingAfter};
 ghost use Rattle.walk_first.specs.FirstSteps.{opensAt, prepared, stepsFrom, chosenWord, chosenWords, putWords, putSteps};
 ghost use Rattle.walk_first.specs.FirstSteps.{refusalIn, stepsIn, TakenAs, Searched, WalkAnswered};
 
-// The words of the longest walk that is shown: 65 steps. Every node counts where all bits are set.
-const WALK_WORDS: usize = 260;
+// The words of the longest walk that is shown: 65 steps.
+pub const WALK_WORDS: usize = 260;
 
-const EVERY_NODE: u64 = 18446744073709551615;
+// The word of all nodes.
+pub const EVERY_NODE: u64 = 18446744073709551615;
 
 // Writes the four words of step k: they stand from word k * 4 on.
 fn put_words(out: &mut [u64], k: usize, a: u64, b: u64, c: u64, d: u64)
