@@ -179,11 +179,11 @@ impl<'a, P: Places> Ways<'a, P> {
         self.part.graph.places_of(node).find(|&p| self.part.graph.turned[p] & self.home[left - 1] != 0)
     }
 
-    /// The ways home of a walk that begins with a back edge at this place, which its last step has to open.
-    fn opening_ways(&self, place: usize) -> Layers {
+    /// The ways home of a walk that begins with a back edge: its last step has to open it, so it leaves one of these nodes.
+    fn opening_ways(&self, openers: u64) -> Layers {
         let mut layers = [0; MAX_STEPS + 1];
         layers[0] = 1 << self.start;
-        layers[1] = self.part.graph.openers[place] & self.part.counted;
+        layers[1] = openers;
         for left in 2..self.steps {
             layers[left] = union(&self.part.from, layers[left - 1]);
         }
@@ -218,13 +218,13 @@ impl<'a, P: Places> Ways<'a, P> {
     fn first_choice(&mut self, left: usize) -> Choice {
         let graph = self.part.graph;
         // the ways hang on the openers alone, which many places share
-        let (mut shared, mut opening) = (0, [0; MAX_STEPS + 1]);
+        let (mut openers, mut opening) = (0, [0; MAX_STEPS + 1]);
         for (leaves, p) in graph.places_of(self.start).enumerate() {
-            if graph.turned[p] != 0 && graph.openers[p] & self.part.counted != shared {
-                shared = graph.openers[p] & self.part.counted;
-                opening = self.opening_ways(p);
+            if graph.turned[p] != 0 && graph.openers[p] & self.part.counted != openers {
+                openers = graph.openers[p] & self.part.counted;
+                opening = self.opening_ways(openers);
             }
-            let back = if shared == graph.openers[p] & self.part.counted { graph.turned[p] & opening[left] } else { 0 };
+            let back = graph.turned[p] & opening[left];
             if let Some(choice) = self.choice_at(p, leaves, left, Before::Nothing, back) {
                 if choice.back {
                     (self.home, self.owed) = (opening, Some(leaves));

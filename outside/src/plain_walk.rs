@@ -4,8 +4,8 @@
 
 use crate::verdict::Step;
 
-/// An edge of any graph, with what the rules on walks ask of it. In the order of their fields, with flow by its place in `flow`, edges
-/// come as the steps of lists do: a step's node entered is the first thing that the next step tells.
+/// An edge of any graph, with what the rules on walks ask of it. Ordered by its fields: as steps are, and then by the node entered, which
+/// is the first thing that the next step tells. So lists of edges come in the order of their lists of steps.
 #[derive(Clone, Copy, PartialEq, Eq, PartialOrd, Ord, Debug)]
 pub struct PlainEdge {
     pub node: usize,

@@ -1,7 +1,7 @@
 //! `walks SEED COUNT`: the first walk, found fast, against the same found by the definition alone: on COUNT random graphs and COUNT
-//! random workloads, each also on random parts of its nodes. All lists of steps are tried where they are not too many; longer
-//! walks are found by what can still be closed, and on the smaller ones all three must agree. How many walks were of which kind
-//! is printed, so that a comparison which meets none is noticed.
+//! random workloads, each also on random parts of its nodes, and on parts of its programs read as a text of their own. All lists
+//! of steps are tried where they are not too many; longer walks are found by what can still be closed; where both are tried, all
+//! must agree. How many walks were of which kind is printed, so that a comparison which meets none is noticed.
 
 use outside::first_walk::first_walk;
 use outside::generator::*;
@@ -9,10 +9,12 @@ use outside::graph::*;
 use outside::lines::text_of;
 use outside::plain_walk::*;
 use outside::random::Random;
-use outside::report::unfolded;
+use outside::reader::read;
+use outside::report::{unfolded, Unfolded};
 use outside::special::*;
 use outside::unfolding::{MAX_NODES, MAX_PLACES};
 use outside::verdict::*;
+use outside::workload::*;
 
 const BUDGET: usize = 300_000;
 /// Pairs of edges that may follow each other.
@@ -25,7 +27,6 @@ struct Tally {
     parts: usize,
     robust: usize,
     by_lists: usize,
-    by_states: usize,
     skipped: usize,
     begin_back: usize,
     pair_across: usize,
@@ -37,7 +38,7 @@ fn main() {
     let words: Vec<String> = std::env::args().collect();
     let number = |at: usize| words.get(at).and_then(|word| word.parse::<u64>().ok()).expect("usage: walks SEED COUNT");
     let (seed, count) = (number(1), number(2));
-    let (mut graphs, mut workloads) = (Tally::default(), Tally::default());
+    let (mut graphs, mut workloads, mut programs) = (Tally::default(), Tally::default(), (0, 0));
     for k in 0..count {
         let mut random = Random::new(seed.wrapping_mul(1_000_003).wrapping_add(k));
         let drawn = Drawn::draw(&mut random);
@@ -48,10 +49,12 @@ fn main() {
             let places = QuickPlaces::of(&unfolded.spots);
             let graph = Graph::of(&places, unfolded.unfoldings.all().iter().map(|node| node.length as usize));
             compare(&mut random, &graph, &mut workloads, &|| String::from_utf8_lossy(&text).into_owned());
+            compare_programs(&mut random, &graph, &unfolded, &mut programs);
         }
     }
     show("graphs", &graphs);
     show("workloads", &workloads);
+    println!("parts of programs: {} robust, {} danger, as the texts of these programs alone give it", programs.0, programs.1);
 }
 
 // ---- comparing
@@ -84,7 +87,6 @@ fn compare_part<P: Places>(graph: &Graph<P>, edges: &[PlainEdge], counted: u64, 
         assert!(steps == fast, "{}\nnodes {counted:x}: {way} {steps:?} but fast {fast:?}", what());
     };
     agree("by states", wanted.as_deref().unwrap_or(&[]));
-    tally.by_states += 1;
     // a robust graph has lists without end: those up to one step more than its nodes are tried
     match first_by_lists(&part, if wanted.is_some() { MAX_STEPS } else { graph.nodes + 1 }, BUDGET) {
         Found::Walk(walk) => agree("by lists", &walk),
@@ -97,6 +99,39 @@ fn compare_part<P: Places>(graph: &Graph<P>, edges: &[PlainEdge], counted: u64, 
         Some(walk) => tally.take(&walk),
         None => tally.robust += 1,
     }
+}
+
+/// The nodes of some programs, against the text of these programs alone with its nodes' numbers turned into the whole's. How many
+/// were robust and how many danger is counted.
+fn compare_programs<P: Places>(random: &mut Random, graph: &Graph<P>, whole: &Unfolded, tally: &mut (usize, usize)) {
+    let chosen = random.word();
+    let nodes: Vec<usize> = (0..graph.nodes).filter(|&node| chosen >> whole.unfoldings.node[node].program & 1 == 1).collect();
+    let mut walk = [EMPTY_STEP; MAX_STEPS];
+    let steps = first_walk(graph, nodes.iter().fold(0, |word, node| word | 1 << node), &mut walk);
+    let mut alone = [EMPTY_STEP; MAX_STEPS];
+    let lines = programs_alone(whole.workload.taken(), chosen);
+    let verdict = judge(&read(&text_of(&lines)).expect("a part is accepted"), &mut alone).expect("a part is not too large");
+    alone[..verdict.steps].iter_mut().for_each(|step| step.node = nodes[step.node as usize] as u8);
+    let text = text_of(whole.workload.taken());
+    assert_eq!(walk[..steps], alone[..verdict.steps], "programs {chosen:x} of\n{}", String::from_utf8_lossy(&text));
+    *if steps > 0 { &mut tally.1 } else { &mut tally.0 } += 1;
+}
+
+/// The lines of some programs, numbered anew, after those of relations and keys.
+fn programs_alone(lines: &[Line], chosen: u64) -> Vec<Line> {
+    let (mut kept, mut taken, mut next) = (Vec::new(), true, 0);
+    for line in lines {
+        let mut line = *line;
+        if line.kind == PR {
+            taken = chosen >> line.id & 1 == 1;
+            line.id = next;
+            next += taken as u8;
+        }
+        if taken {
+            kept.push(line);
+        }
+    }
+    kept
 }
 
 fn plain_edges<P: Places>(graph: &Graph<P>) -> Vec<PlainEdge> {
@@ -127,12 +162,17 @@ impl Tally {
 }
 
 fn show(word: &str, tally: &Tally) {
-    let Tally { compared, parts, robust, by_lists, by_states, skipped, begin_back, pair_across, repeat, .. } = tally;
-    println!("{word}: {compared} compared alike, {parts} of them parts ({by_states} by states, {by_lists} also by all lists), {skipped} too large");
-    let danger = compared - robust;
-    println!("  {robust} robust, {danger} danger: {begin_back} walks begin with a back step, {pair_across} have a pair across the end, {repeat} repeat a node");
-    let steps: Vec<String> = tally.steps.iter().enumerate().filter(|(_, &walks)| walks > 0).map(|(steps, walks)| format!("{steps}: {walks}")).collect();
-    println!("  walks by steps: {}", steps.join(", "));
+    let Tally { compared, parts, robust, by_lists, skipped, begin_back, pair_across, repeat, .. } = tally;
+    println!("{word}: {compared} compared alike by states, {by_lists} of them also by all lists; {parts} are parts; {skipped} too large");
+    println!(
+        "  {robust} robust, {} danger: {begin_back} walks begin with a back step, {pair_across} have a pair across the end, {repeat} repeat a node",
+        compared - robust
+    );
+    print!("  walks by steps:");
+    for (steps, walks) in tally.steps.iter().enumerate().filter(|(_, &walks)| walks > 0) {
+        print!(" {steps}: {walks},");
+    }
+    println!(" in all {}", tally.steps.iter().sum::<usize>());
 }
 
 // ---- random graphs and texts
