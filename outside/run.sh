@@ -13,7 +13,7 @@ reports="$here/listing.sh $inspect report"
 "$here/build.sh" || exit 1
 failed=0
 "$here/target/selfcheck" "$seed" 5000 "$here/../examples/tpcc.txt" || failed=1
-"$here/target/walks" "$seed" 1000 || failed=1
+"$here/target/walks" "$seed" 1000 "$here"/../examples/*.txt "$here"/../vectors/verdict/*.txt || failed=1
 "$here/check.sh" "$program" "$unfoldings" "$edges" || failed=1
 "$here/target/compare" "$program" "$seed" 20000 || failed=1
 "$here/target/compare" "$reports" "$seed" 2000 || failed=1

@@ -1,7 +1,8 @@
-//! `walks SEED COUNT`: the first walk, found fast, against the same found by the definition alone: on COUNT random graphs and COUNT
+//! `walks SEED COUNT [TEXT...]`: the first walk, found fast, against the same found by the definition alone: on COUNT random graphs and COUNT
 //! random workloads, each also on random parts of its nodes, and on parts of its programs read as a text of their own. All lists
 //! of steps are tried where they are not too many; longer walks are found by what can still be closed; where both are tried, all
-//! must agree. How many walks were of which kind is printed, so that a comparison which meets none is noticed.
+//! must agree. The same on the texts, of any size. How many walks were of which kind is printed, so that a comparison which meets
+//! none is noticed.
 
 use outside::first_walk::first_walk;
 use outside::generator::*;
@@ -36,32 +37,44 @@ struct Tally {
 
 fn main() {
     let words: Vec<String> = std::env::args().collect();
-    let number = |at: usize| words.get(at).and_then(|word| word.parse::<u64>().ok()).expect("usage: walks SEED COUNT");
+    let number = |at: usize| words.get(at).and_then(|word| word.parse::<u64>().ok()).expect("usage: walks SEED COUNT [TEXT...]");
     let (seed, count) = (number(1), number(2));
     let (mut graphs, mut workloads, mut programs) = (Tally::default(), Tally::default(), (0, 0));
     for k in 0..count {
         let mut random = Random::new(seed.wrapping_mul(1_000_003).wrapping_add(k));
         let drawn = Drawn::draw(&mut random);
         let graph = Graph::of(&drawn, drawn.lengths.iter().copied());
-        compare(&mut random, &graph, &mut graphs, &|| format!("random graph {k}"));
+        compare(&mut random, &graph, MOST_PAIRS, &mut graphs, &|| format!("random graph {k}"));
         let text = draw_text(&mut random);
-        if let Ok(unfolded) = unfolded(&text) {
-            let places = QuickPlaces::of(&unfolded.spots);
-            let graph = Graph::of(&places, unfolded.unfoldings.all().iter().map(|node| node.length as usize));
-            compare(&mut random, &graph, &mut workloads, &|| String::from_utf8_lossy(&text).into_owned());
-            compare_programs(&mut random, &graph, &unfolded, &mut programs);
-        }
+        compare_text(&mut random, &text, MOST_PAIRS, &mut workloads, &mut programs);
     }
     show("graphs", &graphs);
     show("workloads", &workloads);
+    let mut texts = Tally::default();
+    for path in words.iter().skip(3) {
+        let text = std::fs::read(path).unwrap_or_else(|error| panic!("{path}: {error}"));
+        compare_text(&mut Random::new(seed), &text, usize::MAX, &mut texts, &mut programs);
+    }
+    if words.len() > 3 {
+        show("texts", &texts);
+    }
     println!("parts of programs: {} robust, {} danger, as the texts of these programs alone give it", programs.0, programs.1);
 }
 
 // ---- comparing
 
+/// A text's graph, unless it is refused.
+fn compare_text(random: &mut Random, text: &[u8], most_pairs: usize, tally: &mut Tally, programs: &mut (usize, usize)) {
+    let Ok(unfolded) = unfolded(text) else { return };
+    let places = QuickPlaces::of(&unfolded.spots);
+    let graph = Graph::of(&places, unfolded.unfoldings.all().iter().map(|node| node.length as usize));
+    compare(random, &graph, most_pairs, tally, &|| String::from_utf8_lossy(text).into_owned());
+    compare_programs(random, &graph, &unfolded, programs);
+}
+
 /// The whole graph, and three parts of it.
-fn compare<P: Places>(random: &mut Random, graph: &Graph<P>, tally: &mut Tally, what: &dyn Fn() -> String) {
-    if graph.edges * graph.edges > MOST_PAIRS * graph.nodes {
+fn compare<P: Places>(random: &mut Random, graph: &Graph<P>, most_pairs: usize, tally: &mut Tally, what: &dyn Fn() -> String) {
+    if graph.edges * graph.edges > most_pairs.saturating_mul(graph.nodes) {
         tally.skipped += 1;
         return;
     }
