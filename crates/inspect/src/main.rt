@@ -204,31 +204,11 @@ fn list_edges(w: Workload) {
 
 // ---- the report
 
-// The place after the first line end from a place on, or the end.
-fn after_line(bytes: &[u8], from: usize) -> usize
-    ensures { λ r. ⌜ Counts r (now (bytes .entry)) ⌝ }
-{
-    let mut i = from;
-    while i < bytes.len() {
-        if bytes[i] == b'\n' {
-            return i + 1;
-        }
-        i += 1;
-    }
-    bytes.len()
-}
-
-// The first two lines of a report. After them stands a walk, whose choice is free.
-fn print_verdict(report: &[u8]) {
-    let n = after_line(report, after_line(report, 0));
-    print(&report[..n]);
-}
-
 fn show_report(text: &[u8]) {
     let report = report_text::report_of(text);
     let n = report.length;
     let bytes = report.bytes;
-    print_verdict(&bytes[..n]);
+    print(&bytes[..n]);
 }
 
 // ---- lent areas
