@@ -18,27 +18,34 @@ use Rattle.spec_graph.specs.Unfolding.{inside, occurrences, pairs, unfoldings, 
 use Rattle.spec_graph.specs.Edge.{W, R, T, holds, sameRelation, leads, binds, guarded, shielded, forward, back, placesFrom, placesOf, letterOf}
 use Rattle.spec_graph.specs.Edge.{shared, edgeOf, edgesBetween, edgesOf, placeAt, graphOf}
 use Rattle.law_walk.specs.Reach.{leavesFor, joins, joinedTo, grow, reachedFrom, opens, closesAt, dangerTest}
+use Rattle.law_walk.specs.FirstWalks.{isFirst, first-tested}
+use Rattle.spec_graph.specs.Graph.{Graph}
 use Rattle.spec_graph.specs.Walk.{Step}
 use Rattle.spec_report.specs.State.{Counts, counted, countsOf, statementsIn, tooMany, summaryGraph}
 use Rattle.spec_report.specs.Report.{Report, refusalReport, robustReport, dangerReport}
 use Rattle.spec_report.specs.Report.Report.{refusal, robust, danger}
-use Rattle.law_report.specs.Reports.{robust-of, danger-of}
-use Rattle.law_report.specs.ShownWalk.{shown-walk}
+use Rattle.law_report.specs.Reports.{robust-of}
+use Rattle.law_report.specs.ShownWalk.{summary-regular}
 
 -- what a case expects
 pub data Expected : Type 0 where
   isRefused : ℕ → ℕ → Expected
-  isRobust isDanger : ℕ → ℕ → ℕ → ℕ → Expected
+  isRobust : ℕ → ℕ → ℕ → ℕ → Expected
+  isDanger : ℕ → ℕ → ℕ → ℕ → List Step → Expected
 
 pub record Case : Type 0 where
   pub text : List ℕ
   pub expected : Expected
 
--- the case holds by document 01: these bytes are a report of the text, where for danger some lawful walk is shown
+-- the bytes that it expects: for danger with this walk (Req 01)
+abbrev pub expectedBytes : Expected → List ℕ
+expectedBytes (isRefused number line) = refusalReport number line
+expectedBytes (isRobust p n e b) = robustReport (counted p n e b)
+expectedBytes (isDanger p n e b walk) = dangerReport (counted p n e b) walk
+
+-- the case holds by document 01: these bytes are the report of the text
 abbrev pub HoldsFor : List ℕ → Expected → Type 0
-HoldsFor text (isRefused number line) = Report text (refusalReport number line)
-HoldsFor text (isRobust p n e b) = Report text (robustReport (counted p n e b))
-HoldsFor text (isDanger p n e b) = (walk : List Step) × Report text (dangerReport (counted p n e b) walk)
+HoldsFor text e = Report text (expectedBytes e)
 
 abbrev pub Holds : Case → Type 0
 Holds c = HoldsFor (c .text) (c .expected)
@@ -59,17 +66,13 @@ same-counts c d h =
     let b = eqb-true (c .back) (d .back) (three .1) in
     λ i. record { programs = p i; nodes = n i; edges = e i; back = b i }
 
--- the test of lines that are to be robust or dangerous: by the computed test of the graph
-agrees : Bool → Bool → Bool
-agrees true test = test
-agrees false test = not test
+-- the test of lines whose graph is to pass a test
+passesLines : (Graph → Bool) → Counts → List Line → Bool
+passesLines test c lines = not (tooMany lines) && sameCounts (countsOf lines) c && test (summaryGraph lines)
 
-passesLines : Bool → Counts → List Line → Bool
-passesLines dangerous c lines = not (tooMany lines) && sameCounts (countsOf lines) c && agrees dangerous (dangerTest (summaryGraph lines))
-
-passesOutcome : Bool → Counts → Outcome → Bool
-passesOutcome dangerous c (refused number line) = false
-passesOutcome dangerous c (accepted lines) = passesLines dangerous c lines
+passesOutcome : (Graph → Bool) → Counts → Outcome → Bool
+passesOutcome test c (refused number line) = false
+passesOutcome test c (accepted lines) = passesLines test c lines
 
 refuses : ℕ → ℕ → Outcome → Bool
 refuses number line (refused k l) = eqb k number && eqb l line
@@ -78,27 +81,27 @@ refuses number line (accepted lines) = false
 -- the test of a case
 passes : List ℕ → Expected → Bool
 passes text (isRefused number line) = refuses number line (read text)
-passes text (isRobust p n e b) = passesOutcome false (counted p n e b) (read text)
-passes text (isDanger p n e b) = passesOutcome true (counted p n e b) (read text)
+passes text (isRobust p n e b) = passesOutcome (λ g. not (dangerTest g)) (counted p n e b) (read text)
+passes text (isDanger p n e b walk) = passesOutcome (λ g. isFirst g walk) (counted p n e b) (read text)
 
 -- ---- a case that passes holds
 
--- the text is read, taken, and has these counts, and the computed test of its graph agrees
-record Taken (dangerous : Bool) (text : List ℕ) (c : Counts) : Type 0 where
+-- the text is read, taken, and has these counts, and its graph passes the test
+record Taken (test : Graph → Bool) (text : List ℕ) (c : Counts) : Type 0 where
   lines : List Line
   isRead : read text ≡ accepted lines
   few : tooMany lines ≡ false
   counts : countsOf lines ≡ c
-  test : agrees dangerous (dangerTest (summaryGraph lines)) ≡ true
+  passes-test : test (summaryGraph lines) ≡ true
 
-passed : (dangerous : Bool) (text : List ℕ) (c : Counts) (o : Outcome) → read text ≡ o → passesOutcome dangerous c o ≡ true → Taken dangerous text c
+passed : (test : Graph → Bool) (text : List ℕ) (c : Counts) (o : Outcome) → read text ≡ o → passesOutcome test c o ≡ true → Taken test text c
 unfolding passesOutcome passesLines
-passed dangerous text c (refused k l) e h = absurd (true-false h refl)
-passed dangerous text c (accepted lines) e h =
-    let two = and-true (not (tooMany lines) && sameCounts (countsOf lines) c) (agrees dangerous (dangerTest (summaryGraph lines))) h in
+passed test text c (refused k l) e h = absurd (true-false h refl)
+passed test text c (accepted lines) e h =
+    let two = and-true (not (tooMany lines) && sameCounts (countsOf lines) c) (test (summaryGraph lines)) h in
     let one = and-true (not (tooMany lines)) (sameCounts (countsOf lines) c) (two .0) in
     record
-    { lines = lines; isRead = e; few = not-true (tooMany lines) (one .0); counts = same-counts (countsOf lines) c (one .1); test = two .1 }
+    { lines = lines; isRead = e; few = not-true (tooMany lines) (one .0); counts = same-counts (countsOf lines) c (one .1); passes-test = two .1 }
 
 refuses-refused : (number line : ℕ) (o : Outcome) → refuses number line o ≡ true → o ≡ refused number line
 unfolding refuses
@@ -108,28 +111,26 @@ refuses-refused number line (refused k l) h =
 refuses-refused number line (accepted lines) h = absurd (true-false h refl)
 
 passes-holds : (text : List ℕ) (e : Expected) → passes text e ≡ true → HoldsFor text e
-unfolding passes agrees
+unfolding passes
 passes-holds text (isRefused number line) h = refusal number line (refuses-refused number line (read text) h)
 passes-holds text (isRobust p n e b) h =
-    let t = passed false text (counted p n e b) (read text) refl h in
+    let t = passed (λ g. not (dangerTest g)) text (counted p n e b) (read text) refl h in
     subst (λ (c : Counts). Report text (robustReport c)) (t .counts)
-    (robust (t .lines) (t .isRead) (t .few) (robust-of (t .lines) (not-true (dangerTest (summaryGraph (t .lines))) (t .test))))
-passes-holds text (isDanger p n e b) h =
-    let t = passed true text (counted p n e b) (read text) refl h in
-    let w = shown-walk (t .lines) (t .few) (danger-of (t .lines) (t .test)) in (
-      w .0,
-      subst (λ (c : Counts). Report text (dangerReport c (w .0))) (t .counts) (danger (t .lines) (t .isRead) (t .few) (w .0) (w .1) (w .2)),
-    )
+    (robust (t .lines) (t .isRead) (t .few) (robust-of (t .lines) (not-true (dangerTest (summaryGraph (t .lines))) (t .passes-test))))
+passes-holds text (isDanger p n e b walk) h =
+    let t = passed (λ g. isFirst g walk) text (counted p n e b) (read text) refl h in
+    subst (λ (c : Counts). Report text (dangerReport c walk)) (t .counts)
+    (danger (t .lines) (t .isRead) (t .few) walk (first-tested (summary-regular (t .lines)) walk (t .passes-test)))
 
 -- ---- a table of cases: one computed test, and one statement over its rows
 
 -- the test with everything opened that it is defined by
 unfoldable pub allPass : List Case → Bool
 unfolding
-    passes agrees passesLines passesOutcome refuses sameCounts readBytes countsOf tooMany statementsIn summaryGraph
+    passes passesLines passesOutcome refuses sameCounts readBytes countsOf tooMany statementsIn summaryGraph
     statementOf inFrontOf runOf linksOf programsOf inside occurrences pairs flatMap unfoldings nodesOfProgram nodesFrom nodesOf
     W R T holds sameRelation leads binds guarded shielded forward back placesFrom placesOf letterOf shared edgeOf edgesBetween edgesOf placeAt
-    graphOf onesIn trailingZeros leavesFor joins joinedTo grow reachedFrom opens closesAt dangerTest
+    graphOf onesIn trailingZeros leavesFor joins joinedTo grow reachedFrom opens closesAt dangerTest isFirst
 allPass table = all (λ c. passes (c .text) (c .expected)) table
 
 pub table-holds : (table : List Case) → allPass table ≡ true → (c : Case) → List·Memᴰ c table → Holds c

@@ -2,9 +2,14 @@
 use mathlib.Core.Bool.{true}
 use mathlib.Core.List.{List, [], _∷_, _++_, List·Memᴰ}
 use mathlib.Core.Path.{_≡_, refl}
+use Prim.Native.Nat.{ℕ}
 use Prim.Native.String.{String}
 use Rattle.spec_text.specs.Quoted.{text}
-use Rattle.cases.specs.Computed.{Case, Expected, Holds, allPass, table-holds}
+use Rattle.spec_graph.specs.Graph.{Flow}
+use Rattle.spec_graph.specs.ExampleText.{step}
+use Rattle.spec_report.specs.Report.{Report}
+use Rattle.law_report.specs.One.{report-unique}
+use Rattle.cases.specs.Computed.{Case, Expected, expectedBytes, Holds, allPass, table-holds}
 use Rattle.cases.specs.Computed.Expected.{isRefused, isRobust, isDanger}
 
 abbrev case : List String → Expected → Case
@@ -38,14 +43,16 @@ abbrev pub table : List Case
 table =
     -- G1: the base text
     case (station ++ ("ps 0 1 - 2 - 2" ∷ [])) (isRobust 2 2 5 1)
-    -- G2: ps twice
-    ∷ case (station ++ ("ps 0 1 - 2 - 2" ∷ "ps 1 1 - 2 - 2" ∷ [])) (isDanger 2 2 8 2)
+    -- G2: ps twice; document 01's walk `0 0 1 1 f`, `1 1 0 1 b` is the first
+    ∷ case (station ++ ("ps 0 1 - 2 - 2" ∷ "ps 1 1 - 2 - 2" ∷ [])) (isDanger 2 2 8 2 (step 0 1 1 Flow.forward ∷ step 1 0 1 Flow.back ∷ []))
     -- G3: ku on panel, ks on contact, linked
     ∷ case (station ++ ("ku 0 0 - 2 2 -" ∷ "ks 1 1 - 2 - -" ∷ "li 0 1 0 - - -" ∷ [])) (isRobust 2 2 7 0)
     -- G4: the same, unlinked
     ∷ case (station ++ ("ku 0 0 - 2 2 -" ∷ "ks 1 1 - 2 - -" ∷ [])) (isRobust 2 2 8 1)
     -- G5: ks first, then ku, linked
-    ∷ case (station ++ ("ks 0 1 - 2 - -" ∷ "ku 1 0 - 2 2 -" ∷ "li 0 0 1 - - -" ∷ [])) (isDanger 2 2 8 1)
+    ∷ case
+    (station ++ ("ks 0 1 - 2 - -" ∷ "ku 1 0 - 2 2 -" ∷ "li 0 0 1 - - -" ∷ []))
+    (isDanger 2 2 8 1 (step 0 0 1 Flow.forward ∷ step 1 0 1 Flow.back ∷ []))
     -- G6: the names line alone
     ∷ case names (isRobust 0 0 0 0)
     -- G7: one program, a loop of one ku on contact
@@ -64,3 +71,7 @@ computed = refl
 
 pub starred : (c : Case) → List·Memᴰ c table → Holds c
 starred = table-holds table computed
+
+-- Req 01: and each has no other report, walk included
+pub starred-alone : (c : Case) → List·Memᴰ c table → (bytes : List ℕ) → Report (c .text) bytes → bytes ≡ expectedBytes (c .expected)
+starred-alone c m bytes r = report-unique r (starred c m)

@@ -6,18 +6,15 @@ use Prim.Native.Nat.{ℕ}
 use Rattle.spec_text.specs.declared.Line.{Line}
 use Rattle.spec_text.specs.Reading.{Outcome, read}
 use Rattle.spec_text.specs.Reading.Outcome.{refused, accepted}
-use Rattle.spec_graph.specs.Unfolding.{nodesOf}
-use Rattle.spec_graph.specs.Edge.{graphOf}
-use Rattle.law_walk.specs.Reach.{dangerTest, danger-found, danger-none, regular}
+use Rattle.law_walk.specs.Reach.{dangerTest, danger-found, danger-none}
 use Rattle.spec_report.specs.State.{countsOf, Danger, Robust, summaryGraph, tooMany}
 use Rattle.spec_report.specs.Report.{Report, dangerReport, refusalReport, robustReport}
 use Rattle.spec_report.specs.Report.Report.{refusal, unfolding-refusal, robust, danger}
-use Rattle.law_report.specs.ShownWalk.{shown-walk}
+use Rattle.law_report.specs.ShownWalk.{summary-regular, first-shown}
 
 -- the computed test of the graph decides
 pub robust-of : (lines : List Line) → dangerTest (summaryGraph lines) ≡ false → Robust lines
-unfolding summaryGraph
-robust-of lines h = danger-none (graphOf (nodesOf lines)) (regular (nodesOf lines)) h
+robust-of lines h = danger-none (summaryGraph lines) (summary-regular lines) h
 
 pub danger-of : (lines : List Line) → dangerTest (summaryGraph lines) ≡ true → Danger lines
 danger-of lines h = let w = danger-found (summaryGraph lines) h in (w .0, w .1)
@@ -29,8 +26,7 @@ report-of-lines text lines isRead few = go (dangerTest (summaryGraph lines)) ref
   where
     go : (b : Bool) → dangerTest (summaryGraph lines) ≡ b → (bytes : List ℕ) × Report text bytes
     go true h =
-        let w = shown-walk lines few (danger-of lines h) in
-        (dangerReport (countsOf lines) (w .0), danger lines isRead few (w .0) (w .1) (w .2))
+        let w = first-shown lines (danger-of lines h) in (dangerReport (countsOf lines) (w .0), danger lines isRead few (w .0) (w .1))
     go false h = (robustReport (countsOf lines), robust lines isRead few (robust-of lines h))
 
 pub report-exists : (text : List ℕ) → (bytes : List ℕ) × Report text bytes

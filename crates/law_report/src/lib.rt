@@ -1,1 +1,1 @@
-// What follows of reports: a walk of at most 65 steps can be shown, and every text has a report. Everything is in specs/.
+// What follows of reports: every text has one, any two are equal, and the walk in it has at most 65 steps. Everything is in specs/.

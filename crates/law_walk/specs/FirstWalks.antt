@@ -1,5 +1,6 @@
 -- Where there is a dangerous walk there is a first: of the short ones, finitely many, one that none comes before; and longer ones come after.
-use mathlib.Core.Bool.{Bool, true, false}
+-- So a test over the short ones decides whether a walk is the first.
+use mathlib.Core.Bool.{Bool, true, false, cond, not, _&&_}
 use mathlib.Core.List.{List, [], _∷_, flatMap, List·Memᴰ}
 use mathlib.Core.List.List·Memᴰ.{List·Memᴰ·head, List·Memᴰ·tail}
 use mathlib.Core.List.{List·Memᴰ·not-nil, List·Memᴰ·cases-cons}
@@ -9,11 +10,11 @@ use Prim.Native.Nat.{ℕ, zero, suc, _+_, _≤_}
 use native.Mathlib.Decide.{decLe}
 use native.Mathlib.Omega.{arith}
 use lib.ListN.{length}
-use Rattle.spec_base.specs.Basic.{keep, numbers}
-use Rattle.law_base.specs.BoolLaws.{decide, false-of, true-false}
+use Rattle.spec_base.specs.Basic.{all, keep, numbers}
+use Rattle.law_base.specs.BoolLaws.{decide, false-of, true-false, and-true, and-of, not-true}
 use Rattle.law_base.specs.ListLaws.{all-true, keep-member, member-keep, member-numbers, member-flatMap, around-next}
 use Rattle.spec_graph.specs.Graph.{Flow, Graph}
-use Rattle.spec_graph.specs.Walk.{Step, isEdge, isDangerous, DangerousWalk, comesBefore, FirstWalk}
+use Rattle.spec_graph.specs.Walk.{Step, isEdge, dangerousPair, isDangerous, DangerousWalk, stepNumbers, smaller, comesBefore, FirstWalk}
 use Rattle.law_walk.specs.Before.{before-parts, before-not, before-itself, before-trans}
 use Rattle.law_walk.specs.Parts.{dangerous-parts}
 use Rattle.law_walk.specs.Reach.{Regular, short-walk}
@@ -48,14 +49,15 @@ module _ {A : Type 0} (before : A → A → Bool) (itself : (a : A) → before a
 
 -- ---- the short walks
 
--- the steps with these numbers, in both flows
-bothFlows : ℕ → ℕ → ℕ → List Step
-bothFlows m i j = flatMap (λ f. record { node = m; leaves = i; enters = j; flow = f } ∷ []) (Flow.forward ∷ Flow.back ∷ [])
+-- the edges between these places as steps, in both flows
+edgesAt : Graph → ℕ → ℕ → ℕ → ℕ → List Step
+edgesAt g m i n j =
+    flatMap (λ f. cond (g .edge m i n j f) (record { node = m; leaves = i; enters = j; flow = f } ∷ []) []) (Flow.forward ∷ Flow.back ∷ [])
 
--- each step between places of nodes
+-- each edge between places of nodes
 allSteps : Graph → List Step
 allSteps g =
-    flatMap (λ m. flatMap (λ i. flatMap (λ n. flatMap (λ j. bothFlows m i j) (numbers (g .places n))) (numbers (g .size))) (numbers (g .places m)))
+    flatMap (λ m. flatMap (λ i. flatMap (λ n. flatMap (λ j. edgesAt g m i n j) (numbers (g .places n))) (numbers (g .size))) (numbers (g .places m)))
     (numbers (g .size))
 
 -- each list of at most so many of the steps
@@ -77,18 +79,25 @@ member-lists steps (suc n) (s ∷ walk) h l =
 module _ {g : Graph} (regular : Regular g) where
   -- a step that is an edge is among all steps
   edge-step : (s next : Step) → isEdge g (s, next) ≡ true → List·Memᴰ s (allSteps g)
-  unfolding isEdge allSteps bothFlows
+  unfolding isEdge allSteps edgesAt
   edge-step s next h =
       let b = regular .inNodes (s .node) (s .leaves) (next .node) (s .enters) (s .flow) h in
       member-flatMap _ (member-numbers (g .size) (s .node) (b .0))
       (member-flatMap _ (member-numbers (g .places (s .node)) (s .leaves) (b .2))
       (member-flatMap _ (member-numbers (g .size) (next .node) (b .1))
       (member-flatMap _ (member-numbers (g .places (next .node)) (s .enters) (b .3))
-      (member-flatMap _ (flow (s .flow)) (List·Memᴰ·head refl)))))
+      (member-flatMap _ (flow (s .flow)) (rw h (List·Memᴰ·head refl))))))
     where
       flow : (f : Flow) → List·Memᴰ f (Flow.forward ∷ Flow.back ∷ [])
       flow Flow.forward = List·Memᴰ·head refl
       flow Flow.back = List·Memᴰ·tail (List·Memᴰ·head refl)
+
+  -- so a dangerous walk of at most n steps is among the lists of so many
+  member-walks : (n : ℕ) (walk : List Step) → isDangerous g walk ≡ true → length walk ≤ n → List·Memᴰ walk (listsOf (allSteps g) n)
+  member-walks n walk h l = member-lists (allSteps g) n walk steps l
+    where
+      steps : (s : Step) → List·Memᴰ s walk → List·Memᴰ s (allSteps g)
+      steps s m = let next = around-next walk m in edge-step s (next .0) (all-true (isEdge g) (dangerous-parts walk h .edges) (next .1))
 
   -- the dangerous walks of at most n steps
   shortOnes : ℕ → List (List Step)
@@ -97,11 +106,7 @@ module _ {g : Graph} (regular : Regular g) where
   -- each is among them
   member-short : (n : ℕ) (walk : List Step) → isDangerous g walk ≡ true → length walk ≤ n → List·Memᴰ walk (shortOnes n)
   unfolding shortOnes
-  member-short n walk h l =
-      member-keep (isDangerous g) (member-lists (allSteps g) n walk (λ s m. steps s m) l) h
-    where
-      steps : (s : Step) → List·Memᴰ s walk → List·Memᴰ s (allSteps g)
-      steps s m = let next = around-next walk m in edge-step s (next .0) (all-true (isEdge g) (dangerous-parts walk h .edges) (next .1))
+  member-short n walk h l = member-keep (isDangerous g) (member-walks n walk h l) h
 
   -- one that no dangerous walk of at most n steps comes before is the first, if there is one of at most n steps
   first-of : (n : ℕ) (short : List Step) → isDangerous g short ≡ true → length short ≤ n
@@ -131,3 +136,29 @@ module _ {g : Graph} (regular : Regular g) where
 pub first-exists : {g : Graph} → Regular g → DangerousWalk g → (walk : List Step) × FirstWalk g walk × (length walk ≤ g .size + 1)
 first-exists {g} regular walk =
     let short = short-walk g regular walk in first-of regular (g .size + 1) (short .0) (short .1) (short .2) _ refl
+
+-- ---- a computed test
+
+-- Req 01: the walk is dangerous, and no list of as many edges or fewer is dangerous and comes before it
+unfoldable pub isFirst : Graph → List Step → Bool
+unfolding edgesAt allSteps listsOf isDangerous isEdge dangerousPair stepNumbers smaller comesBefore flatMap
+isFirst g walk = isDangerous g walk && all (λ other. not (isDangerous g other && comesBefore other walk)) (listsOf (allSteps g) (length walk))
+
+-- a walk that passes is the first
+pub first-tested : {g : Graph} → Regular g → (walk : List Step) → isFirst g walk ≡ true → FirstWalk g walk
+unfolding isFirst
+first-tested {g} regular walk h = record { dangerous = both .0; first = none }
+  where
+    both : (isDangerous g walk ≡ true)
+        × (all (λ other. not (isDangerous g other && comesBefore other walk)) (listsOf (allSteps g) (length walk)) ≡ true)
+    both = and-true (isDangerous g walk) _ h
+
+    none : (other : List Step) → isDangerous g other ≡ true → comesBefore other walk ≡ false
+    none other d = cases (decLe (length other) (length walk))
+      where
+        cases : Dec (length other ≤ length walk) → comesBefore other walk ≡ false
+        cases (no j) = before-not other walk (omega arith) (λ q. absurd (omega arith))
+        cases (yes j) =
+            let test = all-true (λ v. not (isDangerous g v && comesBefore v walk)) (both .1) (member-walks regular (length walk) other d j) in
+            false-of (comesBefore other walk)
+            (λ b. true-false (and-of d b) (not-true (isDangerous g other && comesBefore other walk) test))

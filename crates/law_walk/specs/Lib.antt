@@ -1,3 +1,4 @@
+pub mod AllNodes
 pub mod Before
 pub mod ClosedWalks
 pub mod EveryKind

@@ -1,12 +1,8 @@
 -- Small walks that pin the order in which the first dangerous walk is first (document 02, Req 01).
-use mathlib.Core.Bool.{Bool, true, false, true≢false, false≢true}
+use mathlib.Core.Bool.{Bool, true, false, true≢false}
 use mathlib.Core.List.{List, [], _∷_, flatMap}
-use mathlib.Core.Path.{_≡_, refl, sym, _∙_}
-use Prim.Native.Nat.{ℕ, zero, suc, _<_}
-use native.Mathlib.Omega.{arith}
-use lib.ListN.{length}
-use borrow.Author.Tests.{le-ltb, ne-eqb}
-use Rattle.spec_graph.specs.Graph.{Flow, Graph}
+use mathlib.Core.Path.{_≡_, refl}
+use Rattle.spec_graph.specs.Graph.{Graph}
 use Rattle.spec_graph.specs.Graph.Flow.{forward, back}
 use Rattle.spec_graph.specs.Walk.{Step, isEdge, dangerousPair, isDangerous, stepNumbers, smaller, comesBefore, FirstWalk}
 use Rattle.spec_graph.specs.ExampleText.{step}
@@ -49,66 +45,16 @@ R1-begin = refl
 
 -- ---- a graph with every edge, each leaving a loose place
 
-abbrev every : Graph
+abbrev pub every : Graph
 every = record { size = 1; places = λ m. 1; edge = λ m i n j flow. true; loose = λ m i. true }
 
-abbrev forth : Step
+abbrev pub forth : Step
 forth = step 0 0 0 forward
 
-abbrev return : Step
+abbrev pub return : Step
 return = step 0 0 0 back
 
 -- Req 01: a dangerous walk that another one comes before is not the first
 R1-not-first : FirstWalk every (return ∷ forth ∷ []) → ⊥
 unfolding isDangerous isEdge dangerousPair comesBefore smaller stepNumbers flatMap
 R1-not-first h = true≢false (h .first (forth ∷ return ∷ []) refl)
-
--- a list is not smaller than one that begins with 0, if the rest is not
-from-zero : (x : ℕ) (k l : List ℕ) → smaller k l ≡ false → smaller (x ∷ k) (0 ∷ l) ≡ false
-unfolding smaller
-from-zero zero k l h = h
-from-zero (suc x) k l h = rw (le-ltb (suc x) 0 (omega arith), ne-eqb (suc x) 0 (λ e. omega arith)) refl
-
--- nor than one that begins with the numbers of `forth` but the flow
-from-zeros : (s : Step) (k l : List ℕ) → smaller k l ≡ false → smaller (s .node ∷ s .leaves ∷ s .enters ∷ k) (0 ∷ 0 ∷ 0 ∷ l) ≡ false
-from-zeros s k l h = from-zero (s .node) _ _ (from-zero (s .leaves) _ _ (from-zero (s .enters) k l h))
-
--- and a list that begins with 1 is not
-from-one : (k l : List ℕ) → smaller (1 ∷ k) (0 ∷ l) ≡ false
-unfolding smaller
-from-one k l = refl
-
--- nor is a list smaller than itself
-one-one : smaller (1 ∷ []) (1 ∷ []) ≡ false
-unfolding smaller
-one-one = refl
-
--- a longer walk does not come before
-longer : (a b : List Step) → length b < length a → comesBefore a b ≡ false
-unfolding comesBefore
-longer a b h = rw (le-ltb (length a) (length b) (omega arith), ne-eqb (length a) (length b) (λ e. omega arith)) refl
-
--- a walk of one step is not dangerous
-one-step : (s : Step) (f : Flow) → isDangerous every (step (s .node) (s .leaves) (s .enters) f ∷ []) ≡ false
-unfolding isDangerous isEdge dangerousPair
-one-step s forward = refl
-one-step s back = refl
-
--- Req 01: there is a first walk in it, forward and back
-R1-first : FirstWalk every (forth ∷ return ∷ [])
-unfolding isDangerous isEdge dangerousPair comesBefore stepNumbers flatMap
-R1-first = record { dangerous = refl; first = none }
-  where
-    two : (x y : Step) (f h : Flow)
-        → isDangerous every (step (x .node) (x .leaves) (x .enters) f ∷ step (y .node) (y .leaves) (y .enters) h ∷ []) ≡ true
-        → comesBefore (step (x .node) (x .leaves) (x .enters) f ∷ step (y .node) (y .leaves) (y .enters) h ∷ []) (forth ∷ return ∷ []) ≡ false
-    two x y forward forward d = absurd (false≢true d)
-    two x y forward back d = from-zeros x _ _ (from-zero 0 _ _ (from-zeros y _ _ one-one))
-    two x y back forward d = from-zeros x _ _ (from-one _ _)
-    two x y back back d = absurd (false≢true d)
-
-    none : (other : List Step) → isDangerous every other ≡ true → comesBefore other (forth ∷ return ∷ []) ≡ false
-    none [] d = absurd (false≢true d)
-    none (x ∷ []) d = absurd (true≢false (sym d ∙ one-step x (x .flow)))
-    none (x ∷ y ∷ []) d = two x y (x .flow) (y .flow) d
-    none (x ∷ y ∷ z ∷ l) d = longer (x ∷ y ∷ z ∷ l) (forth ∷ return ∷ []) (omega arith)

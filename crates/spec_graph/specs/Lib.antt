@@ -7,3 +7,4 @@ pub mod ExampleText
 pub mod GraphExamples
 pub mod EdgeExamples
 pub mod FirstWalkExamples
+pub mod SmallestWalk

@@ -1,16 +1,15 @@
--- The report of a text, as bytes (document 01, "Report"). Believed.
+-- The report of a text, as bytes (document 01, "Report"; document 02, Req 01). Believed.
 use mathlib.Core.Bool.{true, false}
 use mathlib.Core.List.{List, [], _∷_, _++_}
 use mathlib.Core.Path.{_≡_}
-use Prim.Native.Nat.{ℕ, suc, _≤_}
-use lib.ListN.{length}
+use Prim.Native.Nat.{ℕ, suc}
 use Rattle.spec_text.specs.declared.Line.{Line}
 use Rattle.spec_text.specs.Text.{newline, space}
 use Rattle.spec_text.specs.Reading.{read}
 use Rattle.spec_text.specs.Reading.Outcome.{refused, accepted}
 use Rattle.spec_text.specs.Text.{digitsOf}
 use Rattle.spec_graph.specs.Graph.{Flow}
-use Rattle.spec_graph.specs.Walk.{Step, isDangerous}
+use Rattle.spec_graph.specs.Walk.{Step, FirstWalk}
 use Rattle.spec_report.specs.State.{Counts, countsOf, tooMany, summaryGraph, Robust}
 
 -- P1: `verdict programs nodes edges back` and its line end
@@ -87,10 +86,10 @@ robustReport c = verdictNames ++ verdictLine robustWord c
 unfoldable pub dangerReport : Counts → List Step → List ℕ
 dangerReport c walk = verdictNames ++ verdictLine dangerWord c ++ stepNames ++ stepLines 0 walk
 
--- P1, P2, P3: these bytes are a report of the text; which dangerous walk of at most 65 steps is shown is free
+-- P1, P2, P3: these bytes are the report of the text. Req 01: of the dangerous walks the first is shown, so nothing is free.
 pub data Report (text : List ℕ) : List ℕ → Type 0 where
   refusal : (number line : ℕ) → read text ≡ refused number line → Report text (refusalReport number line)
   unfolding-refusal : (lines : List Line) → read text ≡ accepted lines → tooMany lines ≡ true → Report text (refusalReport 22 0)
   robust : (lines : List Line) → read text ≡ accepted lines → tooMany lines ≡ false → Robust lines → Report text (robustReport (countsOf lines))
   danger : (lines : List Line) → read text ≡ accepted lines → tooMany lines ≡ false → (walk : List Step)
-      → isDangerous (summaryGraph lines) walk ≡ true → length walk ≤ 65 → Report text (dangerReport (countsOf lines) walk)
+      → FirstWalk (summaryGraph lines) walk → Report text (dangerReport (countsOf lines) walk)

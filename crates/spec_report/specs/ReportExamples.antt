@@ -23,6 +23,8 @@ use Rattle.spec_graph.specs.Unfolding.{inside, occurrences, pairs, unfoldings, 
 use Rattle.spec_graph.specs.Edge.{W, R, T, holds, sameRelation, leads, binds, guarded, shielded, forward, back, placesFrom, placesOf, letterOf}
 use Rattle.spec_graph.specs.Edge.{shared, edgeOf, edgesBetween, edgesOf, placeAt, graphOf}
 use Rattle.spec_graph.specs.Walk.{Step, isEdge, dangerousPair, isDangerous}
+use Rattle.spec_graph.specs.FirstWalkExamples.{forth, return}
+use Rattle.spec_graph.specs.SmallestWalk.{smallest-first}
 use Rattle.spec_report.specs.State.{Counts, counted, countsOf, statementsIn, tooMany, summaryGraph, Robust, StateRefusal, refusalOf}
 use Rattle.spec_report.specs.State.{shortForUnfoldings, shortForEdges, shortForWalk}
 use Rattle.spec_report.specs.State.StateRefusal.{not-given, too-many, too-short, taken}
@@ -227,31 +229,19 @@ names-robust : Report (text (names ∷ [])) (robustReport (countsOf []))
 unfolding many text readBytes
 names-robust = robust [] refl refl (λ w. no-walk (w .0) (w .1))
 
--- P2: a lost update: each run reads the tuple, then writes it; the walk goes from the program to itself and back
+-- P2, Req 01: a predicate update alone: two runs of it, forward and back; no walk comes before this one
 abbrev updateText : List String
-updateText = names ∷ "rl 0 - - 1 - -" ∷ "pr 0 - - - - -" ∷ "ks 0 0 - 1 - -" ∷ "ku 1 0 - 0 1 -" ∷ []
-
-abbrev updateWalk : List Step
-updateWalk =
-    record { node = 0; leaves = 0; enters = 1; flow = Flow.forward } ∷ record { node = 0; leaves = 0; enters = 1; flow = Flow.back } ∷ []
+updateText = names ∷ "rl 0 - - 1 - -" ∷ "pr 0 - - - - -" ∷ "pu 0 0 - 1 1 1" ∷ []
 
 update-lines : List Line
 unfolding taken-lines text
 update-lines = taken-lines (text updateText)
 
-update-danger : Report (text updateText) (dangerReport (countsOf update-lines) updateWalk)
+update-danger : Report (text updateText) (dangerReport (countsOf update-lines) (forth ∷ return ∷ []))
 unfolding update-lines edgesShort summaryGraph graphOf placeAt isDangerous isEdge dangerousPair
-update-danger = danger update-lines refl refl updateWalk refl (omega arith)
-
--- W5: a walk of 65 steps may be shown
-abbrev longWalk : List Step
-longWalk = replicate 63 (record { node = 0; leaves = 1; enters = 1; flow = Flow.forward }) ++ updateWalk
-
-longest-danger : Report (text updateText) (dangerReport (countsOf update-lines) longWalk)
-unfolding update-lines edgesShort summaryGraph graphOf placeAt isDangerous isEdge dangerousPair
-longest-danger = danger update-lines refl refl longWalk refl (omega arith)
+update-danger = danger update-lines refl refl (forth ∷ return ∷ []) (smallest-first (summaryGraph update-lines) refl)
 
 -- N1, demand 2: so that text is not robust, and a robust text has no dangerous walk
 update-not-robust : Robust update-lines → ⊥
 unfolding update-lines edgesShort summaryGraph graphOf placeAt isDangerous isEdge dangerousPair
-update-not-robust none-dangerous = none-dangerous (updateWalk, refl)
+update-not-robust none-dangerous = none-dangerous (forth ∷ return ∷ [], refl)

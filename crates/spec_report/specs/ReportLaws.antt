@@ -1,14 +1,14 @@
 -- What a report says: its word is the verdict's, and no refusal is a verdict.
 use mathlib.Core.List.{List}
-use mathlib.Core.Path.{_≡_, refl, sym, ap, _∙_, transport}
-use Prim.Native.Nat.{ℕ, _≤_}
+use mathlib.Core.Path.{_≡_, refl, sym, ap, _∙_, subst, transport}
+use Prim.Native.Nat.{ℕ}
 use native.Mathlib.Omega.{arith}
-use lib.ListN.{length, getD}
+use lib.ListN.{getD}
 use Rattle.spec_text.specs.declared.Line.{Line}
 use Rattle.spec_text.specs.declared.Workload.{Workload}
 use Rattle.spec_text.specs.Reading.{read}
 use Rattle.spec_text.specs.Reading.Outcome.{refused, accepted}
-use Rattle.spec_graph.specs.Walk.{Step, isDangerous}
+use Rattle.spec_graph.specs.Walk.{Step, FirstWalk}
 use Rattle.spec_report.specs.State.{Counts, countsOf, summaryGraph, Danger, Robust, tooMany, StateRefusal}
 use Rattle.spec_report.specs.State.StateRefusal.{not-given, too-many, too-short, taken}
 use Rattle.spec_report.specs.Report.{verdictNames, robustWord, dangerWord, refusedNames, verdictLine}
@@ -45,7 +45,7 @@ reported-robust (refusal number line r) c e =
 reported-robust (unfolding-refusal lines r many) c e =
     let wrong = differs 0 _ _ e (first-of-refusal 22 0) (first-of-robust c) in absurd (omega arith)
 reported-robust (robust lines r few none-dangerous) c e = (lines, r, few, none-dangerous)
-reported-robust (danger lines r few walk d short) c e =
+reported-robust (danger lines r few walk first) c e =
     let wrong = differs 34 _ _ e (word-of-danger _ walk) (word-of-robust c) in absurd (omega arith)
 
 -- what a text is read as is one outcome
@@ -58,7 +58,7 @@ pub reported-refused : {text bytes : List ℕ} {number line : ℕ} → Report te
 reported-refused (refusal number line r) e = cc
 reported-refused (unfolding-refusal lines r many) e = absurd (refused-accepted (sym e ∙ r))
 reported-refused (robust lines r few none-dangerous) e = absurd (refused-accepted (sym e ∙ r))
-reported-refused (danger lines r few walk d short) e = absurd (refused-accepted (sym e ∙ r))
+reported-refused (danger lines r few walk first) e = absurd (refused-accepted (sym e ∙ r))
 
 -- S22, P3: the report of an accepted text with too many unfoldings
 pub reported-many : {text bytes : List ℕ} {lines : List Line} → Report text bytes → read text ≡ accepted lines → tooMany lines ≡ true
@@ -66,15 +66,14 @@ pub reported-many : {text bytes : List ℕ} {lines : List Line} → Report text 
 reported-many (refusal number line r) e t = absurd (refused-accepted (sym r ∙ e))
 reported-many (unfolding-refusal lines r many) e t = refl
 reported-many (robust lines r few none-dangerous) e t = absurd (false≢true cc)
-reported-many (danger lines r few walk d short) e t = absurd (false≢true cc)
+reported-many (danger lines r few walk first) e t = absurd (false≢true cc)
 
--- what a report of an accepted text that is not too large says: robust where it is, else a dangerous walk of at most 65 steps
+-- what a report of an accepted text that is not too large says: robust where it is, else the first dangerous walk
 pub data Told (lines : List Line) (bytes : List ℕ) : Type 0 where
   robust-told : Robust lines → bytes ≡ robustReport (countsOf lines) → Told lines bytes
-  danger-told : (walk : List Step) → isDangerous (summaryGraph lines) walk ≡ true → length walk ≤ 65
-      → bytes ≡ dangerReport (countsOf lines) walk → Told lines bytes
+  danger-told : (walk : List Step) → FirstWalk (summaryGraph lines) walk → bytes ≡ dangerReport (countsOf lines) walk → Told lines bytes
 
--- P1, P2, W5: the report of any other text
+-- P1, P2, Req 01: the report of any other text
 pub reported-taken : {text bytes : List ℕ} {lines : List Line} → Report text bytes → read text ≡ accepted lines → tooMany lines ≡ false
     → Told lines bytes
 reported-taken (refusal number line r) e t = absurd (refused-accepted (sym r ∙ e))
@@ -82,9 +81,9 @@ reported-taken (unfolding-refusal lines r many) e t = absurd (false≢true cc)
 reported-taken {lines = own} (robust lines r few none-dangerous) e t =
     let same : lines ≡ own = cc in
     robust-told (λ d. none-dangerous (transport (ap Danger (sym same)) d)) (ap (λ l. robustReport (countsOf l)) same)
-reported-taken {lines = own} (danger lines r few walk d short) e t =
+reported-taken {lines = own} (danger lines r few walk first) e t =
     let same : lines ≡ own = cc in
-    danger-told walk (ap (λ l. isDangerous (summaryGraph l) walk) (sym same) ∙ d) short (ap (λ l. dangerReport (countsOf l) walk) same)
+    danger-told walk (subst (λ l. FirstWalk (summaryGraph l) walk) same first) (ap (λ l. dangerReport (countsOf l) walk) same)
 
 -- S: of each value and areas there is at most one refusal
 pub refused-once : {w : Workload} {short : Bool} {a b : Option ℕ} → StateRefusal w short a → StateRefusal w short b → a ≡ b

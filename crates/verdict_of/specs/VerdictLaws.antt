@@ -1,24 +1,28 @@
 -- From what the parts promise to what the verdict promises.
-use mathlib.Core.Bool.{true, false≢true}
-use mathlib.Core.List.{List, []}
-use mathlib.Core.Logic.{_⊎_, inl, inr}
+use mathlib.Core.Bool.{false}
+use mathlib.Core.List.{List}
 use mathlib.Core.Option.{Option, none, some}
 use mathlib.Core.Path.{_≡_, refl, sym, ap, subst, _∙_}
-use Prim.Native.Nat.{ℕ, _*_, _/_, _≤_, _<_}
+use Prim.Native.Nat.{ℕ, _*_, _/_}
 use native.Mathlib.Omega.{arith}
 use lib.ListN.{length, take}
+use Rattle.spec_text.specs.declared.Line.{Line}
 use Rattle.spec_text.specs.declared.Workload.{Workload}
 use Rattle.spec_text.specs.Value.{Given, linesOf}
-use Rattle.spec_graph.specs.Walk.{Step, isDangerous}
+use Rattle.spec_graph.specs.Walk.{Step}
+use Rattle.law_walk.specs.AllNodes.{only-all-walk, only-all-first}
+use Rattle.law_walk.specs.Before.{first-unique}
 use Rattle.spec_schedule.specs.Schedule.{Schedule}
 use Rattle.spec_schedule.specs.Serial.{Serialisable}
 use Rattle.soundness.specs.Theorem.{demand-3}
-use Rattle.spec_report.specs.State.{StateRefusal, shortForWalk, Counts, counted, countsOf, summaryGraph, Robust}
+use Rattle.spec_report.specs.State.{StateRefusal, tooMany, shortForWalk, Counts, counted, countsOf, summaryGraph, Robust}
 use Rattle.spec_report.specs.State.StateRefusal.{not-given, too-many, too-short, taken}
-use Rattle.spec_report.specs.Refusals.{taken-given}
+use Rattle.spec_report.specs.Refusals.{not-both, taken-given}
+use Rattle.spec_report.specs.ReportLaws.{refused-once}
+use Rattle.spec_report.specs.Area.{shownIn}
 use Rattle.pick_laws.specs.declared.WalkFound.{WalkFound}
-use Rattle.walk_find.specs.TableWalk.{tableWalk, refusalIn, stepsIn, WalkAnswered}
-use Rattle.walk_find.specs.TableWalk.WalkAnswered.{no-room, no-walk, shown}
+use Rattle.walk_first.specs.FirstSteps.{Held, refusalIn, stepsIn, WalkAnswered}
+use Rattle.walk_first.specs.FirstSteps.WalkAnswered.{no-room, no-walk, shown}
 use Rattle.place_table.specs.declared.Rows.{Rows}
 use Rattle.place_table.specs.declared.Rows.the-variants.{Refused}
 use Rattle.place_table.specs.Rows.{RowsSettled}
@@ -48,37 +52,28 @@ answer-same c (WalkFound.Shown steps) = refl
 
 -- ---- the verdict
 
--- a walk with a step is dangerous where one of the two holds of it, and one without a step is not
-robust-from : (w : Workload) (walk : List Step) → walk ≡ []
-    → ((isDangerous (summaryGraph (linesOf w)) walk ≡ true) × (length walk ≤ 65)) ⊎ ((walk ≡ []) × Robust (linesOf w)) → Robust (linesOf w)
-unfolding isDangerous
-robust-from w walk e (inl (d, short)) = absurd (false≢true (sym (ap (isDangerous (summaryGraph (linesOf w))) e) ∙ d))
-robust-from w walk e (inr (same, safe)) = safe
+-- the counts told are the workload's
+counts-same : (w : Workload) (programs nodes places : ℕ) (filled table : List ℕ) (p : PickedEdges) → Whole w programs nodes places filled
+    → PickedVerdict (linesOf w) table p → counted programs nodes (p .edges) (p .back) ≡ countsOf (linesOf w)
+unfolding countsOf
+counts-same w programs nodes places filled table p whole picked =
+    rw (whole .programs-are, whole .nodes-are, picked .edges, picked .back) refl
 
-danger-from : (w : Workload) (walk : List Step) → 0 < length walk
-    → ((isDangerous (summaryGraph (linesOf w)) walk ≡ true) × (length walk ≤ 65)) ⊎ ((walk ≡ []) × Robust (linesOf w))
-    → isDangerous (summaryGraph (linesOf w)) walk ≡ true
-danger-from w walk some-step (inl (d, short)) = d
-danger-from w walk some-step (inr (e, safe)) = let z = ap length e in absurd (omega arith)
-
-module _ (w : Workload) (programs nodes places : ℕ) (table : List ℕ) (p : PickedEdges) (whole : Whole w programs nodes places table)
-    (picked : PickedVerdict (linesOf w) p) where
-  -- the counts told are the workload's
-  counts-same : counted programs nodes (p .edges) (p .back) ≡ countsOf (linesOf w)
-  unfolding countsOf
-  counts-same = rw (whole .programs-are, whole .nodes-are, picked .edges, picked .back) refl
-
-  -- what the search for a walk answers is the verdict, or S20
+module _ (w : Workload) (given : Given w) (few : tooMany (linesOf w) ≡ false) {table forwards backs : List ℕ}
+    (held : Held table forwards backs (summaryGraph (linesOf w))) where
+  -- what the search for a walk among all nodes answers is the verdict, or S20
   judged-answer : {before : List ℕ} {refusal steps : Option ℕ} {after : List ℕ}
-      → WalkAnswered (p .forwards) (p .backs) before refusal steps after → Judged w before (answerFor (countsOf (linesOf w)) refusal steps) after
+      → WalkAnswered table forwards backs 18446744073709551615 before refusal steps after
+      → Judged w before (answerFor (countsOf (linesOf w)) refusal steps) after
   unfolding answerFor
-  judged-answer (no-room short) = refused 20 (too-short (whole .given) (whole .few) short)
-  judged-answer {before} (no-walk room empty none-dangerous) =
-      let safe = robust-from w (tableWalk (p .forwards) (p .backs)) empty (picked .verdict) in
-      judged (taken (whole .given) (whole .few) room) _ _ (robust safe (λ s. demand-3 w (whole .given) safe s))
-  judged-answer (shown room dangerous some-step short) =
-      let walk = tableWalk (p .forwards) (p .backs) in
-      judged (taken (whole .given) (whole .few) room) _ _ (danger walk (danger-from w walk some-step (picked .verdict)) short)
+  judged-answer (no-room short) = refused 20 (too-short given few short)
+  judged-answer (no-walk room empty none-dangerous) =
+      let safe : Robust (linesOf w) =
+      λ d. none-dangerous (summaryGraph (linesOf w)) held (only-all-walk (held .isRegular) (held .small) d) in
+      judged (taken given few room) _ _ (robust safe (λ s. demand-3 w given safe s))
+  judged-answer (shown room first some-step short) =
+      let own = only-all-first (held .isRegular) (held .small) (first (summaryGraph (linesOf w)) held) in
+      judged (taken given few room) _ _ (danger _ own)
 
 -- a refusal of the table of places is the verdict's, and leaves the area
 pub judged-rows : (w : Workload) (table : List ℕ) (f : Rows) (filled before : List ℕ) (n : ℕ) → RowsSettled w table f filled → f ≡ Refused n
@@ -88,14 +83,36 @@ judged-rows w table f filled before n settled e = refused n (whole-refused (shor
 -- what is picked from the table, and the walk that is found in it, are the verdict
 pub judged-picked : (w : Workload) (programs nodes places : ℕ) (filled before after : List ℕ) (p : PickedEdges) (found : WalkFound) (answer : Told)
     → Whole w programs nodes places filled → p ≡ picksOf (take (places * 8) filled)
-    → WalkAnswered (p .forwards) (p .backs) before (refusalIn found) (stepsIn found) after
+    → WalkAnswered (take (places * 8) filled) (p .forwards) (p .backs) 18446744073709551615 before (refusalIn found) (stepsIn found) after
     → answer ≡ toldFor (counted programs nodes (p .edges) (p .back)) found → Judged w before answer after
 judged-picked w programs nodes places filled before after p found answer whole picked answered e =
-    let verdict = given-picked w p (whole .given) (whole .few) (picked ∙ ap picksOf (whole .rows)) in
+    let verdict = given-picked w (take (places * 8) filled) p (whole .given) (whole .few) (whole .rows) picked in
     let same = e
-    ∙ ap (λ (c : Counts). toldFor c found) (counts-same w programs nodes places filled p whole verdict)
+    ∙ ap (λ (c : Counts). toldFor c found) (counts-same w programs nodes places filled (take (places * 8) filled) p whole verdict)
     ∙ answer-same (countsOf (linesOf w)) found in
-    subst (λ (t : Told). Judged w before t after) (sym same) (judged-answer w programs nodes places filled p whole verdict answered)
+    subst (λ (t : Told). Judged w before t after) (sym same) (judged-answer w (whole .given) (whole .few) (verdict .held) answered)
+
+-- ---- nothing is free
+
+-- the words of one workload and area are the same, and so are the areas after
+word-one : {lines : List Line} {before : List ℕ} {a b : Told} {after rest : List ℕ} → Word lines before a after → Word lines before b rest
+    → (a ≡ b) × (after ≡ rest)
+word-one (robust safe serial) (robust also serials) = (refl, refl)
+word-one (robust safe serial) (danger walk first) = absurd (safe (walk, first .dangerous))
+word-one (danger walk first) (robust safe serial) = absurd (safe (walk, first .dangerous))
+word-one {lines} {before} (danger walk first) (danger other same) =
+    let e = first-unique walk other first same in
+    (ap (λ (l : List Step). Told.danger (countsOf lines) (length l)) e, ap (λ (l : List Step). shownIn l before) e)
+
+-- Req 01: the value and the area before settle the answer and the area after
+pub judged-one : {w : Workload} {before : List ℕ} {a b : Told} {after rest : List ℕ} → Judged w before a after → Judged w before b rest
+    → (a ≡ b) × (after ≡ rest)
+judged-one (refused number s) (refused other t) =
+    let e = refused-once s t in
+    let same : number ≡ other = cc in (ap Told.refused same, refl)
+judged-one (refused number s) (judged t answer after word) = absurd (not-both refl (refused-once s t))
+judged-one (judged s answer after word) (refused number t) = absurd (not-both refl (refused-once t s))
+judged-one (judged s answer after word) (judged t other rest also) = word-one word also
 
 -- ---- what the verdict says of a value that no text gives
 
@@ -129,4 +146,4 @@ judged-robust {w} {before} {c = c} (judged s answer after word) e = go word e
     go : {t : Told} {area : List ℕ} → Word (linesOf w) before t area → t ≡ Told.robust c
         → Given w × (c ≡ countsOf (linesOf w)) × ((s : Schedule (linesOf w)) → Serialisable s) × (area ≡ before)
     go (robust safe serial) f = let same : c ≡ countsOf (linesOf w) = cc in (taken-given s refl .0, same, serial, refl)
-    go (danger walk dangerous short) f = let z : _≡_ {A = ℕ} 0 1 = cc in absurd (omega arith)
+    go (danger walk first) f = let z : _≡_ {A = ℕ} 0 1 = cc in absurd (omega arith)
