@@ -1,6 +1,6 @@
 #!/bin/sh
-# check.sh PROGRAM [UNFOLDINGS EDGES]: runs a verdict program over all examples and over the vectors of verdict and reader; and
-# programs that print listings, as `outside unfoldings` and `outside edges` do, over the other vectors. All folders are run.
+# check.sh PROGRAM [UNFOLDINGS EDGES]: runs a verdict program over all examples and over the vectors of verdict, whose reports are compared byte by
+# byte, and of reader; and programs that print listings, as `outside unfoldings` and `outside edges` do, over the other vectors. All folders are run.
 # The vectors of reader, unfoldings and edges live in crates/inspect, where the gate runs them; here they are spread into folders.
 # The copies that the gate runs must agree with their homes (data.sh).
 here="$(CDPATH= cd -- "$(dirname -- "$0")" && pwd)"

@@ -1,18 +1,35 @@
 #!/bin/sh
-# data.sh --check | --copy [VECTORS]: the texts and outputs that the gate runs, which must stand in the crates of its programs. One policy for all:
-# examples/ and vectors/verdict are the home of their texts and outputs, crates/inspect that of the vectors of reader, unfoldings and edges, and
-# everything else is a copy that `--copy` makes and that `--check` holds to its home.
-#   crates/inspect/{data,args,stdout}   copies of examples/ and vectors/verdict under --report; for --areas what `outside areas` says
-#   crates/verdict/{stdin,stdout}       an example that is robust
-#   crates/verdict_twice/stdin          an example with danger; stdout is its report, then that of an empty text. The walk in it is the program's
-#                                       own choice, so stdout is not made here: its walk is judged, and the rest held to the examples
-# VECTORS is a folder that spread-vectors.sh made, with vectors added to it or changed. No other output of the proved program goes in here.
+# data.sh --check | --copy [VECTORS] | --reports: the texts and outputs that the gate runs, which must stand in the crates of its programs. One
+# policy for all: examples/ and vectors/verdict are the home of their texts and outputs, crates/inspect that of the vectors of reader, unfoldings and
+# edges, and everything else is a copy that `--copy` makes and that `--check` holds to its home.
+#   crates/inspect/{data,args,stdout}     copies of examples/ and vectors/verdict under --report; for --areas what `outside areas` says
+#   crates/verdict/{stdin,stdout}         an example that is robust
+#   crates/verdict_twice/{stdin,stdout}   an example with danger; its report is followed by that of an empty text
+# VECTORS is a folder that spread-vectors.sh made, with vectors added to it or changed. No output of the proved program goes in here.
+# `--reports` makes the outputs in examples/ and vectors/verdict anew, whole reports as `outside report` prints them; first two lines that stand there
+# already must stay, since people wrote them or looked at them: an output whose first two lines would change is named and left.
 set -e
 here="$(CDPATH= cd -- "$(dirname -- "$0")" && pwd)"
 root="$(CDPATH= cd -- "$here/.." && pwd)"
-case "${1:-}" in --check | --copy) ;; *) echo "usage: data.sh --check | --copy [VECTORS]" >&2; exit 2 ;; esac
-[ -x "$here/target/outside" ] && [ -x "$here/target/check" ] || "$here/build.sh" outside check
+case "${1:-}" in --check | --copy | --reports) ;; *) echo "usage: data.sh --check | --copy [VECTORS] | --reports" >&2; exit 2 ;; esac
+[ -x "$here/target/outside" ] || "$here/build.sh" outside
 made="$here/target/data"
+failed=0
+
+if [ "$1" = --reports ]; then
+    for text in "$root"/examples/*.txt "$root"/vectors/verdict/*.txt; do
+        out="${text%.txt}.out"
+        "$here/target/outside" report < "$text" > "$here/target/reported"
+        if [ -e "$out" ] && [ "$(head -n 2 "$out")" != "$(head -n 2 "$here/target/reported")" ]; then
+            echo "$out begins otherwise than what \`outside report\` says"
+            failed=1
+        else
+            cp "$here/target/reported" "$out"
+        fi
+    done
+    exit $failed
+fi
+
 vectors="${2:-$here/target/vectors}"
 [ -n "${2:-}" ] || "$here/spread-vectors.sh" "$root/crates/inspect" "$vectors"
 robust=contact-robust
@@ -21,7 +38,7 @@ empty=station-empty
 areas="base linked unlinked loop predicate-twice names-alone 65-unfoldings empty"
 
 rm -rf "$made"
-mkdir -p "$made/inspect/data" "$made/verdict" "$made/verdict_twice" "$made/walk"
+mkdir -p "$made/inspect/data" "$made/verdict" "$made/verdict_twice"
 : > "$made/inspect/args"
 : > "$made/inspect/stdout"
 
@@ -55,9 +72,9 @@ done
 cp "$root/examples/$robust.txt" "$made/verdict/stdin"
 cp "$root/examples/$robust.out" "$made/verdict/stdout"
 cp "$root/examples/$danger.txt" "$made/verdict_twice/stdin"
+cat "$root/examples/$danger.out" "$root/examples/$empty.out" > "$made/verdict_twice/stdout"
 
-copies="inspect/args inspect/stdout inspect/data verdict/stdin verdict/stdout verdict_twice/stdin"
-failed=0
+copies="inspect/args inspect/stdout inspect/data verdict/stdin verdict/stdout verdict_twice/stdin verdict_twice/stdout"
 for file in $copies; do
     if [ "$1" = --copy ]; then
         rm -rf "$root/crates/$file"
@@ -68,14 +85,4 @@ for file in $copies; do
         failed=1
     fi
 done
-
-# the report with danger and its walk, as if a program printed it
-said="$root/crates/verdict_twice/stdout"
-cp "$root/examples/$danger.txt" "$root/examples/$danger.out" "$made/walk"
-sed '$d' "$said" | sed '$d' > "$made/said"
-"$here/target/check" report "cat $made/said" "$made/walk" > "$made/judged" || { cat "$made/judged"; failed=1; }
-tail -n 2 "$said" | cmp -s - "$root/examples/$empty.out" || {
-    echo "crates/verdict_twice/stdout does not end with the report of an empty text"
-    failed=1
-}
 exit $failed

@@ -1,19 +1,22 @@
 #!/bin/sh
 # run.sh PROGRAM [SEED [INSPECT]]: everything but the timings, some two minutes (with RATTLE_LIB also the exports, by `records`): builds, checks this
-# implementation against itself, then the program on all examples and vectors and on 20,000 generated texts, every edge record and every unfolding
-# of 2,000 of them by the program inspect (beside PROGRAM unless named), then brute force against demand 3; texts that arrive in pieces and inputs
-# and outputs that fail; and the script judge, with a stand-in for rt.
+# implementation against itself and its first walks against the definition, then the program on all examples and vectors and on 20,000 generated
+# texts, every report, edge record and unfolding of 2,000 of them by the program inspect (beside PROGRAM unless named), then brute force against
+# demand 3; texts that arrive in pieces and inputs and outputs that fail; and the script judge, with a stand-in for rt.
 here="$(CDPATH= cd -- "$(dirname -- "$0")" && pwd)"
 program="${1:?usage: run.sh PROGRAM [SEED [INSPECT]]}"
 seed="${2:-1}"
 inspect="${3:-$(dirname "$program")/inspect}"
 unfoldings="$here/listing.sh $inspect unfold"
 edges="$here/listing.sh $inspect edges"
+reports="$here/listing.sh $inspect report"
 "$here/build.sh" || exit 1
 failed=0
 "$here/target/selfcheck" "$seed" 5000 "$here/../examples/tpcc.txt" || failed=1
+"$here/target/walks" "$seed" 1000 "$here"/../examples/*.txt "$here"/../vectors/verdict/*.txt || failed=1
 "$here/check.sh" "$program" "$unfoldings" "$edges" || failed=1
 "$here/target/compare" "$program" "$seed" 20000 || failed=1
+"$here/target/compare" "$reports" "$seed" 2000 || failed=1
 "$here/target/compare" "$edges" "$seed" 2000 edges || failed=1
 "$here/target/compare" "$unfoldings" "$seed" 2000 unfoldings || failed=1
 "$here/target/brute" "$seed" 3000 || failed=1

@@ -85,6 +85,11 @@ fn go_on(open: &mut Vec<u8>, lines: &mut Vec<Line>) {
 /// back edge, so every dangerous walk goes round the whole chain, one step more than there are nodes (65 of 64).
 pub fn long_walk(random: &mut Random) -> Vec<Line> {
     let nodes = if random.chance(1, 3) { 64 } else { random.between(2, 64) };
+    chain(random, nodes)
+}
+
+/// The same with so many nodes.
+pub fn chain(random: &mut Random, nodes: usize) -> Vec<Line> {
     let mut order: Vec<usize> = (0..nodes).collect();
     for at in (1..nodes).rev() {
         order.swap(at, random.below(at + 1));

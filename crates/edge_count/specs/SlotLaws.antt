@@ -13,7 +13,7 @@ use Rattle.spec_graph.specs.Graph as G
 use Rattle.place_row.specs.declared.Row.{Row}
 use Rattle.place_row.specs.RowTable.{rowAt, rowCount, rowForward, rowBack, rowStands, rowEdge}
 use Rattle.edge_count.specs.declared.Counts.{Counts}
-use Rattle.edge_count.specs.Slots.{coded}
+use Rattle.edge_record.specs.Coded.{coded}
 use Rattle.edge_count.specs.Slots.{leftRow, rightRow}
 use Rattle.edge_count.specs.Slots.{standsAt, slotEdge, edgeAt, one, pairCounts, backOne, edgesBelow, backBelow, countsBelow}
 

@@ -1,8 +1,6 @@
 -- Slots: each row of a table has 1024 slots, two for each row that an edge of it can enter, the forward edge's first.
 -- So a slot's rows and flow are told without dividing by the number of rows. Slots past the table's last row stay empty.
--- Believed: `flowByte`, `letterByte`, `coded` and `foundAs`.
 use mathlib.Core.Bool.{Bool, cond, _&&_}
-use mathlib.Core.Option.{Option, none, some}
 use mathlib.Core.List.{List}
 use mathlib.Core.Path.{_≡_}
 use Prim.Native.Nat.{ℕ, zero, suc, _+_, _-_, _*_, _/_, _%_, _<_}
@@ -13,43 +11,9 @@ use Rattle.spec_graph.specs.Graph as G
 use Rattle.spec_graph.specs.Edge as E
 use Rattle.place_row.specs.declared.Row.{Row}
 use Rattle.place_row.specs.RowTable.{rowAt, rowCount, rowStands, rowEdge, tableRows, edgesOfRows}
-use Rattle.edge_count.specs.declared.Edge.{Edge}
+use Rattle.edge_record.specs.declared.Edge.{Edge}
+use Rattle.edge_record.specs.Coded.{coded}
 use Rattle.edge_count.specs.declared.Counts.{Counts}
-use Rattle.edge_count.specs.declared.Found.{Found}
-use Rattle.edge_count.specs.declared.Found.the-variants.{There, Absent}
-
--- ---- what the answers stand for
-
--- the byte of a flow: f or b
-abbrev pub flowByte : G.Flow → ℕ
-flowByte G.Flow.forward = 0x66
-flowByte G.Flow.back = 0x62
-
--- the byte of a letter
-abbrev pub letterByte : E.Letter → ℕ
-letterByte E.Letter.A = 0x41
-letterByte E.Letter.B = 0x42
-letterByte E.Letter.C = 0x43
-letterByte E.Letter.D = 0x44
-letterByte E.Letter.E = 0x45
-
--- E6: an edge as the code holds it
-unfoldable pub coded : E.Edge → Edge
-coded e = record {
-  node = e .node;
-  leaves = e .leaves;
-  into = e .into;
-  enters = e .enters;
-  sharing = e .sharing;
-  lowest = e .lowest;
-  flow = flowByte (e .flow);
-  letter = letterByte (e .letter);
-}
-
--- E5: one edge asked for by its number, or that there is none
-unfoldable pub foundAs : Option E.Edge → Found
-foundAs none = Absent
-foundAs (some e) = There (coded e)
 
 -- the edges of a table, and how many they are
 unfoldable pub tableEdges : List ℕ → List E.Edge

@@ -10,8 +10,9 @@ use Rattle.spec_graph.specs.Edge.{Letter}
 use Rattle.spec_graph.specs.Edge.Letter.{A, B, C, D, E}
 use Rattle.place_row.specs.declared.Row.{Row}
 use Rattle.place_row.specs.RowTable.{rowShared}
-use Rattle.edge_count.specs.declared.Found.{Found}
-use Rattle.edge_count.specs.Slots.{foundAs, tableEdges, edgesBelow, nextSlot}
+use Rattle.edge_record.specs.declared.Found.{Found}
+use Rattle.edge_record.specs.Coded.{foundAs}
+use Rattle.edge_count.specs.Slots.{tableEdges, edgesBelow, nextSlot}
 use Rattle.edge_find.specs.declared.EdgeStep.{EdgeStep}
 
 -- E5: the first edge from slot x on. Its number is how many edges stand in the slots before; its slot is the first in which one stands,

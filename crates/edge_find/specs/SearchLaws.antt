@@ -20,9 +20,10 @@ use Rattle.place_row.specs.declared.Row.{Row}
 use Rattle.place_row.specs.RowTable.{rowAt, rowCount, rowStands, rowLetter, rowEdge}
 use Rattle.place_row.specs.RowTableLaws.{onesIn-ones}
 use Rattle.edge_find.specs.declared.EdgeStep.{EdgeStep}
-use Rattle.edge_count.specs.declared.Edge.{Edge}
-use Rattle.edge_count.specs.declared.Found.{Found}
-use Rattle.edge_count.specs.Slots.{flowByte, coded, foundAs, tableEdges, slots, leftRow, rightRow}
+use Rattle.edge_record.specs.declared.Edge.{Edge}
+use Rattle.edge_record.specs.declared.Found.{Found}
+use Rattle.edge_record.specs.Coded.{flowByte, coded, foundAs}
+use Rattle.edge_count.specs.Slots.{tableEdges, slots, leftRow, rightRow}
 use Rattle.edge_count.specs.Slots.{standsAt, slotEdge, edgeAt, nextFrom, nextSlot, one, edgesBelow}
 use Rattle.edge_test.specs.Letters.{byteOf, letterBetween}
 use Rattle.edge_find.specs.Search.{edgeFrom, letterFrom, sharedBy, nothingTo, stepIn, Looked}

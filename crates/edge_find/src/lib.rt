@@ -4,8 +4,8 @@
 ghost use mathlib.Core.Path.{_≡_};
 ghost use Prim.Native.Nat.{_<_};
 ghost use Rattle.edge_find.specs.Search.{sharedBy, nothingTo, stepIn, isThere, edgeFrom, Looked};
-use edge_count::Edge;
-use edge_count::Found;
+use edge_record::Edge;
+use edge_record::Found;
 use edge_test::back_letter;
 use edge_test::forward_letter;
 use place_fetch::row_at;

@@ -11,8 +11,8 @@ use Rattle.spec_text.specs.Value.{linesOf}
 use Rattle.spec_graph.specs.Unfolding.{nodesOf}
 use Rattle.spec_graph.specs.Edge as E
 use Rattle.spec_report.specs.State.{StateRefusal, countsOf, shortForEdges}
-use Rattle.edge_count.specs.declared.Edge.{Edge}
-use Rattle.edge_count.specs.Slots.{coded}
+use Rattle.edge_record.specs.declared.Edge.{Edge}
+use Rattle.edge_record.specs.Coded.{coded}
 use Rattle.edge_put.specs.declared.Put.{Put}
 use Rattle.edge_put.specs.Put.{putSaid}
 use Rattle.edge_list.specs.declared.EdgeCounts.{EdgeCounts}

@@ -9,18 +9,17 @@ use native.Mathlib.Omega.{arith}
 use lib.ListN.{length}
 use Rattle.spec_text.specs.declared.Workload.{Workload}
 use Rattle.spec_text.specs.Value.{Given, linesOf}
-use Rattle.law_text.specs.ValueLaws.{given-read}
 use Rattle.spec_graph.specs.Unfolding.{nodesOf}
 use Rattle.spec_graph.specs.Edge as E
 use Rattle.spec_report.specs.State.{StateRefusal, tooMany}
 use Rattle.spec_report.specs.Refusals.{taken-given}
 use Rattle.place_row.specs.RowTable.{rowsOf, tableOf}
-use Rattle.edge_count.specs.declared.Edge.{Edge}
+use Rattle.edge_record.specs.declared.Edge.{Edge}
 use Rattle.edge_count.specs.declared.Counts.{Counts}
 use Rattle.edge_count.specs.Slots.{tableEdges, tableCounts, slots, countsBelow}
 use Rattle.edge_count.specs.SlotLaws.{rows-small, edges-few as slots-few}
 use Rattle.edge_count.specs.Flattened.{counts-below}
-use Rattle.place_laws.specs.Placed.{accepted-edges}
+use Rattle.place_laws.specs.Placed.{given-edges}
 use Rattle.edge_put.specs.declared.Put.{Put}
 use Rattle.edge_put.specs.Put.{putSaid}
 use Rattle.edge_list.specs.EdgesSettled.{edgesIn, PutSettled}
@@ -36,8 +35,7 @@ table-few table =
 
 pub edges-few : (w : Workload) → Given w → tooMany (linesOf w) ≡ false → length (edgesIn w) ≤ 524288
 edges-few w g t =
-    subst (λ (l : List E.Edge). length l ≤ 524288) (accepted-edges (g .text) (linesOf w) (given-read g) t)
-    (table-few (tableOf (rowsOf (nodesOf (linesOf w)))))
+    subst (λ (l : List E.Edge). length l ≤ 524288) (given-edges g t) (table-few (tableOf (rowsOf (nodesOf (linesOf w)))))
 
 -- so no more are put
 pub put-few : {w : Workload} {before after : List Edge} {r : Put} → PutSettled w before r after → (n : ℕ) → putSaid r ≡ inr n → n ≤ 524288

@@ -19,10 +19,11 @@ use Rattle.spec_report.specs.State.{StateRefusal, tooMany, countsOf, shortForEd
 use Rattle.spec_report.specs.State.StateRefusal.{too-short, taken}
 use Rattle.spec_report.specs.Refusals.{refusal-some, refusal-none, taken-given, other-area}
 use Rattle.place_row.specs.RowTable.{rowCount, tableRows, edgesOfRows}
-use Rattle.edge_count.specs.declared.Edge.{Edge}
-use Rattle.edge_count.specs.declared.Found.{Found}
+use Rattle.edge_record.specs.declared.Edge.{Edge}
+use Rattle.edge_record.specs.declared.Found.{Found}
 use Rattle.edge_count.specs.declared.Counts.{Counts}
-use Rattle.edge_count.specs.Slots.{coded, foundAs, tableEdges, tableCounts}
+use Rattle.edge_record.specs.Coded.{coded, foundAs}
+use Rattle.edge_count.specs.Slots.{tableEdges, tableCounts}
 use Rattle.edge_put.specs.declared.Put.{Put}
 use Rattle.edge_put.specs.declared.Put.the-variants.{Refused}
 use Rattle.edge_put.specs.Put.{putSaid, PutAs}

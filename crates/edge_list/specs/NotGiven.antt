@@ -7,7 +7,7 @@ use Prim.Native.Nat.{ℕ}
 use Rattle.spec_text.specs.declared.Workload.{Workload}
 use Rattle.spec_text.specs.Value.{Given}
 use Rattle.spec_report.specs.Refusals.{not-given-refused}
-use Rattle.edge_count.specs.declared.Edge.{Edge}
+use Rattle.edge_record.specs.declared.Edge.{Edge}
 use Rattle.edge_put.specs.declared.Put.{Put}
 use Rattle.edge_put.specs.Put.{putSaid}
 use Rattle.edge_list.specs.declared.EdgeCounts.{EdgeCounts}

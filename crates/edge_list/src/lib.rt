@@ -1,11 +1,11 @@
 // The edges of any workload value: counted, told one by one, or put into the caller's list.
 
-use edge_count::Edge;
-use edge_count::Found;
 use edge_count::count_edges;
 use edge_put::Put;
 use edge_put::edge_of_number;
 use edge_put::put_edges;
+use edge_record::Edge;
+use edge_record::Found;
 use place_row::ROW_WORDS;
 use place_row::TABLE_WORDS;
 use place_table::Rows;

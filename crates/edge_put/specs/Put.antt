@@ -8,11 +8,12 @@ use Prim.Native.Nat.{ℕ, _+_, _≤_, _<_}
 use lib.Dec.{eqb, leb}
 use lib.ListN.{length, take, drop, getElem?}
 use Rattle.spec_graph.specs.Edge as E
-use Rattle.edge_count.specs.declared.Edge.{Edge}
+use Rattle.edge_record.specs.declared.Edge.{Edge}
 use Rattle.edge_put.specs.declared.Next.{Next}
 use Rattle.edge_put.specs.declared.Put.{Put}
 use Rattle.edge_put.specs.declared.Put.the-variants.{All, Refused}
-use Rattle.edge_count.specs.Slots.{coded, tableEdges, edgesBelow}
+use Rattle.edge_record.specs.Coded.{coded}
+use Rattle.edge_count.specs.Slots.{tableEdges, edgesBelow}
 
 -- E5: all edges of a table, as the code holds them
 abbrev pub records : List ℕ → List Edge

@@ -13,11 +13,12 @@ use lib.Seq.{take-length, length-take-le}
 use borrow.Author.Tests.{leb-true, leb-false, le-leb, lt-leb, eq-eqb, ne-eqb}
 use Rattle.law_base.specs.ListLaws.{getElem?-past, some-injective}
 use Rattle.spec_graph.specs.Edge as E
-use Rattle.edge_count.specs.declared.Edge.{Edge}
+use Rattle.edge_record.specs.declared.Edge.{Edge}
 use Rattle.edge_find.specs.declared.EdgeStep.{EdgeStep}
-use Rattle.edge_count.specs.declared.Found.the-variants.{There, Absent}
+use Rattle.edge_record.specs.declared.Found.the-variants.{There, Absent}
 use Rattle.edge_count.specs.declared.Counts.{Counts}
-use Rattle.edge_count.specs.Slots.{coded, foundAs, tableEdges, tableCounts, slots, edgesBelow}
+use Rattle.edge_record.specs.Coded.{coded, foundAs}
+use Rattle.edge_count.specs.Slots.{tableEdges, tableCounts, slots, edgesBelow}
 use Rattle.edge_find.specs.Search.{edgeFrom}
 use Rattle.edge_count.specs.SlotLaws.{rows-small}
 use Rattle.edge_find.specs.SearchLaws.{edge-after}

@@ -2,12 +2,13 @@
 
 ghost use mathlib.Core.Path.{_≡_};
 ghost use lib.ListN.{length, getElem?};
-ghost use Rattle.edge_count.specs.Slots.{foundAs, tableEdges};
+ghost use Rattle.edge_record.specs.Coded.{foundAs};
+ghost use Rattle.edge_count.specs.Slots.{tableEdges};
 ghost use Rattle.edge_put.specs.Put.{fittingIn, answerFor, Ahead, Numbered, PutAs};
-use edge_count::Edge;
-use edge_count::Found;
 use edge_count::count_edges;
 use edge_find::edge_from;
+use edge_record::Edge;
+use edge_record::Found;
 
 // What becomes of edges that are put: all of them are, so many; or the number of the refusal, and none is.
 pub enum Put {

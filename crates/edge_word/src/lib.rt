@@ -2,13 +2,14 @@
 // no edge is 0. Of two edges between the same nodes the one with the greater word makes a dangerous pair wherever the other does.
 
 use pick_laws::Pick;
+use unfold_laws::UNFOLDINGS;
 ghost use mathlib.Core.Bool.{cond};
 ghost use mathlib.Core.Path.{_≡_};
 ghost use Rattle.pick_laws.specs.Pick.{dangerousPicks};
 ghost use Rattle.edge_word.specs.Coding.{forwardWord, backWord, forwardEdge, backEdge, forwardPick, backPick};
 
 // The nodes of a table, and the pairs of them: the word for the edge from u to v stands at u * 64 + v.
-pub const NODES: usize = 64;
+pub const NODES: usize = UNFOLDINGS;
 
 pub const PAIRS: usize = 4096;
 

@@ -29,7 +29,7 @@ const SET: u64 = 4096;
 pub fn refusal_word(number: u8, line: u64) -> u32
     ensures { λ r. ⌜ r ≡ refusalWord number line ⌝ }
 {
-    REFUSAL + (number as u32) * 65536 + (line % HALF) as u32
+    REFUSAL + (number as u32) * HALF as u32 + (line % HALF) as u32
 }
 
 // A value that was read: the values of one of its lines, and how many lines it has.

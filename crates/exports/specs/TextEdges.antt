@@ -11,8 +11,8 @@ use Rattle.spec_text.specs.Reading.Outcome.{refused, accepted}
 use Rattle.spec_graph.specs.Unfolding.{nodesOf}
 use Rattle.spec_graph.specs.Edge.{edgesOf}
 use Rattle.spec_report.specs.State.{tooMany, shortForEdges}
-use Rattle.edge_count.specs.declared.Edge.{Edge}
-use Rattle.edge_count.specs.Slots.{coded}
+use Rattle.edge_record.specs.declared.Edge.{Edge}
+use Rattle.edge_record.specs.Coded.{coded}
 use Rattle.edge_put.specs.declared.Put.{Put}
 use Rattle.edge_put.specs.Put.{putSaid}
 use Rattle.export_word.specs.Word.{refusalWord}

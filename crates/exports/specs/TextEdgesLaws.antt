@@ -17,7 +17,7 @@ use Rattle.spec_graph.specs.Edge as E
 use Rattle.spec_report.specs.State.{StateRefusal, tooMany, shortForEdges}
 use Rattle.spec_report.specs.State.StateRefusal.{not-given, too-many, too-short, taken}
 use Rattle.spec_report.specs.Refusals.{not-both}
-use Rattle.edge_count.specs.declared.Edge.{Edge}
+use Rattle.edge_record.specs.declared.Edge.{Edge}
 use Rattle.edge_put.specs.declared.Put.{Put}
 use Rattle.edge_put.specs.declared.Put.the-variants.{All, Refused}
 use Rattle.edge_put.specs.Put.{putSaid}

@@ -1,8 +1,8 @@
 // What is made of a text, as exports: reading, unfolding and the verdict, for timing beside plain Rust, and the edges, put into the caller's list.
 // Each is one call from the bytes on, and one number answers it: bit 31 tells a refusal, and then its number and its line follow.
 
-use edge_count::Edge;
 use edge_put::Put;
+use edge_record::Edge;
 use export_word::nodes_word;
 use export_word::refusal_word;
 use export_word::value_word;

@@ -2,11 +2,11 @@
 // are words and file names in order: `--read`, `--unfold`, `--edges`, `--report` and `--areas` say what is printed of the files after them.
 
 use check::same;
-use edge_count::Edge;
-use edge_count::Found;
 use edge_list::EdgeAnswer;
 use edge_list::EdgeCounts;
 use edge_put::Put;
+use edge_record::Edge;
+use edge_record::Found;
 use libc::STDOUT_FILENO;
 use place_row::ROWS;
 use place_row::TABLE_WORDS;
@@ -16,7 +16,7 @@ use spec_text::Line;
 use spec_text::LineKind;
 use spec_text::Workload;
 use verdict_told::Verdict;
-use walk_find::WALK_WORDS;
+use walk_first::WALK_WORDS;
 ghost use Rattle.io.specs.Counts.{Counts};
 ghost use Rattle.edge_list.specs.EdgesSettled.{PutSettled};
 
@@ -204,31 +204,11 @@ fn list_edges(w: Workload) {
 
 // ---- the report
 
-// The place after the first line end from a place on, or the end.
-fn after_line(bytes: &[u8], from: usize) -> usize
-    ensures { λ r. ⌜ Counts r (now (bytes .entry)) ⌝ }
-{
-    let mut i = from;
-    while i < bytes.len() {
-        if bytes[i] == b'\n' {
-            return i + 1;
-        }
-        i += 1;
-    }
-    bytes.len()
-}
-
-// The first two lines of a report. After them stands a walk, whose choice is free.
-fn print_verdict(report: &[u8]) {
-    let n = after_line(report, after_line(report, 0));
-    print(&report[..n]);
-}
-
 fn show_report(text: &[u8]) {
     let report = report_text::report_of(text);
     let n = report.length;
     let bytes = report.bytes;
-    print_verdict(&bytes[..n]);
+    print(&bytes[..n]);
 }
 
 // ---- lent areas

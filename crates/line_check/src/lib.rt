@@ -6,7 +6,7 @@ use spec_text::LineKind;
 use spec_text::StatementKind;
 use word_list::word_at;
 ghost use mathlib.Core.Path.{_≡_};
-ghost use mathlib.Core.Bool.{not, _&&_};
+ghost use mathlib.Core.Bool.{true, not, _&&_};
 ghost use Prim.Native.Nat.{_-_};
 ghost use lib.Dec.{eqb, ltb};
 ghost use Rattle.spec_text.specs.declared.Line.{Line as LineValue};
@@ -44,9 +44,9 @@ fn innermost(words: &[u64], part: u64) -> bool
     (depth != 0) & (innermost == part)
 }
 
-// The number of the first test that fails, in the order of document 01; 0 where none does.
-fn verdict(room: bool, ordered: bool, named: bool, sets: bool, link: bool, fits: bool) -> u8
-    ensures { λ r. ⌜ r ≡ checkBy room ordered named sets link fits ⌝ }
+// The number of the first test that fails, in the order of document 01, 0 where none does; what a kind does not ask is true.
+fn first_fault(room: bool, ordered: bool, named: bool, sets: bool, fits: bool) -> u8
+    ensures { λ r. ⌜ r ≡ checkBy room ordered named sets true fits ⌝ }
 {
     if !room {
         return 9;
@@ -60,10 +60,8 @@ fn verdict(room: bool, ordered: bool, named: bool, sets: bool, link: bool, fits:
     if !sets {
         return 5;
     }
-    if link {
-        if !fits {
-            return 8;
-        }
+    if !fits {
+        return 8;
     }
     0
 }
@@ -73,12 +71,11 @@ fn check_relation(words: &[u64], l: Line) -> u8
 {
     let lines = word_at(words, line_state::LINES);
     let relations = word_at(words, line_state::RELATIONS);
-    verdict(
-        relations < 32,
+    first_fault(
+        relations < line_state::MOST_RELATIONS,
         lines == relations,
         l.id as u64 == relations,
         l.reads != 0,
-        false,
         true,
     )
 }
@@ -91,7 +88,7 @@ fn check_key(words: &[u64], l: Line) -> u8
     let keys = word_at(words, line_state::KEYS);
     let ordered = is_sum(lines, relations, keys);
     let named = (l.id as u64 == keys) & ((l.rel as u64) < relations) & ((l.to as u64) < relations);
-    verdict(keys < 32, ordered, named, true, false, true)
+    first_fault(keys < line_state::MOST_KEYS, ordered, named, true, true)
 }
 
 fn check_program(words: &[u64], l: Line) -> u8
@@ -99,12 +96,11 @@ fn check_program(words: &[u64], l: Line) -> u8
 {
     let programs = word_at(words, line_state::PROGRAMS);
     let depth = word_at(words, line_state::DEPTH);
-    verdict(
-        programs < 16,
+    first_fault(
+        programs < line_state::MOST_PROGRAMS,
         depth == 0,
         l.id as u64 == programs,
         true,
-        false,
         true,
     )
 }
@@ -117,16 +113,10 @@ fn check_statement(words: &[u64], kind: StatementKind, l: Line) -> u8
     let body = word_at(words, line_state::BODY);
     let relations = word_at(words, line_state::RELATIONS);
     let whole = line_state::cell(words, line_state::SETS, l.rel as u64);
-    let room = (programs == 0) | ((statements < 32) & (body < 64));
+    let room = (programs == 0)
+        | ((statements < line_state::MOST_STATEMENTS) & (body < line_state::MOST_BODY));
     let named = (l.id as u64 == statements) & ((l.rel as u64) < relations);
-    verdict(
-        room,
-        in_body(words),
-        named,
-        sets_fit(whole, kind, l),
-        false,
-        true,
-    )
+    first_fault(room, in_body(words), named, sets_fit(whole, kind, l), true)
 }
 
 // A loop or a branch begins.
@@ -138,8 +128,9 @@ fn check_opening(words: &[u64]) -> u8
     let programs = word_at(words, line_state::PROGRAMS);
     let body = word_at(words, line_state::BODY);
     let depth = word_at(words, line_state::DEPTH);
-    let room = (programs == 0) | ((body < 64) & (depth < 8));
-    verdict(room, in_body(words), true, true, false, true)
+    let room = (programs == 0)
+        | ((body < line_state::MOST_BODY) & (depth < line_state::MOST_DEPTH));
+    first_fault(room, in_body(words), true, true, true)
 }
 
 fn check_second(words: &[u64]) -> u8
@@ -147,9 +138,9 @@ fn check_second(words: &[u64]) -> u8
 {
     let programs = word_at(words, line_state::PROGRAMS);
     let body = word_at(words, line_state::BODY);
-    let room = (programs == 0) | (body < 64);
-    let ordered = in_body(words) & innermost(words, 1);
-    verdict(room, ordered, true, true, false, true)
+    let room = (programs == 0) | (body < line_state::MOST_BODY);
+    let ordered = in_body(words) & innermost(words, line_state::FIRST_ARM);
+    first_fault(room, ordered, true, true, true)
 }
 
 fn check_closing(words: &[u64]) -> u8
@@ -157,9 +148,10 @@ fn check_closing(words: &[u64]) -> u8
 {
     let programs = word_at(words, line_state::PROGRAMS);
     let body = word_at(words, line_state::BODY);
-    let room = (programs == 0) | (body < 64);
-    let ordered = in_body(words) & (innermost(words, 0) | innermost(words, 2));
-    verdict(room, ordered, true, true, false, true)
+    let room = (programs == 0) | (body < line_state::MOST_BODY);
+    let ordered = in_body(words)
+        & (innermost(words, line_state::LOOP) | innermost(words, line_state::SECOND_ARM));
+    first_fault(room, ordered, true, true, true)
 }
 
 fn check_link(words: &[u64], l: Line) -> u8
@@ -170,12 +162,12 @@ fn check_link(words: &[u64], l: Line) -> u8
     let depth = word_at(words, line_state::DEPTH);
     let keys = word_at(words, line_state::KEYS);
     let statements = word_at(words, line_state::STATEMENTS);
-    let room = (programs == 0) | (links < 32);
+    let room = (programs == 0) | (links < line_state::MOST_LINKS);
     let ordered = (programs != 0) & (depth == 0);
     let named = ((l.id as u64) < keys)
         & ((l.rel as u64) < statements)
         & ((l.to as u64) < statements);
-    verdict(room, ordered, named, true, true, link_fits(words, l))
+    first_fault(room, ordered, named, true, link_fits(words, l))
 }
 
 // The number of the first test that the line fails, 0 where it passes all.

@@ -53,6 +53,29 @@ pub const KEYS: usize = 423;
 // The words of a state: all arrays and counts.
 pub const WORDS: usize = 424;
 
+// The parts of a block, as the words of open parts tell them: a loop's body, the first and the second arm of a branch.
+pub const LOOP: u64 = 0;
+
+pub const FIRST_ARM: u64 = 1;
+
+pub const SECOND_ARM: u64 = 2;
+
+// The bounds of document 01: of the text so many relations, keys and programs;
+pub const MOST_RELATIONS: u64 = 32;
+
+pub const MOST_KEYS: u64 = 32;
+
+pub const MOST_PROGRAMS: u64 = 16;
+
+// of a program so many statements, statement and flow lines and links, and blocks so deep.
+pub const MOST_STATEMENTS: u64 = 32;
+
+pub const MOST_BODY: u64 = 64;
+
+pub const MOST_LINKS: u64 = 32;
+
+pub const MOST_DEPTH: u64 = 8;
+
 // A cell of the array that begins at a word, 0 past its end.
 pub fn cell(words: &[u64], from: usize, i: u64) -> u64
     ensures { λ r. ⌜ r ≡ getD (arrayIn (now (words .entry)) from) i 0 ⌝ }

@@ -13,8 +13,8 @@ use Rattle.spec_base.specs.Basic.{all}
 use Rattle.law_base.specs.BoolLaws.{and-true}
 use Rattle.line_state.specs.StateSteps.{nextOf}
 use Rattle.line_state.specs.StateWords.{arrayIn, stateIn}
-use Rattle.line_take.specs.Stores.{putIn, stepIn, Store, fits, storeIn, storesIn, arrayAfter, arrayAfterStores, countAfter, countAfterStores}
-use Rattle.line_take.specs.Stores.{stateAfterStores, Took}
+use Rattle.line_take.specs.Stores.{putIn, cellsIn, stepIn, Store, fits, storeIn, storesIn, arrayAfter, arrayAfterStores}
+use Rattle.line_take.specs.Stores.{countAfter, countAfterStores, stateAfterStores, Took}
 use Rattle.line_take.specs.Stores.Store.{cell, count, step}
 
 -- a store below, within or above an array
@@ -89,6 +89,32 @@ put-out words from i v h = sym (ap pick (le-ltb i 32 h))
   where
     pick : Bool → List ℕ
     pick b = elim b [ true ↦ set words (from + i) v | false ↦ words ]
+
+-- five cells at one place set, or none past the arrays' end
+pub cells-in : (words : List ℕ) (from i v w x y z : ℕ) → i < 32
+    → set (set (set (set (set words (from + i) v) (from + i + 32) w) (from + i + 64) x) (from + i + 96) y) (from + i + 128) z
+    ≡ cellsIn words from i v w x y z
+cells-in words from i v w x y z h =
+    let second : from + i + 32 ≡ from + 32 + i = omega arith in
+    let third : from + i + 64 ≡ from + 64 + i = omega arith in
+    let fourth : from + i + 96 ≡ from + 96 + i = omega arith in
+    let fifth : from + i + 128 ≡ from + 128 + i = omega arith in
+    rw (
+      second,
+      third,
+      fourth,
+      fifth,
+      put-in words from i v h,
+      put-in _ (from + 32) i w h,
+      put-in _ (from + 64) i x h,
+      put-in _ (from + 96) i y h,
+      put-in _ (from + 128) i z h,
+    )
+
+pub cells-out : (words : List ℕ) (from i v w x y z : ℕ) → 32 ≤ i → words ≡ cellsIn words from i v w x y z
+cells-out words from i v w x y z h =
+    put-out words from i v h
+    ∙ (put-out _ (from + 32) i w h ∙ (put-out _ (from + 64) i x h ∙ (put-out _ (from + 96) i y h ∙ put-out _ (from + 128) i z h)))
 
 -- sizes
 put-size : (words : List ℕ) (from i v : ℕ) → length (putIn words from i v) ≡ length words

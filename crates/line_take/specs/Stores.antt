@@ -16,8 +16,8 @@ unfoldable pub putIn : List ℕ → ℕ → ℕ → ℕ → List ℕ
 putIn words from i v = elim (ltb i 32) [ true ↦ set words (from + i) v | false ↦ words ]
 
 -- five cells at one place of neighbouring arrays set
-abbrev pub rowIn : List ℕ → ℕ → ℕ → ℕ → ℕ → ℕ → ℕ → ℕ → List ℕ
-rowIn words from i v w x y z =
+abbrev pub cellsIn : List ℕ → ℕ → ℕ → ℕ → ℕ → ℕ → ℕ → ℕ → List ℕ
+cellsIn words from i v w x y z =
     putIn (putIn (putIn (putIn (putIn words from i v) (from + 32) i w) (from + 64) i x) (from + 96) i y) (from + 128) i z
 
 -- a word becomes one more

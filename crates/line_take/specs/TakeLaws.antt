@@ -10,7 +10,7 @@ use Rattle.spec_text.specs.declared.LineKind.{LineKind}
 use Rattle.line_state.specs.StateSteps.{nextOf, markOf, pushedOf, poppedOf, secondOf, takenRelation, takenKey, takenStatement, takenFlow, takenLink}
 use Rattle.line_state.specs.StateSteps.{takeAs, takeOf}
 use Rattle.line_state.specs.StateWords.{arrayIn, stateIn, Taken}
-use Rattle.line_take.specs.Stores.{putIn, rowIn, stepIn, countIn, fits, storeIn, storesIn}
+use Rattle.line_take.specs.Stores.{putIn, cellsIn, stepIn, countIn, fits, storeIn, storesIn}
 use Rattle.line_take.specs.Stores.{stateAfterStores, arrayAfterStores, countAfterStores}
 use Rattle.line_take.specs.Stores.{arrayAfter, countAfter, atDepth, Took}
 use Rattle.line_take.specs.Stores.Store.{cell, count, step}
@@ -31,7 +31,7 @@ took-key {before} child parent n e p q r =
 
 pub took-statement : {before a b after : List ℕ} {at depth loops firsts seconds : ℕ} (rel fit : ℕ) → 424 ≤ length before → at ≡ getD before 419 0
     → depth ≡ getD before 418 0 → loops ≡ getD (arrayIn before 160) depth 0 → firsts ≡ getD (arrayIn before 192) depth 0
-    → seconds ≡ getD (arrayIn before 224) depth 0 → a ≡ rowIn before 256 at rel fit loops firsts seconds → b ≡ stepIn a 419
+    → seconds ≡ getD (arrayIn before 224) depth 0 → a ≡ cellsIn before 256 at rel fit loops firsts seconds → b ≡ stepIn a 419
     → after ≡ countIn b 416 → Took before after (takenStatement (stateIn before) rel fit)
 unfolding stateIn stateAfterStores storesIn storeIn arrayAfterStores countAfterStores arrayAfter countAfter fits
 took-statement {before} rel fit n e h k l m p q r =
@@ -55,7 +55,7 @@ pub took-push : {before a b after : List ℕ} {at loops firsts seconds : ℕ} (b
     → loops ≡ bitOr (markOf part 0 place) (getD (arrayIn before 160) below 0)
     → firsts ≡ bitOr (markOf part 1 place) (getD (arrayIn before 192) below 0)
     → seconds ≡ bitOr (markOf part 2 place) (getD (arrayIn before 224) below 0)
-    → a ≡ rowIn before 96 at place part loops firsts seconds → b ≡ countIn a 416 → after ≡ set b 418 at
+    → a ≡ cellsIn before 96 at place part loops firsts seconds → b ≡ countIn a 416 → after ≡ set b 418 at
     → Took before after (takenFlow (stateIn before) (pushedOf (atDepth (stateIn before .stack) below) place part))
 unfolding stateIn stateAfterStores storesIn storeIn arrayAfterStores countAfterStores arrayAfter countAfter fits
 took-push {before} below place part n e k l m p q r =

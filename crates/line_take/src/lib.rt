@@ -14,7 +14,7 @@ ghost use Rattle.spec_text.specs.Reading.{canBeParent};
 ghost use Rattle.line_state.specs.StateSteps.{nextOf, markOf, pushedOf, poppedOf, secondOf, takeAs};
 ghost use Rattle.line_state.specs.StateSteps.{takenRelation, takenKey, takenProgram, takenStatement, takenFlow};
 ghost use Rattle.line_state.specs.StateWords.{arrayIn, stateIn, Taken};
-ghost use Rattle.line_take.specs.Stores.{putIn, rowIn, stepIn, countIn, atDepth, lineBy, Took};
+ghost use Rattle.line_take.specs.Stores.{putIn, cellsIn, stepIn, countIn, atDepth, lineBy, Took};
 
 // Where counts stop; none that is kept comes near it.
 const MOST: u64 = 65535;
@@ -49,16 +49,19 @@ fn put_cell(words: &mut [u64], from: usize, i: u64, v: u64)
     }
 }
 
-// Sets five cells at one place of neighbouring arrays.
-fn put_row(words: &mut [u64], from: usize, i: u64, v: u64, w: u64, x: u64, y: u64, z: u64)
+// Sets five cells at one place of neighbouring arrays; past their end nothing changes.
+fn put_cells(words: &mut [u64], from: usize, i: u64, v: u64, w: u64, x: u64, y: u64, z: u64)
     requires { ⌜ (from ≤ 264) × (424 ≤ length (now words)) ⌝ }
-    ensures { λ _. ⌜ now (words .exit) ≡ rowIn (now (words .entry)) from i v w x y z ⌝ }
+    ensures { λ _. ⌜ now (words .exit) ≡ cellsIn (now (words .entry)) from i v w x y z ⌝ }
 {
-    put_cell(words, from, i, v);
-    put_cell(words, from + 32, i, w);
-    put_cell(words, from + 64, i, x);
-    put_cell(words, from + 96, i, y);
-    put_cell(words, from + 128, i, z);
+    if i < 32 {
+        let at = from + i as usize;
+        words[at] = v;
+        words[at + 32] = w;
+        words[at + 64] = x;
+        words[at + 96] = y;
+        words[at + 128] = z;
+    }
 }
 
 // Makes a word one more.
@@ -121,7 +124,7 @@ fn take_statement(words: &mut [u64], rel: u8, kind: StatementKind)
     let firsts = line_state::cell(words, line_state::OPEN_FIRSTS, depth);
     let seconds = line_state::cell(words, line_state::OPEN_SECONDS, depth);
     let fit = (facts_of(kind) & line_kinds::PARENT) / line_kinds::PARENT;
-    put_row(
+    put_cells(
         words,
         line_state::STATEMENT_RELATIONS,
         at,
@@ -158,10 +161,31 @@ fn push(words: &mut [u64], below: u64, place: u64, part: u64)
         ⌝ }
 {
     let at = next(below);
-    let loops = marked(words, line_state::OPEN_LOOPS, below, part, 0, place);
-    let firsts = marked(words, line_state::OPEN_FIRSTS, below, part, 1, place);
-    let seconds = marked(words, line_state::OPEN_SECONDS, below, part, 2, place);
-    put_row(
+    let loops = marked(
+        words,
+        line_state::OPEN_LOOPS,
+        below,
+        part,
+        line_state::LOOP,
+        place,
+    );
+    let firsts = marked(
+        words,
+        line_state::OPEN_FIRSTS,
+        below,
+        part,
+        line_state::FIRST_ARM,
+        place,
+    );
+    let seconds = marked(
+        words,
+        line_state::OPEN_SECONDS,
+        below,
+        part,
+        line_state::SECOND_ARM,
+        place,
+    );
+    put_cells(
         words,
         line_state::OPEN_PLACES,
         at,
@@ -184,7 +208,7 @@ fn take_second(words: &mut [u64])
 {
     let depth = word_at(words, line_state::DEPTH);
     let place = line_state::cell(words, line_state::OPEN_PLACES, depth);
-    push(words, previous(depth), place, 2);
+    push(words, previous(depth), place, line_state::SECOND_ARM);
 }
 
 // The innermost block closed.
@@ -224,8 +248,8 @@ fn take_kind(words: &mut [u64], kind: LineKind, reads: u64, rel: u8, to: u8)
         LineKind::Fk => take_key(words, rel, to),
         LineKind::Pr => take_program(words),
         LineKind::St(j) => take_statement(words, rel, j),
-        LineKind::Lo => take_opening(words, 0),
-        LineKind::Br => take_opening(words, 1),
+        LineKind::Lo => take_opening(words, line_state::LOOP),
+        LineKind::Br => take_opening(words, line_state::FIRST_ARM),
         LineKind::El => take_second(words),
         LineKind::En => take_closing(words),
         LineKind::Li => count_line(words, line_state::LINKS),

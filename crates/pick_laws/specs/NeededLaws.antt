@@ -3,41 +3,18 @@ use mathlib.Core.Path.{_≡_, refl, sym, ap, _∙_}
 use mathlib.Core.Bool.{Bool, true, false, cond, _&&_, _||_}
 use mathlib.Core.Logic.{_⊎_, inl, inr}
 use mathlib.Core.Option.{Option, none, some}
-use Prim.Native.Nat.{ℕ, zero, suc, min, max, _≤_, _<_, zero-le}
-use native.Mathlib.Nat.{not-suc-le-zero}
-use native.Mathlib.Decide.{ℕ-discrete, decLt}
+use Prim.Native.Nat.{ℕ, zero, suc, _≤_, _<_, zero-le}
 use native.Mathlib.Omega.{arith}
 use lib.Dec.{eqb, ltb, leb}
 use borrow.Author.Tests.{eqb-true, eq-eqb, ne-eqb, ltb-true, lt-ltb, le-ltb, leb-true, le-leb, lt-leb}
 use Rattle.spec_base.specs.Basic.{any, numbers}
-use Rattle.law_base.specs.BoolLaws.{decide, same-test, and-true, and-of, and-right, or-true, or-left, or-right}
+use Rattle.law_base.specs.BoolLaws.{same-test, and-true, and-of, and-right, or-true, or-left, or-right}
 use Rattle.law_base.specs.ListLaws.{any-none, any-numbers, any-numbers-of}
 use Rattle.pick_laws.specs.declared.Pick.{Pick}
 use Rattle.pick_laws.specs.Pick.{Picks, picked, dangerousPicks, onwardTo}
 use Rattle.pick_laws.specs.PickLaws.{dangerous-some}
-use Rattle.pick_laws.specs.Completing.{leastBelow, greatestBelow, opensBelow, leavesAt, exactly, leavesFirst, opensInto, needed, leads}
-
--- ---- the least and the greatest of some numbers
-
--- where the least is below m, one of them is
-pub least-below : (f : ℕ → ℕ) (most n m : ℕ) → m ≤ most → leastBelow f most n < m → (i : ℕ) × (i < n) × (f i < m)
-unfolding leastBelow
-least-below f most zero m h l = let z : ⊥ = omega arith in absurd z
-least-below f most (suc n) m h l = go (decLt (f n) m) (λ k. least-below f most n m h k)
-  where
-    go : Dec (f n < m) → (leastBelow f most n < m → (i : ℕ) × (i < n) × (f i < m)) → (i : ℕ) × (i < suc n) × (f i < m)
-    go (yes k) rest = (n, omega arith, k)
-    go (no d) rest = let t = rest (omega arith) in (t .0, (let small = t .1 in omega arith), t .2)
-
--- the least is no greater than any
-pub least-of : (f : ℕ → ℕ) (most n i : ℕ) → i < n → leastBelow f most n ≤ f i
-unfolding leastBelow
-least-of f most zero i h = absurd (not-suc-le-zero h)
-least-of f most (suc n) i h = go (ℕ-discrete i n) (λ k. least-of f most n i k)
-  where
-    go : Dec (i ≡ n) → (i < n → leastBelow f most n ≤ f i) → min (leastBelow f most n) (f n) ≤ f i
-    go (yes e) rest = let same = ap f e in omega arith
-    go (no d) rest = let t = rest (omega arith) in omega arith
+use Rattle.pick_laws.specs.LeastLaws.{least-at, least-some}
+use Rattle.pick_laws.specs.Completing.{greatestBelow, opensBelow, leavesAt, exactly, leavesFirst, opensInto, needed, leads}
 
 -- the same numbers have the same greatest
 pub greatest-same : (f g : ℕ → ℕ) (n : ℕ) → ((i : ℕ) → i < n → f i ≡ g i) → greatestBelow f n ≡ greatestBelow g n
@@ -72,17 +49,18 @@ module _ (backs : Picks) (n : ℕ) (rest : ℕ → Bool) (x : ℕ) where
       → (w : ℕ) × (w < n) × (rest w ≡ true) × (leavesAt (backs x w) < m)
   unfolding leavesFirst
   leaves-below m h l =
-      let t = least-below (λ y. cond (rest y) (leavesAt (backs x y)) 1024) 1024 n m h l in go (t .0) (t .1) (rest (t .0)) refl (t .2)
+      let t = least-some (λ y. cond (rest y) (leavesAt (backs x y)) 1024) 1024 n (omega arith) in
+      go (t .0) (t .1) (rest (t .0)) refl (t .2)
     where
-      go : (w : ℕ) → w < n → (b : Bool) → rest w ≡ b → cond b (leavesAt (backs x w)) 1024 < m
+      go : (w : ℕ) → w < n → (b : Bool) → rest w ≡ b → cond b (leavesAt (backs x w)) 1024 ≡ leavesFirst backs n rest x
           → (v : ℕ) × (v < n) × (rest v ≡ true) × (leavesAt (backs x v) < m)
-      go w k true e i = (w, k, e, i)
-      go w k false e i = let z : ⊥ = omega arith in absurd z
+      go w k true e same = (w, k, e, omega arith)
+      go w k false e same = let z : ⊥ = omega arith in absurd z
 
   -- and no edge to such a node leaves earlier
   pub leaves-of : (w : ℕ) → w < n → rest w ≡ true → leavesFirst backs n rest x ≤ leavesAt (backs x w)
   unfolding leavesFirst
-  leaves-of w k e = rw e at (least-of (λ y. cond (rest y) (leavesAt (backs x y)) 1024) 1024 n w k)
+  leaves-of w k e = rw e at (least-at (λ y. cond (rest y) (leavesAt (backs x y)) 1024) 1024 n w k)
 
 -- ---- what is needed
 
@@ -95,7 +73,8 @@ module _ (forwards backs : Picks) (n s : ℕ) where
   pub needed-test : (r x : ℕ)
       → eqb (needed forwards backs n s (suc r) x) 0 ≡ any (opensInto forwards (needed forwards backs n s r) x) (numbers n)
   unfolding needed
-  needed-test r x = nothing-needed (any (opensInto forwards (needed forwards backs n s r) x) (numbers n)) (leavesFirst backs n (exactly forwards n s r) x)
+  needed-test r x =
+      nothing-needed (any (opensInto forwards (needed forwards backs n s r) x) (numbers n)) (leavesFirst backs n (exactly forwards n s r) x)
 
   -- a walk cannot be opened in no step
   pub needed-none : (x : ℕ) → eqb (needed forwards backs n s zero x) 0 ≡ false
@@ -172,7 +151,8 @@ module _ (forwards backs : Picks) (n s : ℕ) (opens : (u v : ℕ) → opensBelo
           b = and-true _ _ (t .2)
 
           go : (y : ℕ) → y < n → picked (forwards x y) ≡ true → needed forwards backs n s (suc r) y ≤ opensBelow (forwards x y)
-              → (needed forwards backs n s (suc r) y ≡ 0) ⊎ (needed forwards backs n s (suc r) y ≡ suc (leavesFirst backs n (exactly forwards n s r) y))
+              → (needed forwards backs n s (suc r) y ≡ 0)
+              ⊎ (needed forwards backs n s (suc r) y ≡ suc (leavesFirst backs n (exactly forwards n s r) y))
               → on || pair ≡ true
           go y l p m (inl e) = or-left pair (any-numbers-of (onwardTo forwards _ x) n y l (and-of p (eq-eqb _ 0 e)))
           go y l p m (inr e) = or-right on (back y l m e)

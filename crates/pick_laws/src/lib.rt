@@ -1,5 +1,8 @@
 // The types of the search for a dangerous walk; its laws are in specs/.
 
+// The words that tell a step of a walk: node, place left, place entered, flow.
+pub const STEP_WORDS: usize = 4;
+
 // An edge that stands for all edges of its flow from one node to another: the place left, the place entered, and whether the place left is loose
 // (W4: it is of kind ks, ps, pu or pd).
 pub struct Pick {

@@ -9,7 +9,6 @@ use lib.ListN.{length, length-append, take, drop}
 use lib.Seq.{take-append-seam}
 use Rattle.spec_text.specs.declared.Workload.{Workload}
 use Rattle.spec_text.specs.Value.{Given, linesOf}
-use Rattle.law_text.specs.ValueLaws.{given-read}
 use Rattle.spec_graph.specs.Program.{programsOf}
 use Rattle.spec_graph.specs.Unfolding.{nodesOf}
 use Rattle.spec_graph.specs.Edge.{edgesOf}
@@ -18,7 +17,7 @@ use Rattle.spec_report.specs.State.StateRefusal.{not-given, too-many, too-short
 use Rattle.place_row.specs.RowTable.{rowsOf, tableOf}
 use Rattle.place_row.specs.RowTableLaws.{tableOf-length}
 use Rattle.edge_count.specs.Slots.{tableEdges}
-use Rattle.place_laws.specs.Placed.{rowsOf-length, accepted-edges}
+use Rattle.place_laws.specs.Placed.{rowsOf-length, given-edges}
 use Rattle.place_table.specs.declared.Rows.{Rows}
 use Rattle.place_table.specs.declared.Rows.the-variants.{Refused, Filled}
 use Rattle.place_table.specs.Rows.{rowsSaid, RowsSettled}
@@ -39,7 +38,7 @@ pub record Whole (w : Workload) (programs nodes places : ℕ) (table : List ℕ)
 pub whole-edges : (w : Workload) (programs nodes places : ℕ) (table : List ℕ) → Whole w programs nodes places table
     → tableEdges (take (places * 8) table) ≡ edgesOf (nodesOf (linesOf w))
 whole-edges w programs nodes places table whole =
-    ap tableEdges (whole .rows) ∙ accepted-edges (whole .given .text) (linesOf w) (given-read (whole .given)) (whole .few)
+    ap tableEdges (whole .rows) ∙ given-edges (whole .given) (whole .few)
 
 -- no refusal has number 0
 pub number-some : {w : Workload} {short : Bool} {o : Option ℕ} {n : ℕ} → o ≡ some n → StateRefusal w short o → (n ≡ 0 → ⊥)

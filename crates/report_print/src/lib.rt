@@ -1,5 +1,6 @@
 // The bytes of the three reports: a refusal, robust, and danger with its walk.
 
+use pick_laws::STEP_WORDS;
 use report_bytes::digit_byte;
 use report_bytes::flow_letter;
 use verdict_told::Verdict;
@@ -15,15 +16,18 @@ ghost use Rattle.verdict_told.specs.Told.{told};
 ghost use Rattle.report_bytes.specs.Bytes.{flowOf};
 ghost use Rattle.report_print.specs.Printed.{printedAs, verdictLines, stepAt, stepsIn, walkIn, bytesFor, Put, DangerPut};
 
-// A report: how many bytes it has, and the bytes with zeros after them. No report here has more than 5,744 bytes: a number has at most
-// 20 digits, so a step takes at most 86 bytes and the 65 steps at most 5,590; the lines in front of them take 154.
+// Room for any report. None has more than 5,744 bytes: a number has at most 20 digits, so a step takes at most 86 bytes and the 65 steps at
+// most 5,590; the lines in front of them take 154.
+pub const REPORT_BYTES: usize = 8192;
+
+// A report: how many bytes it has, and the bytes with zeros after them.
 pub struct Printed {
     pub length: usize,
-    pub bytes: [u8; 8192],
+    pub bytes: [u8; REPORT_BYTES],
 }
 
 // Writes bytes from a place on. This and the functions below answer the place after what they wrote.
-fn put(out: &mut [u8; 8192], at: usize, bytes: &[u8]) -> usize
+fn put(out: &mut [u8; REPORT_BYTES], at: usize, bytes: &[u8]) -> usize
     requires { ⌜ at + length (now bytes) ≤ 8192 ⌝ }
     ensures { λ r. ⌜ Put (now (bytes .entry)) (length (now (bytes .entry))) at (now (out .entry)) r (now (out .exit)) ⌝ }
 {
@@ -36,7 +40,7 @@ fn put(out: &mut [u8; 8192], at: usize, bytes: &[u8]) -> usize
 }
 
 // Writes one byte.
-fn put_byte(out: &mut [u8; 8192], at: usize, b: u8) -> usize
+fn put_byte(out: &mut [u8; REPORT_BYTES], at: usize, b: u8) -> usize
     requires { ⌜ at + 1 ≤ 8192 ⌝ }
     ensures { λ r. ⌜ Put (b ∷ []) 1 at (now (out .entry)) r (now (out .exit)) ⌝ }
 {
@@ -45,7 +49,7 @@ fn put_byte(out: &mut [u8; 8192], at: usize, b: u8) -> usize
 }
 
 // Writes a number in decimal: the digits in front of the last one, then the last.
-fn put_decimal(out: &mut [u8; 8192], at: usize, n: u64) -> usize
+fn put_decimal(out: &mut [u8; REPORT_BYTES], at: usize, n: u64) -> usize
     requires { ⌜ at + 20 ≤ 8192 ⌝ }
     ensures { λ r. ⌜ Put (decimal n) 20 at (now (out .entry)) r (now (out .exit)) ⌝ }
 {
@@ -57,7 +61,7 @@ fn put_decimal(out: &mut [u8; 8192], at: usize, n: u64) -> usize
 }
 
 // Writes a space and a number in decimal.
-fn put_number(out: &mut [u8; 8192], at: usize, n: u64) -> usize
+fn put_number(out: &mut [u8; REPORT_BYTES], at: usize, n: u64) -> usize
     requires { ⌜ at + 21 ≤ 8192 ⌝ }
     ensures { λ r. ⌜ Put (space ∷ decimal n) 21 at (now (out .entry)) r (now (out .exit)) ⌝ }
 {
@@ -67,7 +71,7 @@ fn put_number(out: &mut [u8; 8192], at: usize, n: u64) -> usize
 
 // Writes the two lines of a verdict from the start of the area on: the names, then a word and the four counts.
 fn put_verdict(
-    out: &mut [u8; 8192],
+    out: &mut [u8; REPORT_BYTES],
     word: &[u8],
     programs: u64,
     nodes: u64,
@@ -87,7 +91,7 @@ fn put_verdict(
 }
 
 // Writes a space, the letter of the flow, and the line's end.
-fn put_flow(out: &mut [u8; 8192], at: usize, word: u64) -> usize
+fn put_flow(out: &mut [u8; REPORT_BYTES], at: usize, word: u64) -> usize
     requires { ⌜ at + 3 ≤ 8192 ⌝ }
     ensures { λ r. ⌜ Put (space ∷ flowLetter (flowOf word) ∷ newline ∷ []) 3 at (now (out .entry)) r (now (out .exit)) ⌝ }
 {
@@ -97,14 +101,15 @@ fn put_flow(out: &mut [u8; 8192], at: usize, word: u64) -> usize
 }
 
 // Writes the line of step k of a walk.
-fn put_step(out: &mut [u8; 8192], at: usize, k: usize, walk: &[u64]) -> usize
+fn put_step(out: &mut [u8; REPORT_BYTES], at: usize, k: usize, walk: &[u64]) -> usize
     requires { ⌜ (k < 65) × (at + 86 ≤ 8192) ⌝ }
     ensures { λ r. ⌜ Put (stepLine k (stepAt (now (walk .entry)) k)) 86 at (now (out .entry)) r (now (out .exit)) ⌝ }
 {
-    let node = word_at(walk, k * 4);
-    let leaves = word_at(walk, k * 4 + 1);
-    let enters = word_at(walk, k * 4 + 2);
-    let flow = word_at(walk, k * 4 + 3);
+    let first = k * STEP_WORDS;
+    let node = word_at(walk, first);
+    let leaves = word_at(walk, first + 1);
+    let enters = word_at(walk, first + 2);
+    let flow = word_at(walk, first + 3);
     let a = put_decimal(out, at, k as u64);
     let b = put_number(out, a, node);
     let c = put_number(out, b, leaves);
@@ -113,7 +118,7 @@ fn put_step(out: &mut [u8; 8192], at: usize, k: usize, walk: &[u64]) -> usize
 }
 
 // Writes the lines of the first steps of a walk.
-fn put_steps(out: &mut [u8; 8192], at: usize, walk: &[u64], steps: usize) -> usize
+fn put_steps(out: &mut [u8; REPORT_BYTES], at: usize, walk: &[u64], steps: usize) -> usize
     requires { ⌜ (steps ≤ 65) × (at + steps * 86 ≤ 8192) ⌝ }
     ensures { λ r. ⌜ Put (stepLines 0 (stepsIn (now (walk .entry)) 0 steps)) (steps * 86) at (now (out .entry)) r (now (out .exit)) ⌝ }
 {
@@ -127,7 +132,7 @@ fn put_steps(out: &mut [u8; 8192], at: usize, walk: &[u64], steps: usize) -> usi
 }
 
 // Writes the report of a refusal from the start of the area on.
-fn put_refusal(out: &mut [u8; 8192], number: u64, line: u64) -> usize
+fn put_refusal(out: &mut [u8; REPORT_BYTES], number: u64, line: u64) -> usize
     ensures { λ r. ⌜ Put (refusalReport number line) 55 0 (now (out .entry)) r (now (out .exit)) ⌝ }
 {
     let a = put(out, 0, b"refused line\n");
@@ -138,7 +143,7 @@ fn put_refusal(out: &mut [u8; 8192], number: u64, line: u64) -> usize
 
 // Writes the report of a dangerous walk from the start of the area on.
 fn put_danger(
-    out: &mut [u8; 8192],
+    out: &mut [u8; REPORT_BYTES],
     programs: u64,
     nodes: u64,
     edges: u64,
@@ -168,7 +173,7 @@ fn at_most_65(steps: usize) -> usize
 pub fn refusal_printed(number: u64, line: u64) -> Printed
     ensures { λ r. ⌜ r ≡ printedAs (refusalReport number line) ⌝ }
 {
-    let mut bytes = [0u8; 8192];
+    let mut bytes = [0u8; REPORT_BYTES];
     let length = put_refusal(&mut bytes, number, line);
     Printed { length, bytes }
 }
@@ -177,7 +182,7 @@ pub fn refusal_printed(number: u64, line: u64) -> Printed
 fn robust_printed(programs: u64, nodes: u64, edges: u64, back: u64) -> Printed
     ensures { λ r. ⌜ r ≡ printedAs (robustReport (counted programs nodes edges back)) ⌝ }
 {
-    let mut bytes = [0u8; 8192];
+    let mut bytes = [0u8; REPORT_BYTES];
     let length = put_verdict(&mut bytes, b"robust", programs, nodes, edges, back);
     Printed { length, bytes }
 }
@@ -193,7 +198,7 @@ fn danger_printed(
 ) -> Printed
     ensures { λ r. ⌜ r ≡ printedAs (dangerReport (counted programs nodes edges back) (walkIn (now (walk .entry)) steps)) ⌝ }
 {
-    let mut bytes = [0u8; 8192];
+    let mut bytes = [0u8; REPORT_BYTES];
     let shown = at_most_65(steps);
     let length = put_danger(&mut bytes, programs, nodes, edges, back, walk, shown);
     Printed { length, bytes }

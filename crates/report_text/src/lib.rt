@@ -2,7 +2,7 @@
 
 use report_print::Printed;
 use spec_text::Workload;
-use walk_find::WALK_WORDS;
+use walk_first::WALK_WORDS;
 ghost use Rattle.report_text.specs.Reported.{Reported, ValueReported};
 
 // The report of a workload value that a text gives: the verdict, with its walk in an area of 65 steps; or the refusal 22.

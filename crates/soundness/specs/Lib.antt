@@ -9,7 +9,6 @@ pub mod Visits
 pub mod Edges
 pub mod ClosedDependencies
 pub mod Schedules
-pub mod FromLines
 pub mod StatementSets
 pub mod OnePosition
 pub mod Theorem

@@ -8,19 +8,17 @@ use lib.Bits.{bitAnd, and-zero-l}
 use lib.ListN.{getElem?}
 use borrow.Author.Tests.{eq-eqb}
 use Rattle.spec_base.specs.Basic.{within}
-use Rattle.law_base.specs.BoolLaws.{true-false}
 use Rattle.law_base.specs.ListLaws.{getElem?-member}
 use Rattle.spec_text.specs.declared.Line.{Line}
 use Rattle.spec_text.specs.declared.StatementKind.{StatementKind}
-use Rattle.spec_text.specs.declared.StatementKind.the-variants.{Is, Ks, Ps, Ku, Pu, Kd, Pd}
 use Rattle.spec_text.specs.Reading.{read, relationSet}
 use Rattle.spec_text.specs.Reading.Outcome.{accepted}
-use Rattle.law_text.specs.ReadingLaws.{SetsLawful, statement-sets, insert-whole, key-delete-whole, predicate-delete-whole}
-use Rattle.spec_graph.specs.Program.{statementOf}
+use Rattle.spec_graph.specs.Program.{Statement}
 use Rattle.spec_graph.specs.Unfolding.{Occurrence, occurrences}
 use Rattle.spec_graph.specs.Edge.{R, W, hasReads, hasWrites, inserts, deletes}
 use Rattle.spec_schedule.specs.Schedule.{Transaction, Schedule}
-use Rattle.soundness.specs.FromLines.{OnLines, execution-holds, program-holds}
+use Rattle.node_laws.specs.FromLines.{execution-holds, program-holds}
+use Rattle.node_laws.specs.GivenNodes.{LawfulStatement, accepted-lines}
 use Rattle.law_walk.specs.EveryKind.{kind-implies}
 use Rattle.soundness.specs.EdgeLetters.{Sets}
 
@@ -33,29 +31,19 @@ within-if : (b : Bool) (x whole : ℕ) → within x whole ≡ true → within (c
 within-if true x whole h = h
 within-if false x whole h = within-empty whole
 
--- an insert or delete of a line that passed its tests writes the whole relation
-whole-set : (k : StatementKind) {whole : ℕ} {l : Line} → SetsLawful whole k l → inserts k || deletes k ≡ true → l .writes ≡ whole
-whole-set Is s h = insert-whole s
-whole-set Kd s h = key-delete-whole s
-whole-set Pd s h = predicate-delete-whole s
-whole-set Ks s h = absurd (true-false h refl)
-whole-set Ps s h = absurd (true-false h refl)
-whole-set Ku s h = absurd (true-false h refl)
-whole-set Pu s h = absurd (true-false h refl)
-
 -- inserts and deletes write
 writing : (k : StatementKind) → inserts k || deletes k ≡ true → hasWrites k ≡ true
 writing = kind-implies (λ k. inserts k || deletes k) hasWrites refl
 
--- the statement of a line that passed its tests
-sets-of-line : (set : ℕ → ℕ) (k : StatementKind) (l : Line) → SetsLawful (set (l .rel)) k l → Sets set (statementOf k l)
-unfolding statementOf R W
-sets-of-line set k l s =
+-- a lawful statement has the sets of T9
+sets-of : (lines : List Line) (s : Statement) → LawfulStatement lines s → Sets (relationSet lines) s
+unfolding R W
+sets-of lines s h =
     record {
-      reads = within-if (hasReads k) (l .reads) (set (l .rel)) (s .reads-within);
-      writes = within-if (hasWrites k) (l .writes) (set (l .rel)) (s .writes-within);
-      whole = λ h. ap (λ (b : Bool). cond b (l .writes) 0) (writing k h) ∙ whole-set k s h;
-      filled = λ h. s .nonempty;
+      reads = within-if (hasReads (s .kind)) (s .reads) (relationSet lines (s .relation)) (h .reads);
+      writes = within-if (hasWrites (s .kind)) (s .writes) (relationSet lines (s .relation)) (h .writes);
+      whole = λ t. ap (λ (b : Bool). cond b (s .writes) 0) (writing (s .kind) t) ∙ h .whole t;
+      filled = λ t. h .nonempty;
     }
 
 -- every statement that a transaction of the workload performs
@@ -63,9 +51,6 @@ pub schedule-sets : (text : List ℕ) (lines : List Line) → read text ≡ acce
     → (x : Transaction) → List·Memᴰ x (s .transactions) → (j : ℕ) (o : Occurrence) → getElem? (occurrences (x .execution) 0) j ≡ some o
     → Sets (relationSet lines) (o .statement)
 schedule-sets text lines h s x m j o e =
-    execution-holds (Sets (relationSet lines)) (x .execution)
-    (program-holds (Sets (relationSet lines)) lines onLines (x .program) (s .ofPrograms x m))
-    0 o (getElem?-member (occurrences (x .execution) 0) j e)
-  where
-    onLines : OnLines (Sets (relationSet lines)) lines
-    onLines k l inLines kind = sets-of-line (relationSet lines) k l (statement-sets text h inLines k kind)
+    let body = program-holds (LawfulStatement lines) lines (accepted-lines text lines h) (x .program) (s .ofPrograms x m) in
+    sets-of lines (o .statement)
+    (execution-holds (LawfulStatement lines) (x .execution) body 0 o (getElem?-member (occurrences (x .execution) 0) j e))

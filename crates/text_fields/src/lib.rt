@@ -5,13 +5,14 @@ use spec_text::StatementKind;
 use text_number::FieldForm;
 use text_number::FieldRead;
 ghost use mathlib.Core.Path.{_≡_};
+ghost use mathlib.Core.List.{[], _∷_};
 ghost use Prim.Native.Nat.{_+_};
 ghost use lib.ListN.{drop};
 ghost use Rattle.spec_text.specs.Text.{lineOf, kindOf};
 ghost use Rattle.text_number.specs.Digits.{formOf};
-ghost use Rattle.text_fields.specs.Field.{fieldLength, setIf, stepAt, lineAfterWord};
+ghost use Rattle.text_fields.specs.Field.{fieldLength, formIf, stepAt, stepsAt, lineAfterWord};
 ghost use Rattle.text_fields.specs.Answer.{lineAnswer, valueOr4};
-ghost use Rattle.text_fields.specs.FieldStep.{kindAnswer, stepAnswer, NumberStep};
+ghost use Rattle.text_fields.specs.FieldStep.{kindAnswer, stepAnswer, fieldsAnswer};
 
 // The line that the bytes are, or that they are none.
 pub enum LineRead {
@@ -22,6 +23,12 @@ pub enum LineRead {
 // A field's value and where the field ends.
 enum FieldStep {
     Value(u64, usize),
+    Wrong,
+}
+
+// The values of three fields and where the last of them ends.
+enum FieldsRead {
+    Values(u64, u64, u64, usize),
     Wrong,
 }
 
@@ -44,16 +51,26 @@ fn field_end(bytes: &[u8], at: usize) -> usize
     i
 }
 
-// The field after the space at a place, read by its form.
-fn next_field(bytes: &[u8], at: usize, form: FieldForm) -> FieldStep
-    ensures { λ r. ⌜ stepAnswer (now (bytes .entry)) r ≡ stepAt (formOf form) (drop at (now (bytes .entry))) ⌝ }
+// The form of a field: nothing but `-` where the kind lacks the field.
+fn form_if(there: bool, form: FieldForm) -> FieldForm
+    ensures { λ r. ⌜ formOf r ≡ formIf there (formOf form) ⌝ }
+{
+    if there {
+        return form;
+    }
+    FieldForm::Nothing
+}
+
+// The field after the space at a place, read by its form where the kind has it.
+fn next_field(bytes: &[u8], at: usize, form: FieldForm, there: bool) -> FieldStep
+    ensures { λ r. ⌜ stepAnswer (now (bytes .entry)) r ≡ stepAt (formIf there (formOf form)) (drop at (now (bytes .entry))) ⌝ }
 {
     if bytes.len() <= at {
         return FieldStep::Wrong;
     }
     let start = at + 1;
     let end = field_end(bytes, start);
-    let r = text_number::field_of(form, &bytes[start..end]);
+    let r = text_number::field_of(form_if(there, form), &bytes[start..end]);
     match r {
         FieldRead::Value(v) => FieldStep::Value(v, end),
         FieldRead::Wrong => FieldStep::Wrong,
@@ -99,24 +116,23 @@ fn kind_of(word: &[u8]) -> KindRead
     }
 }
 
-// A number where the kind has the field.
-fn next_number(bytes: &[u8], at: usize, there: bool) -> FieldStep
-    ensures { λ r. ⌜ NumberStep (now (bytes .entry)) at there r ⌝ }
+// Three fields of one form, each where the kind has it and each after the space at the place where the one before it ends.
+fn next_fields(bytes: &[u8], at: usize, form: FieldForm, f: bool, g: bool, h: bool) -> FieldsRead
+    ensures { λ r. ⌜
+        fieldsAnswer (now (bytes .entry)) r
+        ≡ stepsAt (formIf f (formOf form) ∷ formIf g (formOf form) ∷ formIf h (formOf form) ∷ []) (drop at (now (bytes .entry)))
+        ⌝ }
 {
-    if there {
-        return next_field(bytes, at, FieldForm::Number);
-    }
-    next_field(bytes, at, FieldForm::Nothing)
-}
-
-// A set where the kind has the field.
-fn next_set(bytes: &[u8], at: usize, there: bool) -> FieldStep
-    ensures { λ r. ⌜ stepAnswer (now (bytes .entry)) r ≡ stepAt (setIf there) (drop at (now (bytes .entry))) ⌝ }
-{
-    if there {
-        return next_field(bytes, at, FieldForm::Set);
-    }
-    next_field(bytes, at, FieldForm::Nothing)
+    let FieldStep::Value(x, x_end) = next_field(bytes, at, form, f) else {
+        return FieldsRead::Wrong;
+    };
+    let FieldStep::Value(y, y_end) = next_field(bytes, x_end, form, g) else {
+        return FieldsRead::Wrong;
+    };
+    let FieldStep::Value(z, end) = next_field(bytes, y_end, form, h) else {
+        return FieldsRead::Wrong;
+    };
+    FieldsRead::Values(x, y, z, end)
 }
 
 // The line of a kind whose six fields stand after its word, from the place where the word ends.
@@ -124,30 +140,24 @@ fn line_after_word(bytes: &[u8], at: usize, kind: LineKind) -> LineRead
     ensures { λ r. ⌜ lineAnswer r ≡ valueOr4 (lineAfterWord kind (drop at (now (bytes .entry)))) ⌝ }
 {
     let facts = line_kinds::line_facts(kind);
-    let FieldStep::Value(id, id_end) = next_number(bytes, at, facts & line_kinds::ID != 0) else {
-        return LineRead::Wrong;
-    };
-    let FieldStep::Value(rel, rel_end) = next_number(bytes, id_end, facts & line_kinds::REL != 0)
-    else {
-        return LineRead::Wrong;
-    };
-    let FieldStep::Value(to, to_end) = next_number(bytes, rel_end, facts & line_kinds::TO != 0)
-    else {
-        return LineRead::Wrong;
-    };
-    let FieldStep::Value(reads, reads_end) = next_set(bytes, to_end, facts & line_kinds::READS != 0)
-    else {
-        return LineRead::Wrong;
-    };
-    let FieldStep::Value(writes, writes_end) = next_set(
+    let FieldsRead::Values(id, rel, to, middle) = next_fields(
         bytes,
-        reads_end,
-        facts & line_kinds::WRITES != 0,
+        at,
+        FieldForm::Number,
+        facts & line_kinds::ID != 0,
+        facts & line_kinds::REL != 0,
+        facts & line_kinds::TO != 0,
     ) else {
         return LineRead::Wrong;
     };
-    let FieldStep::Value(tests, end) = next_set(bytes, writes_end, facts & line_kinds::TESTS != 0)
-    else {
+    let FieldsRead::Values(reads, writes, tests, end) = next_fields(
+        bytes,
+        middle,
+        FieldForm::Set,
+        facts & line_kinds::READS != 0,
+        facts & line_kinds::WRITES != 0,
+        facts & line_kinds::TESTS != 0,
+    ) else {
         return LineRead::Wrong;
     };
     if end < bytes.len() {

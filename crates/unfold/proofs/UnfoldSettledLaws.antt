@@ -35,9 +35,8 @@ use Rattle.unfold.specs.UnfoldSteps.{tableTold, overMany, tooShort, piec
 use Rattle.unfold.specs.UnfoldSettled.{Settled, PlacesSettled}
 use Rattle.unfold.specs.OwnLaws.{own-along}
 use Rattle.unfold.specs.Stand.{few-nodes}
-use Rattle.value_tables.specs.declared.IdTables.{IdTables}
-use Rattle.value_tables.specs.declared.PlaceTables.{PlaceTables}
-use Rattle.value_tables.specs.Tables.{idTables, placeTables}
+use Rattle.value_tables.specs.declared.WriteTables.{WriteTables}
+use Rattle.value_tables.specs.Tables.{writeTables}
 use Rattle.value_tables.proofs.CellLaws.{number-at}
 
 -- the promise, whatever stands in the area where nothing is refused
@@ -178,25 +177,22 @@ flat-ids (n ∷ nodes) [] h = absurd h
 flat-ids (n ∷ nodes) (p ∷ pieces) h = rw (id-words [] (n .places) (p .words) (h .0 .words), flat-ids nodes pieces (h .1))
 
 -- the tables one by one
-pub ids-codes : (lines : List Line) (t : IdTables) → t ≡ idTables lines → t .codes ≡ codesOf lines
-unfolding idTables
-ids-codes lines t e = ap (λ (x : IdTables). x .codes) e
+module _ (lines : List Line) (t : WriteTables) (e : t ≡ writeTables lines) where
+  pub table-codes : t .codes ≡ codesOf lines
+  unfolding writeTables
+  table-codes = ap (λ (x : WriteTables). x .codes) e
 
-pub ids-words : (lines : List Line) (t : IdTables) → t ≡ idTables lines → t .words ≡ idsOf lines
-unfolding idTables
-ids-words lines t e = ap (λ (x : IdTables). x .words) e
+  pub table-ids : t .ids ≡ idsOf lines
+  unfolding writeTables
+  table-ids = ap (λ (x : WriteTables). x .ids) e
 
-pub places-codes : (lines : List Line) (t : PlaceTables) → t ≡ placeTables lines → t .codes ≡ codesOf lines
-unfolding placeTables
-places-codes lines t e = ap (λ (x : PlaceTables). x .codes) e
+  pub table-numbers : t .numbers ≡ numbers 1616
+  unfolding writeTables
+  table-numbers = ap (λ (x : WriteTables). x .numbers) e
 
-pub places-words : (lines : List Line) (t : PlaceTables) → t ≡ placeTables lines → t .words ≡ numbers 1616
-unfolding placeTables
-places-words lines t e = ap (λ (x : PlaceTables). x .words) e
-
-pub places-marks : (lines : List Line) (t : PlaceTables) → t ≡ placeTables lines → t .marks ≡ marksOf lines
-unfolding placeTables
-places-marks lines t e = ap (λ (x : PlaceTables). x .marks) e
+  pub table-marks : t .marks ≡ marksOf lines
+  unfolding writeTables
+  table-marks = ap (λ (x : WriteTables). x .marks) e
 
 -- the tables of a given workload value, cut to its lines
 module _ (w : Workload) (g : Given w) where

@@ -16,7 +16,7 @@ pub rows-end : {A : Type 0} (f : ℕ → A) (k n : ℕ) → n ≤ k → tabulate
 unfolding tabulate
 rows-end f k n h = let z : n - k ≡ 0 = omega arith in rw z
 
-pub rows-step : {A : Type 0} (f : ℕ → A) (k n : ℕ) → k < n → tabulate f k (n - k) ≡ f k ∷ tabulate f (k + 1) (n - (k + 1))
+rows-step : {A : Type 0} (f : ℕ → A) (k n : ℕ) → k < n → tabulate f k (n - k) ≡ f k ∷ tabulate f (k + 1) (n - (k + 1))
 unfolding tabulate
 rows-step f k n h = let z : n - k ≡ suc (n - (k + 1)) = omega arith in rw z
 
@@ -27,12 +27,25 @@ rowed-nothing rows t before e = rw e (record { same = refl; stands = wrote-nothi
 wrote-length : (w before : List ℕ) (r : ℕ) (area : List ℕ) → Wrote w before r area → Wrote w before (length w) area
 wrote-length w before r area h = rw (h .many) at h
 
-module _ (p : Piece) (rest rows : List Piece) (e : rows ≡ p ∷ rest) (t : UnfoldingTable) (area : List ℕ) (h : Rows rows t area) where
+-- the first of the rows k to n - 1, and the others
+module _ (f : ℕ → Piece) (k n : ℕ) (less : k < n) (t : UnfoldingTable) (area : List ℕ) (h : Rows (tabulate f k (n - k)) t area) where
+  abbrev p : Piece
+  p = f k
+
+  abbrev rest : List Piece
+  rest = tabulate f (k + 1) (n - (k + 1))
+
+  abbrev rows : List Piece
+  rows = tabulate f k (n - k)
+
+  e : rows ≡ p ∷ rest
+  e = rows-step f k n less
+
   flat-parts : flat rows ≡ p .words ++ flat rest
   unfolding flat
   flat-parts = rw e
 
-  pub row-room : length (p .words) ≤ length area
+  row-room : length (p .words) ≤ length area
   row-room = room-left (p .words) (flat rest) (flat rows) area flat-parts (h .room)
 
   pub row-cell : t .count < 64

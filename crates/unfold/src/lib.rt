@@ -5,11 +5,11 @@ use unfold_bounds::totals_refused;
 use unfold_count::count_all;
 use unfold_count::count_run;
 use unfold_laws::PROGRAM;
+use unfold_laws::UNFOLDINGS;
 use unfold_laws::UnfoldingTable;
 use unfold_write::write_run;
 use value_given::is_given;
-use value_tables::id_tables;
-use value_tables::place_tables;
+use value_tables::write_tables;
 ghost use mathlib.Core.List.{[]};
 ghost use mathlib.Core.Path.{_≡_};
 ghost use Prim.Native.Nat.{_+_, _-_, _<_};
@@ -25,9 +25,9 @@ ghost use Rattle.unfold.specs.PieceTable.{added, table};
 pub struct Unfolded {
     pub refusal: u8,
     pub count: u64,
-    pub program: [u8; 64],
-    pub start: [u64; 64],
-    pub length: [u64; 64],
+    pub program: [u8; UNFOLDINGS],
+    pub start: [u64; UNFOLDINGS],
+    pub length: [u64; UNFOLDINGS],
 }
 
 // One row more of the table.
@@ -133,9 +133,9 @@ fn empty_table() -> UnfoldingTable
     UnfoldingTable {
         count: 0,
         used: 0,
-        program: [0u8; 64],
-        start: [0u64; 64],
-        length: [0u64; 64],
+        program: [0u8; UNFOLDINGS],
+        start: [0u64; UNFOLDINGS],
+        length: [0u64; UNFOLDINGS],
     }
 }
 
@@ -162,9 +162,9 @@ fn refused(number: u8) -> Unfolded
     Unfolded {
         refusal: number,
         count: 0,
-        program: [0u8; 64],
-        start: [0u64; 64],
-        length: [0u64; 64],
+        program: [0u8; UNFOLDINGS],
+        start: [0u64; UNFOLDINGS],
+        length: [0u64; UNFOLDINGS],
     }
 }
 
@@ -206,9 +206,9 @@ pub fn unfold(w: Workload, area: &mut [u64]) -> Unfolded
         return refused(21);
     }
     let n = w.count;
-    let t = id_tables(w);
+    let t = write_tables(w);
     let codes = t.codes;
-    let words = t.words;
+    let words = t.ids;
     let marks = [0u32; 1];
     unfold_tables(&codes[..n], &words[..n], &marks[..1], area)
 }
@@ -221,9 +221,9 @@ pub fn unfold_places(w: Workload, area: &mut [u64]) -> Unfolded
         return refused(21);
     }
     let n = w.count;
-    let t = place_tables(w);
+    let t = write_tables(w);
     let codes = t.codes;
-    let words = t.words;
+    let words = t.numbers;
     let marks = t.marks;
     unfold_tables(&codes[..n], &words[..n], &marks[..n], area)
 }

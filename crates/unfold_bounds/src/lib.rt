@@ -1,14 +1,11 @@
 // Where a block's lines end, and which counts of unfoldings are refused.
 
+use unfold_laws::STATEMENTS;
+use unfold_laws::UNFOLDINGS;
 use unfold_laws::UnfoldingTotals;
 ghost use mathlib.Core.Path.{_≡_};
 ghost use Rattle.unfold_laws.specs.Codes.{after};
 ghost use Rattle.unfold_bounds.specs.Refused.{refusedBy};
-
-// S22: so many unfoldings at most, and so many statements in them.
-const MOST_UNFOLDINGS: u64 = 64;
-
-const MOST_STATEMENTS: u64 = 512;
 
 // The place after a closing line, where there is one.
 pub fn line_after(lines: usize, e: usize) -> usize
@@ -24,10 +21,10 @@ pub fn line_after(lines: usize, e: usize) -> usize
 pub fn totals_refused(t: UnfoldingTotals, room: u64) -> u8
     ensures { λ r. ⌜ r ≡ refusedBy t room ⌝ }
 {
-    if t.count > MOST_UNFOLDINGS {
+    if t.count > UNFOLDINGS as u64 {
         return 22;
     }
-    if t.statements > MOST_STATEMENTS {
+    if t.statements > STATEMENTS {
         return 22;
     }
     if room < t.statements {

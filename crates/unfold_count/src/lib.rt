@@ -6,6 +6,7 @@ use unfold_laws::Counted;
 use unfold_laws::LOOP;
 use unfold_laws::PROGRAM;
 use unfold_laws::STATEMENT;
+use unfold_laws::STOP;
 use unfold_laws::UnfoldingTotals;
 ghost use mathlib.Core.Path.{_≡_};
 ghost use Prim.Native.Nat.{_≤_, _<_};
@@ -21,8 +22,8 @@ fn sum(a: u64, b: u64) -> u64
     ensures { λ r. ⌜ Small (plus a b) r ⌝ }
 {
     let x = a + b;
-    if x > 513 {
-        return 513;
+    if x > STOP {
+        return STOP;
     }
     x
 }
@@ -32,8 +33,8 @@ fn product(a: u64, b: u64) -> u64
     ensures { λ r. ⌜ Small (times a b) r ⌝ }
 {
     let x = a * b;
-    if x > 513 {
-        return 513;
+    if x > STOP {
+        return STOP;
     }
     x
 }

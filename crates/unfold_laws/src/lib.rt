@@ -7,6 +7,13 @@ pub struct Counted {
     pub end: usize,
 }
 
+// S22: so many unfoldings at most, and so many statements in them. Counts stop above both: no rule tells larger ones apart.
+pub const UNFOLDINGS: usize = 64;
+
+pub const STATEMENTS: u64 = 512;
+
+pub const STOP: u64 = 513;
+
 // The unfoldings of the programs so far, and the statements in them.
 pub struct UnfoldingTotals {
     pub count: u64,
@@ -17,9 +24,9 @@ pub struct UnfoldingTotals {
 pub struct UnfoldingTable {
     pub count: usize,
     pub used: usize,
-    pub program: [u8; 64],
-    pub start: [u64; 64],
-    pub length: [u64; 64],
+    pub program: [u8; UNFOLDINGS],
+    pub start: [u64; UNFOLDINGS],
+    pub length: [u64; UNFOLDINGS],
 }
 
 // The codes of lines: a statement, `lo`, `br`, `pr`, and every other kind.

@@ -76,38 +76,21 @@ pub fn write_run(
     if codes.len() <= at {
         return 0;
     }
-    if codes[at] > BRANCH {
+    let code = codes[at];
+    if code > BRANCH {
         return 0;
     }
-    if codes[at] == STATEMENT {
-        let one = lay_word(place_word(words, at, seen), out);
-        return one
-            + write_run(
-                codes,
-                words,
-                marks,
-                seen | mark_at(marks, at),
-                at + 1,
-                left - 1,
-                k,
-                &mut out[one..],
-            );
+    let rest = left - 1;
+    if code == STATEMENT {
+        let m = lay_word(place_word(words, at, seen), out);
+        let sees = seen | mark_at(marks, at);
+        return m + write_run(codes, words, marks, sees, at + 1, rest, k, &mut out[m..]);
     }
-    let x = count_place(codes, at, left - 1);
-    let more = count_run(codes, x.end, left - 1);
+    let x = count_place(codes, at, rest);
+    let more = count_run(codes, x.end, rest);
     let n = more.count;
-    let m = write_block(codes, words, marks, seen, at, left - 1, k / n, out);
-    m
-        + write_run(
-            codes,
-            words,
-            marks,
-            seen,
-            x.end,
-            left - 1,
-            k % n,
-            &mut out[m..],
-        )
+    let m = write_block(codes, words, marks, seen, at, rest, k / n, out);
+    m + write_run(codes, words, marks, seen, x.end, rest, k % n, &mut out[m..])
 }
 
 // The same for the block at a place: of a loop no turn, one turn of each, two turns of each; of a branch the first arm's, then the second's.
@@ -125,40 +108,23 @@ fn write_block(
     ensures { λ r. ⌜ Laid (writeBlock (writeAt left (now (codes .entry)) (now (words .entry)) (now (marks .entry)) seen)
         (countAt left (now (codes .entry))) (now (codes .entry)) at k) (now (out .entry)) r (now (out .exit)) ⌝ }
 {
-    let body = count_run(codes, at + 1, left);
+    let first = at + 1;
+    let body = count_run(codes, first, left);
     let n = body.count;
     if codes[at] == LOOP {
         if k == 0 {
             return 0;
         }
         if k <= n {
-            return write_run(codes, words, marks, seen, at + 1, left, k - 1, out);
+            return write_run(codes, words, marks, seen, first, left, k - 1, out);
         }
         let j = k - 1 - n;
-        let m = write_run(codes, words, marks, seen, at + 1, left, j / n, out);
-        return m
-            + write_run(
-                codes,
-                words,
-                marks,
-                seen,
-                at + 1,
-                left,
-                j % n,
-                &mut out[m..],
-            );
+        let m = write_run(codes, words, marks, seen, first, left, j / n, out);
+        return m + write_run(codes, words, marks, seen, first, left, j % n, &mut out[m..]);
     }
     if k < n {
-        return write_run(codes, words, marks, seen, at + 1, left, k, out);
+        return write_run(codes, words, marks, seen, first, left, k, out);
     }
-    write_run(
-        codes,
-        words,
-        marks,
-        seen,
-        line_after(codes.len(), body.end),
-        left,
-        k - n,
-        out,
-    )
+    let second = line_after(codes.len(), body.end);
+    write_run(codes, words, marks, seen, second, left, k - n, out)
 }

@@ -15,6 +15,7 @@ use borrow.Author.Tests.{lt-ltb, le-ltb}
 use Rattle.spec_base.specs.Basic.{numbers}
 use Rattle.law_base.specs.ListLaws.{some-injective, length-numbersFrom, getElem?-numbersFrom}
 use Rattle.spec_text.specs.declared.Line.{Line}
+use Rattle.spec_text.specs.declared.LineKind.{LineKind}
 use Rattle.spec_text.specs.declared.Workload.{Workload}
 use Rattle.spec_text.proofs.Workload.{the-type}
 use Rattle.edge_kinds.specs.Kinds.{kindFacts, kindOf}
@@ -22,9 +23,9 @@ use Rattle.edge_kinds.specs.KindLaws.{told, bit-clear, bit-set}
 use Rattle.unfold_laws.specs.Codes.{codeOf, codesOf, idsOf, markIn, bitIn, marksOf}
 use Rattle.spec_text.specs.declared.StatementKind.{StatementKind}
 use Rattle.spec_graph.specs.Edge.{shields}
-use Rattle.value_tables.specs.Lines.{lineNumber, codeBy, markBy}
-use Rattle.value_tables.specs.LineLaws.{code-told, mark-told}
-use Rattle.value_tables.specs.Tables.{idTables, placeTables}
+use Rattle.value_tables.specs.Lines.{lineNumber, markBy}
+use Rattle.value_tables.specs.LineLaws.{mark-told}
+use Rattle.value_tables.specs.Tables.{writeTables}
 
 -- a value has as many cells as its form in memory, which is known by its type
 pub cells-known : (w : Workload) → length (the-type .to w .1 .0) ≡ 1616 → length (w .lines) ≡ 1616
@@ -50,23 +51,25 @@ map-at f [] i e h = absurd (omega arith)
 map-at f (x ∷ l) zero e h = refl
 map-at f (x ∷ l) (suc i) e h = map-at f l i e (omega arith)
 
+-- the mark by a kind's number
+pub mark-line : (k : LineKind) (id n mark : ℕ) → n ≡ lineNumber k → mark ≡ markBy n id → mark ≡ markIn k id
+mark-line k id n mark e m = m ∙ ap (λ (x : ℕ). markBy x id) e ∙ mark-told k id
+
 module _ (lines : List Line) (i : ℕ) (e : Line) (inside : i < length lines) where
   abbrev here : Line
   here = getD lines i e
 
-  pub code-at : (n code : ℕ) → n ≡ lineNumber (here .kind) → code ≡ codeBy n → code ≡ getD (codesOf lines) i 0
+  pub code-at : (code : ℕ) → code ≡ codeOf (here .kind) → code ≡ getD (codesOf lines) i 0
   unfolding codesOf
-  code-at n code m c = c ∙ ap codeBy m ∙ code-told (here .kind) ∙ sym (map-at (λ l. codeOf (l .kind)) lines i e inside)
+  code-at code c = c ∙ sym (map-at (λ l. codeOf (l .kind)) lines i e inside)
 
   pub id-at : here .id ≡ getD (idsOf lines) i 0
   unfolding idsOf
   id-at = sym (map-at (λ l. l .id) lines i e inside)
 
-  pub mark-at : (n mark : ℕ) → n ≡ lineNumber (here .kind) → mark ≡ markBy n (here .id) → mark ≡ getD (marksOf lines) i 0
+  pub mark-at : (mark : ℕ) → mark ≡ markIn (here .kind) (here .id) → mark ≡ getD (marksOf lines) i 0
   unfolding marksOf
-  mark-at n mark m c =
-      c ∙ ap (λ (x : ℕ). markBy x (here .id)) m ∙ mark-told (here .kind) (here .id)
-      ∙ sym (map-at (λ l. markIn (l .kind) (l .id)) lines i e inside)
+  mark-at mark c = c ∙ sym (map-at (λ l. markIn (l .kind) (l .id)) lines i e inside)
 
 getD-there : (l : List ℕ) (i : ℕ) {x : ℕ} → getElem? l i ≡ some x → getD l i 0 ≡ x
 getD-there [] i {x} e = let z : _≡_ {A = Option ℕ} none (some x) = e in let y : _≡_ {A = ℕ} 0 1 = cc in absurd (omega arith)
@@ -131,12 +134,7 @@ bit-shifted id h = rw one-mul (mod-eq-of-lt (pow-lt h))
 -- ---- all cells
 
 -- the tables put together
-pub ids-made : (lines : List Line) (codes words : List ℕ) → codes ≡ codesOf lines → words ≡ idsOf lines
-    → record { codes = codes; words = words } ≡ idTables lines
-unfolding idTables
-ids-made lines codes words c w = rw (c, w)
-
-pub places-made : (lines : List Line) (codes words marks : List ℕ) → codes ≡ codesOf lines → words ≡ numbers 1616 → marks ≡ marksOf lines
-    → record { codes = codes; words = words; marks = marks } ≡ placeTables lines
-unfolding placeTables
-places-made lines codes words marks c w m = rw (c, w, m)
+pub tables-made : (lines : List Line) (codes ids own marks : List ℕ) → codes ≡ codesOf lines → ids ≡ idsOf lines → own ≡ numbers 1616
+    → marks ≡ marksOf lines → record { codes = codes; ids = ids; numbers = own; marks = marks } ≡ writeTables lines
+unfolding writeTables
+tables-made lines codes ids own marks c d n m = rw (c, d, n, m)

@@ -1,4 +1,4 @@
-// A workload value as tables of numbers, each made in one pass over its lines: what the unfoldings are written from, and the words of the lines.
+// A workload value as tables of numbers, each made in one pass over its lines: what unfoldings are written from, and the words of the lines.
 
 use edge_kinds::SHIELD;
 use edge_kinds::kind_facts;
@@ -6,6 +6,7 @@ use edge_kinds::kind_number;
 use edge_kinds::kind_of;
 use line_kinds::line_facts;
 use spec_text::CELLS;
+use spec_text::Line;
 use spec_text::LineKind;
 use spec_text::Workload;
 use word_rows::put_row;
@@ -14,7 +15,8 @@ ghost use Prim.Native.Nat.{_*_};
 ghost use lib.ListN.{length, take};
 ghost use Rattle.spec_text.specs.Value.{linesOf};
 ghost use Rattle.value_tables.specs.Lines.{lineNumber, codeBy, markBy, setIn, lineTable, Zeros};
-ghost use Rattle.value_tables.specs.Tables.{idTables, placeTables};
+ghost use Rattle.unfold_laws.specs.Codes.{codeOf, markIn};
+ghost use Rattle.value_tables.specs.Tables.{writeTables};
 
 // The number of a line's kind: 0 to 6 for the kinds of statement (`kind_number`), then `pr`, `li`, `lo`, `br`, and one for every other.
 pub const PR: u64 = 7;
@@ -46,16 +48,11 @@ pub const TESTS: usize = 6;
 // The words of all lines.
 pub const LINE_TABLE: usize = 12928;
 
-// What statement ids are written from: the kinds of the lines as codes, and their ids.
-pub struct IdTables {
+// What unfoldings are written from: of each line its kind as a code, its id, its own number and its mark.
+pub struct WriteTables {
     pub codes: [u8; CELLS],
-    pub words: [u16; CELLS],
-}
-
-// What words for places are written from: the kinds of the lines as codes, their own numbers, and their marks.
-pub struct PlaceTables {
-    pub codes: [u8; CELLS],
-    pub words: [u16; CELLS],
+    pub ids: [u16; CELLS],
+    pub numbers: [u16; CELLS],
     pub marks: [u32; CELLS],
 }
 
@@ -120,44 +117,40 @@ fn set_in(facts: u64, fact: u64, set: u64) -> u64
     set
 }
 
-pub fn id_tables(w: Workload) -> IdTables
-    ensures { λ r. ⌜ r ≡ idTables (w .lines) ⌝ }
+fn line_code(l: Line) -> u8
+    ensures { λ r. ⌜ r ≡ codeOf (l .kind) ⌝ }
 {
-    let mut codes = [0u8; CELLS];
-    let mut words = [0u16; CELLS];
-    let mut i: usize = 0;
-    while i < CELLS {
-        let l = w.lines[i];
-        let kind = l.kind;
-        codes[i] = code_by(line_number(kind));
-        words[i] = l.id as u16;
-        i += 1;
-    }
-    IdTables {
-        codes: codes,
-        words: words,
-    }
+    let kind = l.kind;
+    code_by(line_number(kind))
 }
 
-pub fn place_tables(w: Workload) -> PlaceTables
-    ensures { λ r. ⌜ r ≡ placeTables (w .lines) ⌝ }
+fn line_mark(l: Line) -> u32
+    ensures { λ r. ⌜ r ≡ markIn (l .kind) (l .id) ⌝ }
+{
+    let kind = l.kind;
+    mark_by(line_number(kind), l.id)
+}
+
+pub fn write_tables(w: Workload) -> WriteTables
+    ensures { λ r. ⌜ r ≡ writeTables (w .lines) ⌝ }
 {
     let mut codes = [0u8; CELLS];
-    let mut words = [0u16; CELLS];
+    let mut ids = [0u16; CELLS];
+    let mut numbers = [0u16; CELLS];
     let mut marks = [0u32; CELLS];
     let mut i: usize = 0;
     while i < CELLS {
         let l = w.lines[i];
-        let kind = l.kind;
-        let n = line_number(kind);
-        codes[i] = code_by(n);
-        words[i] = i as u16;
-        marks[i] = mark_by(n, l.id);
+        codes[i] = line_code(l);
+        ids[i] = l.id as u16;
+        numbers[i] = i as u16;
+        marks[i] = line_mark(l);
         i += 1;
     }
-    PlaceTables {
+    WriteTables {
         codes: codes,
-        words: words,
+        ids: ids,
+        numbers: numbers,
         marks: marks,
     }
 }

@@ -168,6 +168,10 @@ module _ (nodes : List Node) where
   unfolding graphOf
   place-loose s l = ap loosensAt (place-found nodes s l)
 
+  -- an edge leaves a loose place where its statement is loose
+  pub ends-loose : (flow : Flow) (u i v j : ℕ) (e : Ends flow u i v j) → graphOf nodes .loose u i ≡ loosens (at (e .s) .kind)
+  ends-loose flow u i v j e = sym (ap₂ (graphOf nodes .loose) (e .leaves) (e .leavesAt)) ∙ place-loose (e .s) (e .left)
+
   module _ (few : length nodes ≤ 64) (statements : statementsIn nodes ≤ 512) where
     -- at most 64 nodes with 512 statements
     pub small-graph : Small (graphOf nodes)

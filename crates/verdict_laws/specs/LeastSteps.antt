@@ -6,9 +6,9 @@ use Prim.Native.Nat.{ℕ, _≤_, _<_}
 use native.Mathlib.Omega.{arith}
 use lib.ListN.{length, getD}
 use Rattle.law_base.specs.ListLaws.{map-member}
-use Rattle.spec_graph.specs.Graph.{Flow, Graph, isBack}
+use Rattle.spec_graph.specs.Graph.{Flow, isBack}
 use Rattle.spec_graph.specs.Unfolding.{Node}
-use Rattle.spec_graph.specs.Edge.{Place, at, loosens, placesOf, graphOf}
+use Rattle.spec_graph.specs.Edge.{Place, loosens, placesOf, graphOf}
 use Rattle.spec_report.specs.State.{statementsIn}
 use Rattle.place_row.specs.declared.Row.{Row}
 use Rattle.place_row.specs.RowTable.{rowOf, rowsOf, rowStands, tableRows}
@@ -19,7 +19,7 @@ use Rattle.walk_step.specs.StepWordLaws.{word-step, flow-back}
 use Rattle.walk_step.specs.LeastStep.{Counts, leastStep}
 use Rattle.walk_step.specs.Tabled.{FoundStep}
 use Rattle.walk_step.specs.LeastStepLaws.{RowStep, counts-same, least-found, least-least}
-use Rattle.verdict_laws.specs.Entries.{Ends, edge-ends, ends-edge, place-loose, small-graph, stands-rows}
+use Rattle.verdict_laws.specs.Entries.{Ends, edge-ends, ends-edge, place-loose, ends-loose, small-graph, stands-rows}
 
 module _ (nodes : List Node) (few : length nodes ≤ 64) (statements : statementsIn nodes ≤ 512)
     (keys : (n : Node) → List·Memᴰ n nodes → KeysSmall n) (table : List ℕ) (rows : tableRows table ≡ rowsOf nodes)
@@ -101,7 +101,8 @@ module _ (nodes : List Node) (few : length nodes ≤ 64) (statements : statement
         entersSmall = let q = e .entersAt in omega (arith, small .3);
         intoSmall = let q = e .enters in omega (arith, small .1);
         stands = sym (stands-rows nodes few statements keys flow (e .s) (e .t) (e .left)) ∙ e .edge;
-        counts = counts-same flow (ap (λ (k : ℕ). getD needs k 0) (sym (e .enters))) (ap (λ (k : ℕ). getD limits k 0) (sym (e .enters))) loose
+        counts = counts-same flow (ap (λ (k : ℕ). getD needs k 0) (sym (e .enters))) (ap (λ (k : ℕ). getD limits k 0) (sym (e .enters)))
+            (ends-loose nodes flow x i y j e)
             (sym (e .leavesAt)) (sym (e .entersAt)) c;
         same = sym (ap₂ (λ (a b : ℕ). stepWord a b flow (e .t .number)) (e .leavesAt) (e .entersAt) ∙ ap (stepWord i j flow) (e .enters));
       }))
@@ -111,6 +112,3 @@ module _ (nodes : List Node) (few : length nodes ≤ 64) (statements : statement
 
       small : (x < 64) × (y < 64) × (i < 1024) × (j < 1024)
       small = small-graph nodes few statements x i y j flow h
-
-      loose : graphOf nodes .loose x i ≡ loosens (at (e .s) .kind)
-      loose = sym (ap₂ (graphOf nodes .loose) (e .leaves) (e .leavesAt)) ∙ place-loose nodes (e .s) (e .left)

@@ -1,4 +1,5 @@
 pub mod Places
 pub mod Entries
-pub mod PickedVerdict
 pub mod LeastSteps
+pub mod Tables
+pub mod PickedVerdict

@@ -1,9 +1,8 @@
--- What one pass over the table of a workload's places tells: its counts, and a dangerous closed walk or that there is none.
-use mathlib.Core.Path.{_≡_, sym, ap, subst, _∙_}
-use mathlib.Core.Bool.{true, false}
-use mathlib.Core.Logic.{_⊎_}
-use mathlib.Core.List.{List, [], List·Memᴰ}
-use Prim.Native.Nat.{_≤_}
+-- What one pass over the table of a workload's places tells: its counts, and tables that hold its summary graph.
+use mathlib.Core.Path.{_≡_, ap, _∙_}
+use mathlib.Core.Bool.{false}
+use mathlib.Core.List.{List}
+use Prim.Native.Nat.{ℕ, _≤_}
 use native.Mathlib.Omega.{arith}
 use lib.Dec.{ltb}
 use lib.ListN.{length}
@@ -13,65 +12,39 @@ use Rattle.law_base.specs.BoolLaws.{or-false}
 use Rattle.spec_text.specs.declared.Line.{Line}
 use Rattle.spec_text.specs.declared.Workload.{Workload}
 use Rattle.spec_text.specs.Value.{Given, linesOf}
-use Rattle.law_text.specs.ValueLaws.{given-read}
 use Rattle.spec_graph.specs.Unfolding.{Node, nodesOf}
 use Rattle.spec_graph.specs.Graph.{isBack}
-use Rattle.spec_graph.specs.Edge.{edgesOf, graphOf}
-use Rattle.spec_graph.specs.Walk.{isDangerous, DangerousWalk}
-use Rattle.law_walk.specs.Reach.{regular}
-use Rattle.spec_report.specs.State.{statementsIn, tooMany, countsOf, summaryGraph, Robust}
-use Rattle.place_row.specs.declared.Row.{Row}
+use Rattle.spec_graph.specs.Edge.{edgesOf}
+use Rattle.spec_report.specs.State.{statementsIn, tooMany, countsOf, summaryGraph}
 use Rattle.place_row.specs.RowTable.{rowsOf, tableOf, tableRows}
-use Rattle.place_row.specs.RowTableLaws.{KeysSmall, table-rows}
-use Rattle.place_laws.specs.Placed.{keys-below, rowsOf-length, accepted-edges}
+use Rattle.place_row.specs.RowTableLaws.{table-rows}
+use Rattle.node_laws.specs.GivenNodes.{given-places}
+use Rattle.place_laws.specs.Placed.{rowsOf-length, given-edges}
 use Rattle.edge_count.specs.Slots.{tableEdges, tableCounts}
-use Rattle.edge_word.specs.Greatest.{GreatestWords, greatest-picked}
-use Rattle.walk_find.specs.TableWalk.{tableWalk}
-use Rattle.walk_find.specs.WalkLaws.{table-verdict}
 use Rattle.walk_pick.specs.declared.PickedEdges.{PickedEdges}
-use Rattle.walk_pick.specs.Picks.{rowForwardWord, rowBackWord, wordsBetween, picksOf}
-use Rattle.verdict_laws.specs.Entries.{small-graph, rows-greatest}
+use Rattle.walk_pick.specs.Picks.{picksOf}
+use Rattle.walk_first.specs.FirstSteps.{Held}
+use Rattle.verdict_laws.specs.Tables.{nodes-held}
 
 -- the table's rows are the nodes' rows
-pub rows-same : (nodes : List Node) → statementsIn nodes ≤ 512 → tableRows (tableOf (rowsOf nodes)) ≡ rowsOf nodes
+rows-same : (nodes : List Node) → statementsIn nodes ≤ 512 → tableRows (tableOf (rowsOf nodes)) ≡ rowsOf nodes
 rows-same nodes statements = table-rows (rowsOf nodes) (let e = rowsOf-length nodes in omega arith)
 
-module _ (nodes : List Node) (few : length nodes ≤ 64) (statements : statementsIn nodes ≤ 512)
-    (keys : (n : Node) → List·Memᴰ n nodes → KeysSmall n) (r : PickedEdges) (picked : r ≡ picksOf (tableOf (rowsOf nodes))) where
-  -- what is picked from the table of the nodes' places stands for all edges
-  picks-greatest : GreatestWords (graphOf nodes) (r .forwards) (r .backs)
-  unfolding picksOf
-  picks-greatest =
-      subst (λ (p : PickedEdges). GreatestWords (graphOf nodes) (p .forwards) (p .backs)) (sym picked)
-      (subst (λ (rows : List Row). GreatestWords (graphOf nodes) (wordsBetween rowForwardWord rows) (wordsBetween rowBackWord rows))
-      (sym (rows-same nodes statements))
-      (rows-greatest nodes few statements keys))
-
-  -- the walk of what is picked is a dangerous closed walk of at most 65 steps, or it is empty and there is none
-  picks-verdict :
-      ((isDangerous (graphOf nodes) (tableWalk (r .forwards) (r .backs)) ≡ true) × (length (tableWalk (r .forwards) (r .backs)) ≤ 65))
-      ⊎ ((tableWalk (r .forwards) (r .backs) ≡ []) × (DangerousWalk (graphOf nodes) → ⊥))
-  unfolding graphOf
-  picks-verdict =
-      table-verdict (r .forwards) (r .backs) (regular nodes) few
-      (greatest-picked (r .forwards) (r .backs) (small-graph nodes few statements) picks-greatest)
-
--- what is told of a workload: P1 its counts, and demand 2 a dangerous closed walk of at most 65 steps or that it is robust
-pub record PickedVerdict (lines : List Line) (r : PickedEdges) : Type 0 where
+-- what is told of a workload: P1 its counts, and that the table of its places and what is picked from it hold its summary graph
+pub record PickedVerdict (lines : List Line) (table : List ℕ) (r : PickedEdges) : Type 0 where
   pub edges : r .edges ≡ countsOf lines .edges
   pub back : r .back ≡ countsOf lines .back
-  pub verdict :
-      ((isDangerous (summaryGraph lines) (tableWalk (r .forwards) (r .backs)) ≡ true) × (length (tableWalk (r .forwards) (r .backs)) ≤ 65))
-      ⊎ ((tableWalk (r .forwards) (r .backs) ≡ []) × Robust lines)
+  pub held : Held table (r .forwards) (r .backs) (summaryGraph lines)
 
--- a given workload that is not too large is judged by what is picked from the table of its places
-pub given-picked : (w : Workload) (r : PickedEdges) → Given w → tooMany (linesOf w) ≡ false
-    → r ≡ picksOf (tableOf (rowsOf (nodesOf (linesOf w)))) → PickedVerdict (linesOf w) r
+-- a given workload that is not too large is judged by the table of its places and what is picked from it
+pub given-picked : (w : Workload) (table : List ℕ) (r : PickedEdges) → Given w → tooMany (linesOf w) ≡ false
+    → table ≡ tableOf (rowsOf (nodesOf (linesOf w))) → r ≡ picksOf table → PickedVerdict (linesOf w) table r
 unfolding tooMany summaryGraph countsOf picksOf tableCounts
-given-picked w r given fits picked = record {
+given-picked w table r given fits whole picked = record {
   edges = ap (λ (p : PickedEdges). p .edges) picked ∙ ap length same;
   back = ap (λ (p : PickedEdges). p .back) picked ∙ ap (count (λ e. isBack (e .flow))) same;
-  verdict = picks-verdict (nodesOf (linesOf w)) few statements (keys-below (given .text) (linesOf w) (given-read given)) r picked;
+  held = nodes-held (nodesOf (linesOf w)) few statements (λ n m. given-places given n m .keys) table
+      (ap tableRows whole ∙ rows-same (nodesOf (linesOf w)) statements) r picked;
 }
   where
     both : (ltb 64 (length (nodesOf (linesOf w))) ≡ false) × (ltb 512 (statementsIn (nodesOf (linesOf w))) ≡ false)
@@ -83,5 +56,5 @@ given-picked w r given fits picked = record {
     statements : statementsIn (nodesOf (linesOf w)) ≤ 512
     statements = ltb-false 512 (statementsIn (nodesOf (linesOf w))) (both .1)
 
-    same : tableEdges (tableOf (rowsOf (nodesOf (linesOf w)))) ≡ edgesOf (nodesOf (linesOf w))
-    same = accepted-edges (given .text) (linesOf w) (given-read given) fits
+    same : tableEdges table ≡ edgesOf (nodesOf (linesOf w))
+    same = ap tableEdges whole ∙ given-edges given fits

@@ -53,10 +53,10 @@ answer-same c (WalkFound.Shown steps) = refl
 -- ---- the verdict
 
 -- the counts told are the workload's
-counts-same : (w : Workload) (programs nodes places : ℕ) (filled : List ℕ) (p : PickedEdges) → Whole w programs nodes places filled
-    → PickedVerdict (linesOf w) p → counted programs nodes (p .edges) (p .back) ≡ countsOf (linesOf w)
+counts-same : (w : Workload) (programs nodes places : ℕ) (filled table : List ℕ) (p : PickedEdges) → Whole w programs nodes places filled
+    → PickedVerdict (linesOf w) table p → counted programs nodes (p .edges) (p .back) ≡ countsOf (linesOf w)
 unfolding countsOf
-counts-same w programs nodes places filled p whole picked =
+counts-same w programs nodes places filled table p whole picked =
     rw (whole .programs-are, whole .nodes-are, picked .edges, picked .back) refl
 
 module _ (w : Workload) (given : Given w) (few : tooMany (linesOf w) ≡ false) {table forwards backs : List ℕ}
@@ -86,12 +86,11 @@ pub judged-picked : (w : Workload) (programs nodes places : ℕ) (filled before 
     → WalkAnswered (take (places * 8) filled) (p .forwards) (p .backs) 18446744073709551615 before (refusalIn found) (stepsIn found) after
     → answer ≡ toldFor (counted programs nodes (p .edges) (p .back)) found → Judged w before answer after
 judged-picked w programs nodes places filled before after p found answer whole picked answered e =
-    let verdict = given-picked w p (whole .given) (whole .few) (picked ∙ ap picksOf (whole .rows)) in
+    let verdict = given-picked w (take (places * 8) filled) p (whole .given) (whole .few) (whole .rows) picked in
     let same = e
-    ∙ ap (λ (c : Counts). toldFor c found) (counts-same w programs nodes places filled p whole verdict)
+    ∙ ap (λ (c : Counts). toldFor c found) (counts-same w programs nodes places filled (take (places * 8) filled) p whole verdict)
     ∙ answer-same (countsOf (linesOf w)) found in
-    let held = subst (λ (t : List ℕ). Held t (p .forwards) (p .backs) (summaryGraph (linesOf w))) (sym (whole .rows)) (verdict .held) in
-    subst (λ (t : Told). Judged w before t after) (sym same) (judged-answer w (whole .given) (whole .few) held answered)
+    subst (λ (t : Told). Judged w before t after) (sym same) (judged-answer w (whole .given) (whole .few) (verdict .held) answered)
 
 -- ---- nothing is free
 

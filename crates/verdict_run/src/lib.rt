@@ -60,10 +60,14 @@ fn answer_with(area: &mut [u8]) -> Answer
     }
 }
 
-// Reads standard input and shows its report. The area is longer than any text that is accepted: a text that fills it is refused, whatever follows.
+// The bytes of the area that standard input is read into. It is longer than any text that is accepted: a text that fills it is refused, whatever
+// follows.
+const INPUT_BYTES: usize = 65536;
+
+// Reads standard input and shows its report.
 pub fn answer_input() -> Answer
     ensures { λ r. ⌜ Answered 65536 r ⌝ }
 {
-    let mut area = [0u8; 65536];
+    let mut area = [0u8; INPUT_BYTES];
     answer_with(&mut area)
 }

@@ -17,10 +17,10 @@ use Rattle.spec_graph.specs.Graph.{Flow, Graph}
 use Rattle.spec_graph.specs.Walk.{Step, isDangerous, DangerousWalk, FirstWalk}
 use Rattle.law_walk.specs.Reach.{Regular, roundsFor}
 use Rattle.law_walk.specs.Parts.{only, only-edge}
-use Rattle.law_walk.specs.Phases.{Phase, Accepted, accepted-length, normal}
+use Rattle.law_walk.specs.Phases.{Phase, Accepted, normal}
 use Rattle.law_walk.specs.Phases.Phase.{starting}
 use Rattle.law_walk.specs.Phases.Accepted.{stop, go}
-use Rattle.law_walk.specs.Greedy.{Greedy, greedy-accepted, greedy-first}
+use Rattle.law_walk.specs.Greedy.{Greedy, greedy-first}
 use Rattle.pick_laws.specs.declared.Going.{Going}
 use Rattle.pick_laws.specs.declared.Pick.{Pick}
 use Rattle.pick_laws.specs.Pick.{Picks, picked, dangerousPicks, onwardTo, reaches, returnsAt, nodeTest}
@@ -237,11 +237,3 @@ module _ (table forwards backs : List ℕ) (nodes n : ℕ) (full : n ≡ 64) {wh
 
         lowest : (first : Step) (rest : List Step) → isDangerous g (first ∷ rest) ≡ true → length rest ≡ d + 1 → s ≤ first .node
         lowest first rest h e = let t = walk-told first rest h in let long = t .1 .1 in t .1 .3 (omega arith)
-
-    -- it has two steps more than the way back
-    pub walk-length : length (walkOf table forwards backs nodes d) ≡ d + 2
-    unfolding walkOf startOf
-    walk-length =
-        let two : suc (d + 1) ≡ d + 2 = omega arith in
-        subst (λ (k : ℕ). length (stepsFrom table backs (preparedFor forwards backs nodes d s) k Going.Starting s) ≡ k) two
-        (accepted-length (greedy-accepted greedy))

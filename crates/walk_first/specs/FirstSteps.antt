@@ -1,12 +1,12 @@
 -- The first walk of a table of places and two tables of edges between 64 nodes, how it is written down, and what the search for it promises.
 use mathlib.Core.Bool.{Bool, true, false, cond, _&&_}
-use mathlib.Core.List.{List, [], _∷_, map}
+use mathlib.Core.List.{List, [], _∷_}
 use mathlib.Core.Option.{Option, none, some}
 use mathlib.Core.Path.{_≡_}
 use Prim.Native.Nat.{ℕ, zero, suc, _+_, _*_, _/_, _%_, _≤_, _<_}
-use lib.Dec.{ltb}
+use lib.Dec.{eqb, ltb}
 use lib.ListN.{length, getD, set}
-use Rattle.spec_base.specs.Basic.{numbers, has}
+use Rattle.spec_base.specs.Basic.{has}
 use Rattle.spec_graph.specs.Graph.{Graph}
 use Rattle.spec_graph.specs.Walk.{Step, DangerousWalk, FirstWalk}
 use Rattle.law_walk.specs.Parts.{only}
@@ -21,7 +21,7 @@ use Rattle.pick_laws.specs.CompletingLaws.{SmallPlaces}
 use Rattle.edge_word.specs.Coding.{forwardsIn, backsIn}
 use Rattle.walk_reach.specs.Layers.{joinedRows}
 use Rattle.walk_lead.specs.Leads.{leadRows, returnIn, wrapStart}
-use Rattle.walk_ways.specs.Ways.{waysTo, openings, firstStart, widestTable}
+use Rattle.walk_ways.specs.Ways.{filled, waysTo, openings, firstStart, widestTable}
 use Rattle.walk_need.specs.Needs.{needsOf, limitsOf}
 use Rattle.walk_step.specs.declared.Taken.{Taken}
 use Rattle.walk_step.specs.StepWord.{flowOf, stepOf}
@@ -30,9 +30,9 @@ use Rattle.walk_step.specs.Tabled.{Tabled}
 
 -- ---- the steps
 
--- how far a step out of x opens
-unfoldable pub opensFrom : List ℕ → ℕ → Taken → ℕ
-opensFrom table x t = cond (looseAt table x (t .leaves)) 1024 (t .enters)
+-- how far a step out of x opens, by the place left and the place entered
+unfoldable pub opensAt : List ℕ → ℕ → ℕ → ℕ → ℕ
+opensAt table x leaves enters = cond (looseAt table x leaves) 1024 enters
 
 -- what is worked out before the first step is taken: which nodes end the walk and which still open it, by the number of steps left, and how far the
 -- last steps can open; where the walk starts, and the word of the nodes that count
@@ -42,6 +42,9 @@ pub record Prepared : Type 0 where
   pub ways : List ℕ
   pub opened : List ℕ
   pub wide : List ℕ
+
+abbrev pub prepared : ℕ → ℕ → List ℕ → List ℕ → List ℕ → Prepared
+prepared nodes start ways opened wide = record { nodes = nodes; start = start; ways = ways; opened = opened; wide = wide }
 
 -- the least step out of x that counts, where r steps are left after it
 unfoldable pub taken : List ℕ → List ℕ → Prepared → ℕ → Going → ℕ → Taken
@@ -54,7 +57,7 @@ stepTaken x t = record { node = x; leaves = t .leaves; enters = t .enters; flow 
 
 -- the phase after the step
 unfoldable pub goingOn : List ℕ → Going → ℕ → Taken → Going
-goingOn table going x t = goingAfter going (t .back) (opensFrom table x t) (t .leaves)
+goingOn table going x t = goingAfter going (t .back) (opensAt table x (t .leaves) (t .enters)) (t .leaves)
 
 -- the least step again and again, so many of them, from node x
 unfoldable pub stepsFrom : List ℕ → List ℕ → Prepared → ℕ → Going → ℕ → List Step
@@ -94,9 +97,13 @@ firstSteps table forwards backs nodes = cond (ltb (returnIn forwards backs) 64) 
 unfoldable pub chosenWord : List ℕ → ℕ → ℕ → ℕ
 chosenWord table nodes x = cond (has nodes (x / 64) && has nodes (x % 64)) (getD table x 0) 0
 
--- the edges between nodes of the word alone
+-- the words of the edges between nodes of the word
+unfoldable pub chosenWords : List ℕ → ℕ → List ℕ
+chosenWords table nodes = filled 4096 (chosenWord table nodes) 4096
+
+-- the edges between nodes of the word alone; all where every node counts
 unfoldable pub chosenEdges : List ℕ → ℕ → List ℕ
-chosenEdges table nodes = map (chosenWord table nodes) (numbers 4096)
+chosenEdges table nodes = cond (eqb nodes 18446744073709551615) table (chosenWords table nodes)
 
 -- the first walk among the nodes of the word
 unfoldable pub firstAmong : List ℕ → List ℕ → List ℕ → ℕ → List Step
@@ -114,6 +121,21 @@ putStep area k s = putWords area k (s .node) (s .leaves) (s .enters) (flowWord (
 unfoldable pub putSteps : List ℕ → ℕ → List Step → List ℕ
 putSteps area k [] = area
 putSteps area k (s ∷ steps) = putSteps (putStep area k s) (suc k) steps
+
+-- ---- what the parts promise
+
+-- the step taken is written as step k, and the search goes on from the node that it enters
+pub record TakenAs (table backs : List ℕ) (p : Prepared) (r : ℕ) (going : Going) (x k : ℕ) (before after : List ℕ) (node : ℕ) (next : Going) : Type 0 where
+  pub area : after ≡ putStep before k (stepTaken x (taken table backs p r going x))
+  pub entered : node ≡ taken table backs p r going x .into
+  pub phase : next ≡ goingOn table going x (taken table backs p r going x)
+
+-- tables with edges between nodes of the word alone are searched: nothing is written where there is no walk, else the walk
+pub data Searched (table forwards backs : List ℕ) (nodes : ℕ) (before : List ℕ) : Option ℕ → Option ℕ → List ℕ → Type 0 where
+  nothing : 64 ≤ returnIn forwards backs → Searched table forwards backs nodes before none none before
+  walked : returnIn forwards backs < 64
+      → Searched table forwards backs nodes before (some (returnIn forwards backs + 2)) none
+      (putSteps before 0 (walkOf table forwards backs nodes (returnIn forwards backs)))
 
 -- ---- what is promised
 

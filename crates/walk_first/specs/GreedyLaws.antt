@@ -37,7 +37,7 @@ use Rattle.walk_step.specs.StepWordLaws.{word-small, word-order}
 use Rattle.walk_step.specs.LeastStepLaws.{counts-same}
 use Rattle.walk_step.specs.LeastStep.{Counts, leastStep, looseAt}
 use Rattle.walk_step.specs.Tabled.{FoundStep, Tabled}
-use Rattle.walk_first.specs.FirstSteps.{Prepared, opensFrom, taken, stepTaken, goingOn, stepsFrom}
+use Rattle.walk_first.specs.FirstSteps.{Prepared, opensAt, taken, stepTaken, goingOn, stepsFrom}
 
 -- the flow of a step taken
 flow-taken : (b : Bool) → isBack (flowOf b) ≡ b
@@ -170,7 +170,7 @@ module _ {whole : Graph} {table : List ℕ} (tabled : Tabled table whole) {forwa
 
   taken-choice : (r : ℕ) (ph : Phase) (x : ℕ) → r ≤ most → fits ph ≡ true → Counted picks few-places (p .start) r (goingIn g ph) x
       → Taking r ph x (taken table backs p r (goingIn g ph) x)
-  unfolding taken only choiceNumbers goingOn opensFrom
+  unfolding taken only choiceNumbers goingOn opensAt
   taken-choice r ph x h fit counted =
       record {
         inInto = omega (arith, found .intoSmall);

@@ -1,3 +1,6 @@
 pub mod FirstSteps
 pub mod GreedyLaws
 pub mod FirstLaws
+pub mod TakingLaws
+pub mod ChosenLaws
+pub mod AnswerLaws

@@ -5,3 +5,4 @@ pub mod StepTurns
 pub mod StepTurnLaws
 pub mod LeastStepLaws
 pub mod Tabled
+pub mod LooseLaws

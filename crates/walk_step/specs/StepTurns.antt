@@ -1,12 +1,13 @@
--- The least word so far, row after row.
-use mathlib.Core.Bool.{cond}
+-- The least word so far, and that no row so far is loose, row after row.
+use mathlib.Core.Path.{_≡_}
+use mathlib.Core.Bool.{false, cond}
 use mathlib.Core.List.{List}
-use Prim.Native.Nat.{ℕ, zero, suc}
+use Prim.Native.Nat.{ℕ, zero, suc, _<_}
 use Rattle.place_row.specs.declared.Row.{Row}
 use Rattle.place_row.specs.RowTable.{rowAt}
 use Rattle.pick_laws.specs.Completing.{leastBelow}
 use Rattle.walk_step.specs.StepWord.{noStep}
-use Rattle.walk_step.specs.LeastStep.{pairStep, leavesFrom}
+use Rattle.walk_step.specs.LeastStep.{pairStep, leavesFrom, looseRow}
 
 -- the least of the best word so far and those of the steps from a row to the first n rows
 unfoldable pub rowLeast : List ℕ → ℕ → List ℕ → List ℕ → Row → ℕ → ℕ
@@ -20,3 +21,7 @@ fromRow table n x needs limits p best = cond (leavesFrom x p) (rowLeast table n 
 unfoldable pub leastRows : List ℕ → ℕ → ℕ → List ℕ → List ℕ → ℕ → ℕ
 leastRows table n x needs limits zero = noStep
 leastRows table n x needs limits (suc i) = fromRow table n x needs limits (rowAt table i) (leastRows table n x needs limits i)
+
+-- none of the first k rows is of node x, at the place, and loose
+unfoldable pub NoneBefore : List ℕ → ℕ → ℕ → ℕ → Type 0
+NoneBefore table x place k = (i : ℕ) → i < k → looseRow x place (rowAt table i) ≡ false

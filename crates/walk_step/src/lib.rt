@@ -5,6 +5,7 @@ ghost use mathlib.Core.Path.{_≡_};
 ghost use Prim.Native.Nat.{_≤_, min};
 ghost use Rattle.walk_step.specs.StepWord.{flowOf, stepWord, stepOf};
 ghost use Rattle.walk_step.specs.LeastStep.{hasWord, opensTo, forwardCounts, backCounts, countedStep, pairStep, leastStep};
+ghost use Rattle.walk_step.specs.LeastStep.{looseRow, looseAt};
 ghost use Rattle.walk_step.specs.StepTurns.{rowLeast, fromRow};
 use edge_kinds::LOOSE;
 use edge_kinds::kind_has;
@@ -190,4 +191,34 @@ pub fn least_step(table: &[u64], x: u64, needs: &[u64; NODES], limits: &[u64; NO
         i += 1;
     }
     best
+}
+
+// Whether the row is of node x, at the place, and loose.
+fn loose_row(p: Row, x: u64, place: u64) -> bool
+    ensures { λ r. ⌜ r ≡ looseRow x place p ⌝ }
+{
+    if p.node != x {
+        return false;
+    }
+    if p.place != place {
+        return false;
+    }
+    let k = p.kind;
+    kind_has(k, LOOSE)
+}
+
+// Whether some row of node x at the place is loose.
+pub fn loose_at(table: &[u64], x: u64, place: u64) -> bool
+    ensures { λ r. ⌜ r ≡ looseAt (now (table .entry)) x place ⌝ }
+{
+    let n = row_count(table);
+    let mut k: usize = 0;
+    while k < n {
+        let p = row_at(table, k);
+        if loose_row(p, x, place) {
+            return true;
+        }
+        k += 1;
+    }
+    false
 }

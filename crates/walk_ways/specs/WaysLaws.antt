@@ -2,11 +2,9 @@
 -- it can start, and how far its last step can open.
 use mathlib.Core.Path.{_≡_, refl, sym, ap, ap₂, _∙_}
 use mathlib.Core.Bool.{Bool, true, false, cond, not, _&&_, _||_}
-use mathlib.Core.Logic.{_⊎_, inl, inr}
 use mathlib.Core.List.{List}
 use mathlib.Core.Option.{none, some, Option·none-ne-some}
 use Prim.Native.Nat.{ℕ, zero, suc, _+_, _-_, _*_, _/_, _%_, _^_, _≤_, _<_, min, zero-le}
-use native.Mathlib.Decide.{decLt}
 use native.Mathlib.Omega.{arith}
 use lib.Dec.{eqb, ltb, leb}
 use lib.ListN.{getD}
@@ -16,12 +14,12 @@ use Rattle.law_base.specs.BoolLaws.{true-false, same-test, and-true, and-of, no
 use Rattle.law_base.specs.ListLaws.{any-numbers, any-numbers-of, some-injective}
 use Rattle.law_base.specs.SetLaws.{has-empty, has-nonzero, has-bitOr, has-bit, meets-has, has-meets}
 use Rattle.pick_laws.specs.declared.Pick.{Pick}
-use Rattle.pick_laws.specs.Pick.{picked, onwardTo}
+use Rattle.pick_laws.specs.Pick.{picked}
 use Rattle.pick_laws.specs.Completing.{opensBelow, exactly, needed, widest, leads, greatestBelow}
 use Rattle.pick_laws.specs.NeededLaws.{needed-none, needed-first, needed-later, needed-edge, greatest-same}
 use Rattle.edge_word.specs.Coding.{forwardPick, forwardEdge, backPick, backEdge, entry, forwardsIn, backsIn}
-use Rattle.walk_reach.specs.Layers.{withNode, wordBelow, joinedRow, joinedRows}
-use Rattle.walk_reach.specs.NodeWordLaws.{word-in, word-out}
+use Rattle.walk_reach.specs.Layers.{withNode, joinedRows}
+use Rattle.walk_reach.specs.NodeWordLaws.{word-in, word-inside}
 use Rattle.walk_reach.specs.LayerLaws.{first-has, row-at, row-has, row-meets}
 use Rattle.walk_reach.specs.SearchLaws.{first-bound, first-passes, first-least}
 use Rattle.walk_ways.specs.Ways.{entersAt, nodesInto, exactWord, waysTo, nextOpening, opening, openings, startsAt, firstStart}
@@ -56,18 +54,10 @@ into-has : (rows : List ℕ) (nodes x : ℕ) → x < 64 → has (nodesInto rows 
 unfolding nodesInto entersAt
 into-has rows nodes x h = word-in (entersAt rows nodes) 64 x h
 
--- a number that the word has is below 64
-word-inside : (test : ℕ → Bool) (k : ℕ) → has (wordBelow test 64) k ≡ true → k < 64
-word-inside test k h = go (decLt k 64)
-  where
-    go : Dec (k < 64) → k < 64
-    go (yes l) = l
-    go (no d) = absurd (true-false h (word-out test 64 k (omega arith)))
-
 -- the words of ways have nodes alone
 exact-inside : (rows : List ℕ) (s r k : ℕ) → has (exactWord rows s r) k ≡ true → k < 64
 unfolding exactWord nodesInto withNode
-exact-inside rows s (suc r) k h = word-inside (entersAt rows (exactWord rows s r)) k h
+exact-inside rows s (suc r) k h = word-inside (entersAt rows (exactWord rows s r)) 64 k h
 exact-inside rows s zero k h = go (ltb s 64) (ltb-true s 64) h
   where
     go : (b : Bool) → (b ≡ true → s < 64) → has (withNode 0 b s) k ≡ true → k < 64
@@ -98,7 +88,8 @@ module _ (forwards : List ℕ) (n : ℕ) (full : n ≡ 64) where
   unfolding widestWord widest widthInto
   word-widest s zero x i h = rw (lt-ltb s 64 (omega arith)) refl
   word-widest s (suc r) x i h =
-      greatest-same _ _ 64 (one (λ y l. word-widest s r y i (omega arith))) ∙ ap (greatestBelow (λ y. cond (picked (forwardsIn forwards x y)) (widest (forwardsIn forwards) n s r y) 0)) (sym full)
+      greatest-same _ _ 64 (one (λ y l. word-widest s r y i (omega arith)))
+      ∙ ap (greatestBelow (λ y. cond (picked (forwardsIn forwards x y)) (widest (forwardsIn forwards) n s r y) 0)) (sym full)
     where
       one : ((y : ℕ) → y < 64 → widestWord forwards (joinedRows forwards) s r y ≡ widest (forwardsIn forwards) n s r y)
           → (y : ℕ) → y < 64 → cond (has (getD (joinedRows forwards) x 0) y) (widestWord forwards (joinedRows forwards) s r y) 0
@@ -178,8 +169,9 @@ module _ (forwards backs : List ℕ) (n : ℕ) (full : n ≡ 64) (leadRows : Lis
       ≡ eqb (needed (forwardsIn forwards) (backsIn backs) n s r x) 0
   unfolding openings
   openings-has s steps r x h l k =
+      let ways = waysTo (joinedRows forwards) s steps in
       ap (λ (w : ℕ). has w x)
-      (filled-at 66 (opening (joinedRows forwards) leadRows (waysTo (joinedRows forwards) s steps)) (suc (min steps 65)) r (omega arith) (omega arith))
+      (filled-at 66 (opening (joinedRows forwards) leadRows ways) (suc (min steps 65)) r (omega arith) (omega arith))
       ∙ opening-has s steps r x h l k
 
   -- at the node found a walk of so many steps can start

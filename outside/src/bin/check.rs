@@ -1,5 +1,5 @@
 //! `check MODE PROGRAM FOLDER`: runs a program on every FOLDER/NAME.txt and compares with FOLDER/NAME.out.
-//! MODE report: the names and the verdict line, or the refusal, exactly; the walk by the checker; the rest of the shape too.
+//! MODE report: the whole report is compared, also with the one that this implementation gives; the walk is judged by the checker too.
 //! MODE reader: PROGRAM prints reports; a refusal's number and line are compared, or that the text is accepted.
 //! MODE same: the whole output is compared (listings of unfoldings and edges).
 
@@ -51,8 +51,7 @@ fn judged(mode: &str, program: &str, path: &Path) -> Result<(), String> {
 
 fn as_report(text: &[u8], expected: &str, ran: &Ran) -> Result<(), String> {
     check_report(text, ran)?;
-    let output = String::from_utf8_lossy(&ran.output).to_string();
-    if first_two_lines(&output) == expected { Ok(()) } else { Err(format!("expected\n{expected}but got\n{output}")) }
+    check_same(expected, ran)
 }
 
 fn as_reading(text: &[u8], expected: &str, ran: &Ran) -> Result<(), String> {

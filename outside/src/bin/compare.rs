@@ -90,7 +90,7 @@ fn finish(shared: &Shared) {
     for (outcome, count) in outcomes.iter() {
         println!("{outcome:<12} {count:>9}");
     }
-    let compared = if shared.mode == "report" { "status, bytes, outcome, counts, lines, walks" } else { "status, the whole listing" };
+    let compared = if shared.mode == "report" { "status, every byte of the report, walks" } else { "status, the whole listing" };
     println!("{total} texts compared alike (seed {}): {compared}", shared.seed);
     if let Some((number, difference)) = &*shared.difference.lock().unwrap() {
         let path = format!("found/{}-{number}.txt", shared.seed);

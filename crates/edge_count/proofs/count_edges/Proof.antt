@@ -16,9 +16,6 @@ Inv-loop table n counts₀ i₀ counts i = (i ≤ n) × (counts ≡ countsBelow 
 abbrev μ-loop : tie.MeasureT-loop
 μ-loop table n counts₀ i₀ counts i = n - i
 
-row-count-requires : tie.Need-row-count-requires Inv-loop μ-loop
-row-count-requires c κs = search needs
-
 loop-holds : tie.Need-loop-holds Inv-loop μ-loop
 loop-holds c = (omega arith, counts-none _)
 
@@ -32,9 +29,6 @@ add-i c =
     let l = c .before .loop-test .taken in
     record { fits = omega arith }
 
-loop-less : tie.Need-loop-less Inv-loop μ-loop
-loop-less c = search needs
-
 loop-again : tie.Need-loop-again Inv-loop μ-loop
 loop-again c = (omega arith, counts-turn _ _ _ (c .count-row .ensures))
 
@@ -47,10 +41,10 @@ count-edges-spec =
     (tie.spec
     Inv-loop
     μ-loop
-    row-count-requires
+    (λ c κs. search needs)
     loop-holds
     count-row-requires
     add-i
-    loop-less
+    (λ c. search needs)
     loop-again
     returns)

@@ -19,23 +19,8 @@ Inv-loop table n i p edges₀ back₀ j₀ edges back j =
 abbrev μ-loop : tie.MeasureT-loop
 μ-loop table n i p edges₀ back₀ j₀ edges back j = n - j
 
-row-at-requires : tie.Need-row-at-requires Inv-loop μ-loop
-row-at-requires c κs = search needs
-
 loop-holds : tie.Need-loop-holds Inv-loop μ-loop
 loop-holds c = (omega arith, edges-start _ _ _ (c .before .before .pre .counts), back-start _ _ _ (c .before .before .pre .counts))
-
-row-at-requires-2 : tie.Need-row-at-requires-2 Inv-loop μ-loop
-row-at-requires-2 c κs = search needs
-
-forward-stands-requires : tie.Need-forward-stands-requires Inv-loop μ-loop
-forward-stands-requires c κs = search needs
-
-back-stands-requires : tie.Need-back-stands-requires Inv-loop μ-loop
-back-stands-requires c κs = search needs
-
-pair-counts-requires : tie.Need-pair-counts-requires Inv-loop μ-loop
-pair-counts-requires c κs = search needs
 
 add-edges : tie.Need-add-edges Inv-loop μ-loop
 add-edges c =
@@ -64,9 +49,6 @@ add-j c =
     let few = rows-few _ _ (c .before .before .before .before .before .before .before .before .before .before .pre .rows) in
     let l = c .before .before .before .before .before .before .loop-test .taken in
     record { fits = omega arith }
-
-loop-less : tie.Need-loop-less Inv-loop μ-loop
-loop-less c = search needs
 
 loop-again : tie.Need-loop-again Inv-loop μ-loop
 loop-again c =
@@ -97,15 +79,15 @@ count-row-spec =
     (tie.spec
     Inv-loop
     μ-loop
-    row-at-requires
+    (λ c κs. search needs)
     loop-holds
-    row-at-requires-2
-    forward-stands-requires
-    back-stands-requires
-    pair-counts-requires
+    (λ c κs. search needs)
+    (λ c κs. search needs)
+    (λ c κs. search needs)
+    (λ c κs. search needs)
     add-edges
     add-back
     add-j
-    loop-less
+    (λ c. search needs)
     loop-again
     returns)

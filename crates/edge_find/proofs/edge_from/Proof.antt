@@ -19,12 +19,6 @@ abbrev μ-loop : tie.MeasureT-loop
 loop-holds : tie.Need-loop-holds Inv-loop μ-loop
 loop-holds c = refl
 
-look-at-requires : tie.Need-look-at-requires Inv-loop μ-loop
-look-at-requires c κs = search needs
-
-is-found-requires : tie.Need-is-found-requires Inv-loop μ-loop
-is-found-requires c κs = search needs
-
 returns : tie.Need-returns Inv-loop μ-loop
 returns c =
     let c4 = c .before .before .before .before in
@@ -40,14 +34,8 @@ loop-again : tie.Need-loop-again Inv-loop μ-loop
 loop-again c =
     c .before .before .look-at .ensures .later (sym (c .before .is-found .ensures) ∙ c .if1 .left) .1 ∙ c .before .before .before .before .loop .inv
 
-row-count-requires : tie.Need-row-count-requires Inv-loop μ-loop
-row-count-requires c κs = search needs
-
 mul-nothing-to : tie.Need-mul-nothing-to Inv-loop μ-loop
 mul-nothing-to c = let h = rows-few _ _ (c .row-count .ensures) in record { fits = omega arith }
-
-nothing-to-requires : tie.Need-nothing-to-requires Inv-loop μ-loop
-nothing-to-requires c κs = search needs
 
 returns-2 : tie.Need-returns-2 Inv-loop μ-loop
 returns-2 c =
@@ -61,12 +49,12 @@ edge-from-spec =
     Inv-loop
     μ-loop
     loop-holds
-    look-at-requires
-    is-found-requires
+    (λ c κs. search needs)
+    (λ c κs. search needs)
     returns
     loop-less
     loop-again
-    row-count-requires
+    (λ c κs. search needs)
     mul-nothing-to
-    nothing-to-requires
+    (λ c κs. search needs)
     returns-2)

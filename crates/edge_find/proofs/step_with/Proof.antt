@@ -7,22 +7,13 @@ use Rattle.edge_find.specs.SearchLaws.{step-made}
 use Rattle.edge_find.proofs.step_with.Statement.{statement}
 use Rattle.edge_find.proofs.step_with.Tie as tie
 
-add-nothing-to : tie.Need-add-nothing-to
-add-nothing-to c = search needs
-
-nothing-to-requires : tie.Need-nothing-to-requires
-nothing-to-requires c κs = search needs
-
 returns : tie.Need-returns
 unfolding stepIn
 returns c = c .nothing-to .ensures ∙ simp (eq-eqb _ _ (c .before .if1 .taken))
-
-shared-by-requires : tie.Need-shared-by-requires
-shared-by-requires c κs = search needs
 
 returns-2 : tie.Need-returns-2
 returns-2 c = step-made _ _ _ _ _ _ (c .before .if1 .left) (c .shared-by .ensures) (c .shared-by .ok)
 
 pub step-with-spec : {M : Type 1} → statement M
 step-with-spec =
-    tie.close (tie.spec add-nothing-to nothing-to-requires returns shared-by-requires returns-2)
+    tie.close (tie.spec (λ c. search needs) (λ c κs. search needs) returns (λ c κs. search needs) returns-2)

@@ -3,11 +3,8 @@ use borrow.Author.Needs.{needs}
 use Rattle.edge_kinds.proofs.kind_has.Statement.{statement}
 use Rattle.edge_kinds.proofs.kind_has.Tie as tie
 
-kind-facts-requires : tie.Need-kind-facts-requires
-kind-facts-requires c κs = search needs
-
 returns : tie.Need-returns
 returns c = rw (c .kind-facts .ensures)
 
 pub kind-has-spec : {M : Type 1} → statement M
-kind-has-spec = tie.close (tie.spec kind-facts-requires returns)
+kind-has-spec = tie.close (tie.spec (λ c κs. search needs) returns)

@@ -4,9 +4,6 @@ use Rattle.edge_list.specs.Listed.{part-long, counts-refused, counts-tol
 use Rattle.edge_list.proofs.edge_counts.Statement.{statement}
 use Rattle.edge_list.proofs.edge_counts.Tie as tie
 
-tabled-requires : tie.Need-tabled-requires
-tabled-requires c κs = search needs
-
 returns : tie.Need-returns
 returns c = counts-refused _ _ (c .before .before .tabled .ensures) (c .if1 .taken)
 
@@ -16,9 +13,6 @@ array-share-prefix-table c = c .before .before .before .tabled .ensures .inside
 slice-aggregate-count-edges : tie.Need-slice-aggregate-count-edges
 slice-aggregate-count-edges c = part-long _ _ (c .before .before .before .before .tabled .ensures)
 
-count-edges-requires : tie.Need-count-edges-requires
-count-edges-requires c κs = search needs
-
 returns-2 : tie.Need-returns-2
 returns-2 c =
     counts-told _ _ (c .before .before .before .before .before .tabled .ensures) (c .before .before .before .if1 .left) _ (c .count-edges .ensures)
@@ -26,4 +20,4 @@ returns-2 c =
 pub edge-counts-spec : {M : Type 1} → statement M
 edge-counts-spec =
     tie.close
-    (tie.spec tabled-requires returns array-share-prefix-table slice-aggregate-count-edges count-edges-requires returns-2)
+    (tie.spec (λ c κs. search needs) returns array-share-prefix-table slice-aggregate-count-edges (λ c κs. search needs) returns-2)

@@ -110,7 +110,7 @@ use borrow.Table.Owned.{ShrSlice as Shared}
 use borrow.Table.Copies.{Cp, halved}
 use borrow.Rule.Slice.Prefix.{shs-prefix-same}
 use Rattle.spec_text.specs.declared.Workload.{Workload}
-use Rattle.edge_count.specs.declared.Edge.{Edge}
+use Rattle.edge_record.specs.declared.Edge.{Edge}
 use Rattle.edge_count.specs.Slots.{tableEdges}
 use Rattle.edge_put.specs.declared.Put.{Put as Answer}
 use Rattle.edge_put.specs.Put.{PutAs}
@@ -120,8 +120,8 @@ use Rattle.edge_list.specs.Prepared.{TabledFor, answerWith}
 use Rattle.edge_list.specs.Listed.{part-long, put-settled}
 use Rattle.spec_text.proofs.Workload as Wk
 use Rattle.spec_text.proofs.Workload.Laws as Wk′
-use Rattle.edge_count.proofs.Edge as T
-use Rattle.edge_count.proofs.Edge.Laws as T′
+use Rattle.edge_record.proofs.Edge as T
+use Rattle.edge_record.proofs.Edge.Laws as T′
 use Rattle.edge_list.proofs.Prepared as P
 use Rattle.edge_list.proofs.Prepared.Laws as P′
 use Rattle.edge_put.proofs.Put as R

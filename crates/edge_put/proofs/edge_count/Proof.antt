@@ -4,11 +4,8 @@ use borrow.Author.Needs.{needs}
 use Rattle.edge_put.proofs.edge_count.Statement.{statement}
 use Rattle.edge_put.proofs.edge_count.Tie as tie
 
-count-edges-requires : tie.Need-count-edges-requires
-count-edges-requires c κs = search needs
-
 returns : tie.Need-returns
 returns c = count-is _ _ (c .count-edges .ensures)
 
 pub edge-count-spec : {M : Type 1} → statement M
-edge-count-spec = tie.close (tie.spec count-edges-requires returns)
+edge-count-spec = tie.close (tie.spec (λ c κs. search needs) returns)

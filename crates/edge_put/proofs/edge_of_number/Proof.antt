@@ -16,9 +16,6 @@ Inv-loop table k n from₀ i₀ from i = (i ≤ k) × (edgesBelow table from ≡
 abbrev μ-loop : tie.MeasureT-loop
 μ-loop table k n from₀ i₀ from i = k - i
 
-edge-count-requires : tie.Need-edge-count-requires Inv-loop μ-loop
-edge-count-requires c κs = search needs
-
 returns : tie.Need-returns Inv-loop μ-loop
 returns c =
     let past = c .if1 .taken in
@@ -38,12 +35,6 @@ edge-next-requires c κs =
 add-from : tie.Need-add-from Inv-loop μ-loop
 add-from c = let h = c .before .edge-next .ensures .few in record { fits = omega arith }
 
-add-i : tie.Need-add-i Inv-loop μ-loop
-add-i c = search needs
-
-loop-less : tie.Need-loop-less Inv-loop μ-loop
-loop-less c = search needs
-
 loop-again : tie.Need-loop-again Inv-loop μ-loop
 loop-again c = (omega arith, c .before .edge-next .ensures .after)
 
@@ -62,13 +53,13 @@ edge-of-number-spec =
     (tie.spec
     Inv-loop
     μ-loop
-    edge-count-requires
+    (λ c κs. search needs)
     returns
     loop-holds
     edge-next-requires
     add-from
-    add-i
-    loop-less
+    (λ c. search needs)
+    (λ c. search needs)
     loop-again
     edge-next-requires-2
     returns-2)

@@ -155,13 +155,13 @@ use denote.Triple.Clauses.{ensured, lasts}
 use denote.Exit.{yes}
 use denote.Signature.{plain}
 use Rattle.edge_count.specs.Slots.{tableEdges, edgesBelow}
-use Rattle.edge_count.specs.declared.Edge.{Edge}
+use Rattle.edge_record.specs.declared.Edge.{Edge}
 use Rattle.edge_put.specs.declared.Next.{Next as Found}
 use Rattle.edge_put.specs.declared.Put.{Put}
 use Rattle.edge_put.specs.Put.{records, Ahead, Numbered, fittingIn, putFirst, answerFor, PutAs}
 use Rattle.edge_put.specs.PutLaws.{ahead-first, fitting-le, put-none, put-length, put-more, put-fitting}
-use Rattle.edge_count.proofs.Edge as T
-use Rattle.edge_count.proofs.Edge.Laws as T′
+use Rattle.edge_record.proofs.Edge as T
+use Rattle.edge_record.proofs.Edge.Laws as T′
 use Rattle.edge_put.proofs.Next as S
 use Rattle.edge_put.proofs.Next.Laws as S′
 use Rattle.edge_put.proofs.Put as R

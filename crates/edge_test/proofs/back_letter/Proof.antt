@@ -20,18 +20,9 @@ returns : tie.Need-returns
 unfolding letterBetween rowBack
 returns c = simp (ne-eqb _ _ (c .if1 .taken))
 
-changes-requires : tie.Need-changes-requires
-changes-requires c κs = search needs
-
 returns-2 : tie.Need-returns-2
 unfolding letterBetween rowBack rowLetter
 returns-2 c = simp (c .if2 .taken, ← (c .before .changes .ensures ∙ turned _ _), eq-eqb _ _ (c .before .before .before .before .if1 .left))
-
-kind-has-requires : tie.Need-kind-has-requires
-kind-has-requires c κs = search needs
-
-holds-d-requires : tie.Need-holds-d-requires
-holds-d-requires c κs = search needs
 
 -- the rows are of one relation and E fails: D decides
 abbrev args : tie.After-kind-has → Row × Row
@@ -74,10 +65,10 @@ back-letter-spec =
     tie.close
     (tie.spec
     returns
-    changes-requires
+    (λ c κs. search needs)
     returns-2
-    kind-has-requires
-    holds-d-requires
+    (λ c κs. search needs)
+    (λ c κs. search needs)
     returns-3
     returns-4
     returns-5

@@ -5,11 +5,8 @@ use Rattle.edge_test.specs.LetterLaws.{letter-stands}
 use Rattle.edge_test.proofs.back_stands.Statement.{statement}
 use Rattle.edge_test.proofs.back_stands.Tie as tie
 
-back-letter-requires : tie.Need-back-letter-requires
-back-letter-requires c κs = search needs
-
 returns : tie.Need-returns
 returns c = letter-stands Flow.back _ _ (c .back-letter .ensures)
 
 pub back-stands-spec : {M : Type 1} → statement M
-back-stands-spec = tie.close (tie.spec back-letter-requires returns)
+back-stands-spec = tie.close (tie.spec (λ c κs. search needs) returns)

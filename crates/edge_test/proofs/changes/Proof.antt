@@ -5,12 +5,6 @@ use Rattle.edge_kinds.specs.KindLaws.{told, answer}
 use Rattle.edge_test.proofs.changes.Statement.{statement}
 use Rattle.edge_test.proofs.changes.Tie as tie
 
-kind-has-requires : tie.Need-kind-has-requires
-kind-has-requires c κs = search needs
-
-kind-has-requires-2 : tie.Need-kind-has-requires-2
-kind-has-requires-2 c κs = search needs
-
 returns : tie.Need-returns
 unfolding rowHolds
 returns c =
@@ -20,9 +14,6 @@ returns c =
       answer (told (c4 .args .q .kind) .tests) (c2 .before .kind-has .ensures) (c2 .if1 .taken),
       answer (told (c4 .args .p .kind) .inserts) (c .before .kind-has2 .ensures) (c .if2 .taken),
     )
-
-kind-has-requires-3 : tie.Need-kind-has-requires-3
-kind-has-requires-3 c κs = search needs
 
 returns-2 : tie.Need-returns-2
 unfolding rowHolds
@@ -56,4 +47,4 @@ returns-4 c =
     simp (answer (told (c2 .args .q .kind) .tests) (c .before .kind-has .ensures) (c .if1 .left))
 
 pub changes-spec : {M : Type 1} → statement M
-changes-spec = tie.close (tie.spec kind-has-requires kind-has-requires-2 returns kind-has-requires-3 returns-2 returns-3 returns-4)
+changes-spec = tie.close (tie.spec (λ c κs. search needs) (λ c κs. search needs) returns (λ c κs. search needs) returns-2 returns-3 returns-4)

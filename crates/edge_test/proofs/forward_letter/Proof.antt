@@ -16,21 +16,6 @@ returns : tie.Need-returns
 unfolding letterBetween rowForward
 returns c = simp (ne-eqb _ _ (c .if1 .taken))
 
-holds-a-requires : tie.Need-holds-a-requires
-holds-a-requires c κs = search needs
-
-holds-b-requires : tie.Need-holds-b-requires
-holds-b-requires c κs = search needs
-
-changes-requires : tie.Need-changes-requires
-changes-requires c κs = search needs
-
-holds-d-requires : tie.Need-holds-d-requires
-holds-d-requires c κs = search needs
-
-changes-requires-2 : tie.Need-changes-requires-2
-changes-requires-2 c κs = search needs
-
 -- what the letter is where one of them is asked, with those before it known to fail
 abbrev rows : tie.After-holds-a → Row × Row
 rows c =
@@ -78,14 +63,14 @@ forward-letter-spec =
     tie.close
     (tie.spec
     returns
-    holds-a-requires
+    (λ c κs. search needs)
     returns-2
-    holds-b-requires
+    (λ c κs. search needs)
     returns-3
-    changes-requires
+    (λ c κs. search needs)
     returns-4
-    holds-d-requires
+    (λ c κs. search needs)
     returns-5
-    changes-requires-2
+    (λ c κs. search needs)
     returns-6
     returns-7)

@@ -5,11 +5,8 @@ use Rattle.edge_test.specs.LetterLaws.{letter-stands}
 use Rattle.edge_test.proofs.forward_stands.Statement.{statement}
 use Rattle.edge_test.proofs.forward_stands.Tie as tie
 
-forward-letter-requires : tie.Need-forward-letter-requires
-forward-letter-requires c κs = search needs
-
 returns : tie.Need-returns
 returns c = letter-stands Flow.forward _ _ (c .forward-letter .ensures)
 
 pub forward-stands-spec : {M : Type 1} → statement M
-forward-stands-spec = tie.close (tie.spec forward-letter-requires returns)
+forward-stands-spec = tie.close (tie.spec (λ c κs. search needs) returns)

@@ -5,17 +5,11 @@ use Rattle.edge_kinds.specs.KindLaws.{told, answer}
 use Rattle.edge_test.proofs.holds_a.Statement.{statement}
 use Rattle.edge_test.proofs.holds_a.Tie as tie
 
-kind-has-requires : tie.Need-kind-has-requires
-kind-has-requires c κs = search needs
-
 returns : tie.Need-returns
 unfolding rowHolds
 returns c =
     let c2 = c .before .before in
     simp (answer (told (c2 .args .p .kind) .deletes) (c .before .kind-has .ensures) (c .if1 .taken))
-
-kind-has-requires-2 : tie.Need-kind-has-requires-2
-kind-has-requires-2 c κs = search needs
 
 returns-2 : tie.Need-returns-2
 unfolding rowHolds
@@ -39,4 +33,4 @@ returns-3 c =
     )
 
 pub holds-a-spec : {M : Type 1} → statement M
-holds-a-spec = tie.close (tie.spec kind-has-requires returns kind-has-requires-2 returns-2 returns-3)
+holds-a-spec = tie.close (tie.spec (λ c κs. search needs) returns (λ c κs. search needs) returns-2 returns-3)

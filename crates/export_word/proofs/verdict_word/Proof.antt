@@ -5,27 +5,6 @@ use Rattle.export_word.specs.Word.{verdictWord}
 use Rattle.export_word.proofs.verdict_word.Statement.{statement}
 use Rattle.export_word.proofs.verdict_word.Tie as tie
 
-enum-known-v : tie.Need-enum-known-v
-enum-known-v c = search needs
-
-cast-result : tie.Need-cast-result
-cast-result c = search needs
-
-enum-known-v-2 : tie.Need-enum-known-v-2
-enum-known-v-2 c = search needs
-
-cast-result-2 : tie.Need-cast-result-2
-cast-result-2 c = search needs
-
-add-result : tie.Need-add-result
-add-result c = search needs
-
-enum-known-v-3 : tie.Need-enum-known-v-3
-enum-known-v-3 c = search needs
-
-refusal-word-requires : tie.Need-refusal-word-requires
-refusal-word-requires c κs = search needs
-
 returns : tie.Need-returns
 unfolding verdictWord
 returns c = rw (c .before .before .v .given .1) refl
@@ -42,13 +21,13 @@ pub verdict-word-spec : {M : Type 1} → statement M
 verdict-word-spec =
     tie.close
     (tie.spec
-    enum-known-v
-    cast-result
-    enum-known-v-2
-    cast-result-2
-    add-result
-    enum-known-v-3
-    refusal-word-requires
+    (λ c. search needs)
+    (λ c. search needs)
+    (λ c. search needs)
+    (λ c. search needs)
+    (λ c. search needs)
+    (λ c. search needs)
+    (λ c κs. search needs)
     returns
     returns-2
     returns-3)

@@ -4,23 +4,8 @@ use borrow.Author.Needs.{needs}
 use Rattle.exports.proofs.stage_read.Statement.{statement}
 use Rattle.exports.proofs.stage_read.Tie as tie
 
-read-text-requires : tie.Need-read-text-requires
-read-text-requires c κs = search needs
-
-refusal-word-requires : tie.Need-refusal-word-requires
-refusal-word-requires c κs = search needs
-
 returns : tie.Need-returns
 returns c = read-refused (c .before .before .before .read-text .ensures) (c .before .if1 .taken) (c .refusal-word .ensures)
-
-mul-middle : tie.Need-mul-middle
-mul-middle c = search needs
-
-element-copy-out-middle : tie.Need-element-copy-out-middle
-element-copy-out-middle c = search needs
-
-value-word-requires : tie.Need-value-word-requires
-value-word-requires c κs = search needs
 
 returns-2 : tie.Need-returns-2
 returns-2 c =
@@ -31,10 +16,10 @@ pub stage-read-spec : {M : Type 1} → statement M
 stage-read-spec =
     tie.close
     (tie.spec
-    read-text-requires
-    refusal-word-requires
+    (λ c κs. search needs)
+    (λ c κs. search needs)
     returns
-    mul-middle
-    element-copy-out-middle
-    value-word-requires
+    (λ c. search needs)
+    (λ c. search needs)
+    (λ c κs. search needs)
     returns-2)

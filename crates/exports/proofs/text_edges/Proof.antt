@@ -120,7 +120,7 @@ use denote.Triple.Clauses.{ensured, lasts}
 use denote.Exit.{yes}
 use denote.Signature.{plain}
 use Rattle.spec_text.specs.Reading.{read}
-use Rattle.edge_count.specs.declared.Edge.{Edge}
+use Rattle.edge_record.specs.declared.Edge.{Edge}
 use Rattle.edge_put.specs.declared.Put.{Put as Answer}
 use Rattle.edge_put.specs.Put.{putSaid}
 use Rattle.edge_list.specs.EdgesSettled.{PutSettled}
@@ -132,8 +132,8 @@ use Rattle.exports.specs.TextEdges.{TextEdges, edgesWord, FewPut}
 use Rattle.exports.specs.TextEdgesLaws.{edges-unread, edges-settled}
 use Rattle.spec_text.proofs.Workload as Wk
 use Rattle.spec_text.proofs.Workload.Laws as Wk′
-use Rattle.edge_count.proofs.Edge as T
-use Rattle.edge_count.proofs.Edge.Laws as T′
+use Rattle.edge_record.proofs.Edge as T
+use Rattle.edge_record.proofs.Edge.Laws as T′
 use Rattle.edge_put.proofs.Put as R
 use Rattle.edge_put.proofs.Put.Laws as R′
 use Rattle.text_read.proofs.Parsed as P

@@ -5,29 +5,8 @@ use borrow.Author.Needs.{needs}
 use Rattle.exports.proofs.unfold_word.Statement.{statement}
 use Rattle.exports.proofs.unfold_word.Tie as tie
 
-refusal-word-requires : tie.Need-refusal-word-requires
-refusal-word-requires c κs = search needs
-
 returns : tie.Need-returns
 returns c = nodes-refused _ (c .before .if1 .taken) (c .refusal-word .ensures)
-
-add-last : tie.Need-add-last
-add-last c = search needs
-
-mul-nodes-word : tie.Need-mul-nodes-word
-mul-nodes-word c = search needs
-
-element-copy-out-nodes-word : tie.Need-element-copy-out-nodes-word
-element-copy-out-nodes-word c = search needs
-
-mul-nodes-word-2 : tie.Need-mul-nodes-word-2
-mul-nodes-word-2 c = search needs
-
-element-copy-out-nodes-word-2 : tie.Need-element-copy-out-nodes-word-2
-element-copy-out-nodes-word-2 c = search needs
-
-nodes-word-requires : tie.Need-nodes-word-requires
-nodes-word-requires c κs = search needs
 
 returns-2 : tie.Need-returns-2
 returns-2 c = nodes-taken _ (c .before .before .before .if1 .left) (c .nodes-word .ensures)
@@ -36,12 +15,12 @@ pub unfold-word-spec : {M : Type 1} → statement M
 unfold-word-spec =
     tie.close
     (tie.spec
-    refusal-word-requires
+    (λ c κs. search needs)
     returns
-    add-last
-    mul-nodes-word
-    element-copy-out-nodes-word
-    mul-nodes-word-2
-    element-copy-out-nodes-word-2
-    nodes-word-requires
+    (λ c. search needs)
+    (λ c. search needs)
+    (λ c. search needs)
+    (λ c. search needs)
+    (λ c. search needs)
+    (λ c κs. search needs)
     returns-2)

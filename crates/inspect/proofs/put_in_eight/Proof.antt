@@ -104,14 +104,14 @@ use denote.Triple.Table.{entered, cited}
 use denote.Triple.Walked.{says, Stays, stay-none, walkOf, goes-none, Walks, ends-at, walked, walk-meets}
 use denote.Exit.{yes}
 use Rattle.spec_text.specs.declared.Workload.{Workload}
-use Rattle.edge_count.specs.declared.Edge.{Edge}
+use Rattle.edge_record.specs.declared.Edge.{Edge}
 use Rattle.edge_list.specs.EdgesSettled.{PutSettled}
 use Rattle.edge_put.specs.declared.Put.{Put as Answer}
 use Rattle.inspect.specs.declared.Eight.{Eight}
 use Rattle.spec_text.proofs.Workload as Wk
 use Rattle.spec_text.proofs.Workload.Laws as Wk′
-use Rattle.edge_count.proofs.Edge as T
-use Rattle.edge_count.proofs.Edge.Laws as T′
+use Rattle.edge_record.proofs.Edge as T
+use Rattle.edge_record.proofs.Edge.Laws as T′
 use Rattle.edge_put.proofs.Put as R
 use Rattle.edge_put.proofs.Put.Laws as R′
 use Rattle.inspect.proofs.Eight as E

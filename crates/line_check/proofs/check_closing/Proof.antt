@@ -1,16 +1,10 @@
--- The words are the counts of the state, and an `en` is in order in a body whose innermost block is a loop or a second arm: so `verdict` is given
--- the tests that `checkAs` lists for `en`.
+-- The words are the counts of the state, and an `en` is in order in a body whose innermost block is a loop or a second arm: so `first_fault`
+-- is given the tests that `checkAs` lists for `en`.
 use Rattle.line_state.specs.StateSteps.{roomOf, orderedOf, namedAs, setsFitAs, isLinkOf}
 use Rattle.line_state.specs.StateWords.{stateIn}
 use borrow.Author.Needs.{needs}
 use Rattle.line_check.proofs.check_closing.Statement.{statement}
 use Rattle.line_check.proofs.check_closing.Tie as tie
-use Rattle.line_check.proofs.check_closing.Reads as reads
-use Rattle.line_check.proofs.check_closing.Lts as lts
-use Rattle.line_check.proofs.in_body.Reads as in-body-reads
-use Rattle.line_check.proofs.innermost.Reads as innermost-reads
-use Rattle.line_check.proofs.verdict.Reads as verdict-reads
-use Rattle.word_list.proofs.word_at.Reads as word-at-reads
 
 word-at-requires : tie.Need-word-at-requires
 word-at-requires c κs = search needs
@@ -27,13 +21,13 @@ innermost-requires c κs = search needs
 innermost-requires-2 : tie.Need-innermost-requires-2
 innermost-requires-2 c κs = search needs
 
-verdict-requires : tie.Need-verdict-requires
-verdict-requires c κs = search needs
+first-fault-requires : tie.Need-first-fault-requires
+first-fault-requires c κs = search needs
 
 returns : tie.Need-returns
 unfolding stateIn roomOf orderedOf namedAs setsFitAs isLinkOf
 returns c = λ l. rw (
-  c .verdict .ensures,
+  c .first-fault .ensures,
   c .before .innermost2 .ensures,
   c .before .before .innermost .ensures,
   c .before .before .before .in-body .ensures,
@@ -50,5 +44,5 @@ check-closing-spec =
     in-body-requires
     innermost-requires
     innermost-requires-2
-    verdict-requires
+    first-fault-requires
     returns)

@@ -1,15 +1,10 @@
--- The words are the counts of the state, and `is_sum` says that only relations and keys came before: so `verdict` is given the tests that
+-- The words are the counts of the state, and `is_sum` says that only relations and keys came before: so `first_fault` is given the tests that
 -- `checkAs` lists for a key.
 use Rattle.line_state.specs.StateSteps.{roomOf, orderedOf, namedAs, setsFitAs, isLinkOf}
 use Rattle.line_state.specs.StateWords.{stateIn}
 use borrow.Author.Needs.{needs}
 use Rattle.line_check.proofs.check_key.Statement.{statement}
 use Rattle.line_check.proofs.check_key.Tie as tie
-use Rattle.line_check.proofs.check_key.Reads as reads
-use Rattle.line_check.proofs.check_key.Lts as lts
-use Rattle.line_check.proofs.is_sum.Reads as is-sum-reads
-use Rattle.line_check.proofs.verdict.Reads as verdict-reads
-use Rattle.word_list.proofs.word_at.Reads as word-at-reads
 
 word-at-requires : tie.Need-word-at-requires
 word-at-requires c κs = search needs
@@ -32,13 +27,13 @@ cast-named-2 c = search needs
 cast-named-3 : tie.Need-cast-named-3
 cast-named-3 c = search needs
 
-verdict-requires : tie.Need-verdict-requires
-verdict-requires c κs = search needs
+first-fault-requires : tie.Need-first-fault-requires
+first-fault-requires c κs = search needs
 
 returns : tie.Need-returns
 unfolding stateIn roomOf orderedOf namedAs setsFitAs isLinkOf
 returns c = rw (
-  c .verdict .ensures,
+  c .first-fault .ensures,
   c .before .before .before .before .is-sum .ensures,
   c .before .before .before .before .before .word-at3 .ensures,
   c .before .before .before .before .before .before .word-at2 .ensures,
@@ -56,5 +51,5 @@ check-key-spec =
     cast-named
     cast-named-2
     cast-named-3
-    verdict-requires
+    first-fault-requires
     returns)

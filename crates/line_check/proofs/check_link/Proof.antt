@@ -1,14 +1,9 @@
--- The words are the counts of the state, and `link_fits` is the test of links: so `verdict` is given the tests that `checkAs` lists for a link.
+-- The words are the counts of the state, and `link_fits` is the test of links: so `first_fault` is given the tests that `checkAs` lists for a link.
 use Rattle.line_state.specs.StateSteps.{roomOf, orderedOf, namedAs, setsFitAs, isLinkOf}
 use Rattle.line_state.specs.StateWords.{stateIn}
 use borrow.Author.Needs.{needs}
 use Rattle.line_check.proofs.check_link.Statement.{statement}
 use Rattle.line_check.proofs.check_link.Tie as tie
-use Rattle.line_check.proofs.check_link.Reads as reads
-use Rattle.line_check.proofs.check_link.Lts as lts
-use Rattle.line_links.proofs.link_fits.Reads as link-fits-reads
-use Rattle.line_check.proofs.verdict.Reads as verdict-reads
-use Rattle.word_list.proofs.word_at.Reads as word-at-reads
 
 word-at-requires : tie.Need-word-at-requires
 word-at-requires c κs = search needs
@@ -37,13 +32,13 @@ cast-named-3 c = search needs
 link-fits-requires : tie.Need-link-fits-requires
 link-fits-requires c κs = search needs
 
-verdict-requires : tie.Need-verdict-requires
-verdict-requires c κs = search needs
+first-fault-requires : tie.Need-first-fault-requires
+first-fault-requires c κs = search needs
 
 returns : tie.Need-returns
 unfolding stateIn roomOf orderedOf namedAs setsFitAs isLinkOf
 returns c = rw (
-  c .verdict .ensures,
+  c .first-fault .ensures,
   c .before .link-fits .ensures,
   c .before .before .before .before .before .word-at5 .ensures,
   c .before .before .before .before .before .before .word-at4 .ensures,
@@ -65,5 +60,5 @@ check-link-spec =
     cast-named-2
     cast-named-3
     link-fits-requires
-    verdict-requires
+    first-fault-requires
     returns)

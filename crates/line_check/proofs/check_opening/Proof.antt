@@ -1,14 +1,10 @@
--- The words are the counts of the state, and room and order ask the same of a loop and of a branch: so `verdict` gives the number of either kind.
+-- The words are the counts of the state, and room and order ask the same of a loop and of a branch: so `first_fault` gives the number of
+-- either kind.
 use Rattle.line_state.specs.StateSteps.{roomOf, orderedOf, namedAs, setsFitAs, isLinkOf}
 use Rattle.line_state.specs.StateWords.{stateIn}
 use borrow.Author.Needs.{needs}
 use Rattle.line_check.proofs.check_opening.Statement.{statement}
 use Rattle.line_check.proofs.check_opening.Tie as tie
-use Rattle.line_check.proofs.check_opening.Reads as reads
-use Rattle.line_check.proofs.check_opening.Lts as lts
-use Rattle.line_check.proofs.in_body.Reads as in-body-reads
-use Rattle.line_check.proofs.verdict.Reads as verdict-reads
-use Rattle.word_list.proofs.word_at.Reads as word-at-reads
 
 word-at-requires : tie.Need-word-at-requires
 word-at-requires c κs = search needs
@@ -22,21 +18,21 @@ word-at-requires-3 c κs = search needs
 in-body-requires : tie.Need-in-body-requires
 in-body-requires c κs = search needs
 
-verdict-requires : tie.Need-verdict-requires
-verdict-requires c κs = search needs
+first-fault-requires : tie.Need-first-fault-requires
+first-fault-requires c κs = search needs
 
 returns : tie.Need-returns
 unfolding stateIn roomOf orderedOf namedAs setsFitAs isLinkOf
 returns c = λ l. (
   rw (
-    c .verdict .ensures,
+    c .first-fault .ensures,
     c .before .in-body .ensures,
     c .before .before .word-at3 .ensures,
     c .before .before .before .word-at2 .ensures,
     c .before .before .before .before .word-at .ensures,
   ),
   rw (
-    c .verdict .ensures,
+    c .first-fault .ensures,
     c .before .in-body .ensures,
     c .before .before .word-at3 .ensures,
     c .before .before .before .word-at2 .ensures,
@@ -52,5 +48,5 @@ check-opening-spec =
     word-at-requires-2
     word-at-requires-3
     in-body-requires
-    verdict-requires
+    first-fault-requires
     returns)

@@ -1,17 +1,10 @@
--- The words are the counts of the state, and the cell is the whole set of the statement's relation: so `verdict` is given the tests that
+-- The words are the counts of the state, and the cell is the whole set of the statement's relation: so `first_fault` is given the tests that
 -- `checkAs` lists for a statement.
 use Rattle.line_state.specs.StateSteps.{roomOf, orderedOf, namedAs, setsFitAs, isLinkOf}
 use Rattle.line_state.specs.StateWords.{stateIn}
 use borrow.Author.Needs.{needs}
 use Rattle.line_check.proofs.check_statement.Statement.{statement}
 use Rattle.line_check.proofs.check_statement.Tie as tie
-use Rattle.line_check.proofs.check_statement.Reads as reads
-use Rattle.line_check.proofs.check_statement.Lts as lts
-use Rattle.line_check.proofs.in_body.Reads as in-body-reads
-use Rattle.line_kinds.proofs.sets_fit.Reads as sets-fit-reads
-use Rattle.line_check.proofs.verdict.Reads as verdict-reads
-use Rattle.line_state.proofs.cell.Reads as cell-reads
-use Rattle.word_list.proofs.word_at.Reads as word-at-reads
 
 word-at-requires : tie.Need-word-at-requires
 word-at-requires c κs = search needs
@@ -43,13 +36,13 @@ in-body-requires c κs = search needs
 sets-fit-requires : tie.Need-sets-fit-requires
 sets-fit-requires c κs = search needs
 
-verdict-requires : tie.Need-verdict-requires
-verdict-requires c κs = search needs
+first-fault-requires : tie.Need-first-fault-requires
+first-fault-requires c κs = search needs
 
 returns : tie.Need-returns
 unfolding stateIn roomOf orderedOf namedAs setsFitAs isLinkOf
 returns c = rw (
-  c .verdict .ensures,
+  c .first-fault .ensures,
   c .before .sets-fit .ensures,
   c .before .before .in-body .ensures,
   c .before .before .before .before .before .cell .ensures,
@@ -73,5 +66,5 @@ check-statement-spec =
     cast-named-2
     in-body-requires
     sets-fit-requires
-    verdict-requires
+    first-fault-requires
     returns)

@@ -2,9 +2,6 @@
 use borrow.Author.Needs.{needs}
 use Rattle.line_check.proofs.in_body.Statement.{statement}
 use Rattle.line_check.proofs.in_body.Tie as tie
-use Rattle.line_check.proofs.in_body.Reads as reads
-use Rattle.line_check.proofs.in_body.Lts as lts
-use Rattle.word_list.proofs.word_at.Reads as word-at-reads
 
 word-at-requires : tie.Need-word-at-requires
 word-at-requires c κs = search needs

@@ -3,10 +3,6 @@ use Rattle.line_state.specs.StateWords.{stateIn}
 use borrow.Author.Needs.{needs}
 use Rattle.line_check.proofs.innermost.Statement.{statement}
 use Rattle.line_check.proofs.innermost.Tie as tie
-use Rattle.line_check.proofs.innermost.Reads as reads
-use Rattle.line_check.proofs.innermost.Lts as lts
-use Rattle.line_state.proofs.cell.Reads as cell-reads
-use Rattle.word_list.proofs.word_at.Reads as word-at-reads
 
 word-at-requires : tie.Need-word-at-requires
 word-at-requires c κs = search needs

@@ -7,8 +7,6 @@ use Prim.Native.Nat.{ℕ, _+_, _-_, _*_, _≤_, _<_}
 use lib.ListN.{length, set, getD, length-set, take, drop}
 use Rattle.line_check.proofs.is_sum.Statement.{statement}
 use Rattle.line_check.proofs.is_sum.Tie as tie
-use Rattle.line_check.proofs.is_sum.Reads as reads
-use Rattle.line_check.proofs.is_sum.Lts as lts
 
 returns : tie.Need-returns
 returns c = simp (lt-ltb _ _ (c .if1 .taken))

@@ -3,8 +3,6 @@ use Rattle.line_take.specs.Stores.{stepIn}
 use borrow.Author.Needs.{needs}
 use Rattle.line_take.proofs.advance.Statement.{statement}
 use Rattle.line_take.proofs.advance.Tie as tie
-use Rattle.line_take.proofs.advance.Reads as reads
-use Rattle.line_take.proofs.advance.Lts as lts
 
 mul-n : tie.Need-mul-n
 mul-n c = search needs

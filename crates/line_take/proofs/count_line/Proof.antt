@@ -2,9 +2,6 @@
 use borrow.Author.Needs.{needs}
 use Rattle.line_take.proofs.count_line.Statement.{statement}
 use Rattle.line_take.proofs.count_line.Tie as tie
-use Rattle.line_take.proofs.count_line.Reads as reads
-use Rattle.line_take.proofs.count_line.Lts as lts
-use Rattle.line_take.proofs.advance.Reads as advance-reads
 
 advance-requires : tie.Need-advance-requires
 advance-requires c κs = search needs

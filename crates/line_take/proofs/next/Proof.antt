@@ -8,8 +8,6 @@ use lib.ListN.{length, set, getD, length-set, take, drop}
 use borrow.Author.Needs.{needs}
 use Rattle.line_take.proofs.next.Statement.{statement}
 use Rattle.line_take.proofs.next.Tie as tie
-use Rattle.line_take.proofs.next.Reads as reads
-use Rattle.line_take.proofs.next.Lts as lts
 
 add-result : tie.Need-add-result
 add-result c = search needs

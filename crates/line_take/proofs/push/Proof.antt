@@ -19,8 +19,8 @@ marked-requires-2 c κs = search needs
 marked-requires-3 : tie.Need-marked-requires-3
 marked-requires-3 c κs = search needs
 
-put-row-requires : tie.Need-put-row-requires
-put-row-requires c κs = search needs
+put-cells-requires : tie.Need-put-cells-requires
+put-cells-requires c κs = search needs
 
 count-line-requires : tie.Need-count-line-requires
 count-line-requires c κs = search needs
@@ -41,7 +41,7 @@ returns c =
     let at = loops .before .before in
     let entry = at .before .before in
     took-push (entry .args .below) (entry .args .place) (entry .args .part) (entry .pre) (at .next .ensures) (loops .marked .ensures)
-    (firsts .marked2 .ensures) (seconds .marked3 .ensures) (stored .put-row .ensures) (counted .count-line .ensures) refl
+    (firsts .marked2 .ensures) (seconds .marked3 .ensures) (stored .put-cells .ensures) (counted .count-line .ensures) refl
 
 pub push-spec : {M : Type 1} → statement M
 push-spec =
@@ -51,7 +51,7 @@ push-spec =
     marked-requires
     marked-requires-2
     marked-requires-3
-    put-row-requires
+    put-cells-requires
     count-line-requires
     slice-write-words
     same-length

@@ -9,8 +9,6 @@ use lib.ListN.{length, set, getD, length-set, take, drop}
 use borrow.Author.Needs.{needs}
 use Rattle.line_take.proofs.put_cell.Statement.{statement}
 use Rattle.line_take.proofs.put_cell.Tie as tie
-use Rattle.line_take.proofs.put_cell.Reads as reads
-use Rattle.line_take.proofs.put_cell.Lts as lts
 
 add-words : tie.Need-add-words
 add-words c = search needs

@@ -4,8 +4,6 @@ use Rattle.line_state.specs.StateSteps.{takeAs}
 use borrow.Author.Needs.{needs}
 use Rattle.line_take.proofs.take.Statement.{statement}
 use Rattle.line_take.proofs.take.Tie as tie
-use Rattle.line_take.proofs.take.Reads as reads
-use Rattle.line_take.proofs.take.Lts as lts
 
 returns : tie.Need-returns
 returns c = not-taken (c .if1 .taken)

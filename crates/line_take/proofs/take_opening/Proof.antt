@@ -3,8 +3,6 @@ use Rattle.line_take.specs.TakeLaws.{took-opening}
 use borrow.Author.Needs.{needs}
 use Rattle.line_take.proofs.take_opening.Statement.{statement}
 use Rattle.line_take.proofs.take_opening.Tie as tie
-use Rattle.line_take.proofs.take_opening.Reads as reads
-use Rattle.line_take.proofs.take_opening.Lts as lts
 
 word-at-requires : tie.Need-word-at-requires
 word-at-requires c κs = search needs

@@ -3,10 +3,6 @@ use Rattle.line_take.specs.ClearLaws.{took-program}
 use borrow.Author.Needs.{needs}
 use Rattle.line_take.proofs.take_program.Statement.{statement}
 use Rattle.line_take.proofs.take_program.Tie as tie
-use Rattle.line_take.proofs.take_program.Reads as reads
-use Rattle.line_take.proofs.take_program.Lts as lts
-use Rattle.line_take.proofs.count_line.Reads as count-line-reads
-use Rattle.word_list.proofs.clear.Reads as clear-reads
 
 clear-requires : tie.Need-clear-requires
 clear-requires c κs = search needs

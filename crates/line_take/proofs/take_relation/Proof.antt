@@ -3,11 +3,6 @@ use Rattle.line_take.specs.TakeLaws.{took-relation}
 use borrow.Author.Needs.{needs}
 use Rattle.line_take.proofs.take_relation.Statement.{statement}
 use Rattle.line_take.proofs.take_relation.Tie as tie
-use Rattle.line_take.proofs.take_relation.Reads as reads
-use Rattle.line_take.proofs.take_relation.Lts as lts
-use Rattle.line_take.proofs.count_line.Reads as count-line-reads
-use Rattle.line_take.proofs.put_cell.Reads as put-cell-reads
-use Rattle.word_list.proofs.word_at.Reads as word-at-reads
 
 word-at-requires : tie.Need-word-at-requires
 word-at-requires c κs = search needs

@@ -3,8 +3,6 @@ use Rattle.line_take.specs.TakeLaws.{took-second}
 use borrow.Author.Needs.{needs}
 use Rattle.line_take.proofs.take_second.Statement.{statement}
 use Rattle.line_take.proofs.take_second.Tie as tie
-use Rattle.line_take.proofs.take_second.Reads as reads
-use Rattle.line_take.proofs.take_second.Lts as lts
 
 word-at-requires : tie.Need-word-at-requires
 word-at-requires c κs = search needs

@@ -24,8 +24,8 @@ cell-requires-3 c κs = search needs
 facts-of-requires : tie.Need-facts-of-requires
 facts-of-requires c κs = search needs
 
-put-row-requires : tie.Need-put-row-requires
-put-row-requires c κs = search needs
+put-cells-requires : tie.Need-put-cells-requires
+put-cells-requires c κs = search needs
 
 advance-requires : tie.Need-advance-requires
 advance-requires c κs = search needs
@@ -50,7 +50,7 @@ returns c =
     let entry = at .before .before .before in
     rw (fit .facts-of .ensures .0, told (entry .args .kind) .parent) at
     (took-statement (entry .args .rel) _ (entry .pre) (at .word-at .ensures) (depth .word-at2 .ensures) (loops .cell .ensures)
-    (firsts .cell2 .ensures) (seconds .cell3 .ensures) (stored .put-row .ensures) (advanced .advance .ensures) (counted .count-line .ensures))
+    (firsts .cell2 .ensures) (seconds .cell3 .ensures) (stored .put-cells .ensures) (advanced .advance .ensures) (counted .count-line .ensures))
 
 pub take-statement-spec : {M : Type 1} → statement M
 take-statement-spec =
@@ -62,7 +62,7 @@ take-statement-spec =
     cell-requires-2
     cell-requires-3
     facts-of-requires
-    put-row-requires
+    put-cells-requires
     advance-requires
     count-line-requires
     same-length

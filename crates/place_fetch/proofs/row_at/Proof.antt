@@ -6,39 +6,6 @@ use borrow.Author.Needs.{needs}
 use Rattle.place_fetch.proofs.row_at.Statement.{statement}
 use Rattle.place_fetch.proofs.row_at.Tie as tie
 
-whole-row-requires : tie.Need-whole-row-requires
-whole-row-requires c κs = search needs
-
-returns : tie.Need-returns
-returns c = search needs
-
-row-word-requires : tie.Need-row-word-requires
-row-word-requires c κs = search needs
-
-kind-of-requires : tie.Need-kind-of-requires
-kind-of-requires c κs = search needs
-
-row-word-requires-2 : tie.Need-row-word-requires-2
-row-word-requires-2 c κs = search needs
-
-row-word-requires-3 : tie.Need-row-word-requires-3
-row-word-requires-3 c κs = search needs
-
-row-word-requires-4 : tie.Need-row-word-requires-4
-row-word-requires-4 c κs = search needs
-
-row-word-requires-5 : tie.Need-row-word-requires-5
-row-word-requires-5 c κs = search needs
-
-row-word-requires-6 : tie.Need-row-word-requires-6
-row-word-requires-6 c κs = search needs
-
-row-word-requires-7 : tie.Need-row-word-requires-7
-row-word-requires-7 c κs = search needs
-
-row-word-requires-8 : tie.Need-row-word-requires-8
-row-word-requires-8 c κs = search needs
-
 returns-2 : tie.Need-returns-2
 returns-2 c =
     row-made _ _
@@ -56,15 +23,15 @@ pub row-at-spec : {M : Type 1} → statement M
 row-at-spec =
     tie.close
     (tie.spec
-    whole-row-requires
-    returns
-    row-word-requires
-    kind-of-requires
-    row-word-requires-2
-    row-word-requires-3
-    row-word-requires-4
-    row-word-requires-5
-    row-word-requires-6
-    row-word-requires-7
-    row-word-requires-8
+    (λ c κs. search needs)
+    (λ c. search needs)
+    (λ c κs. search needs)
+    (λ c κs. search needs)
+    (λ c κs. search needs)
+    (λ c κs. search needs)
+    (λ c κs. search needs)
+    (λ c κs. search needs)
+    (λ c κs. search needs)
+    (λ c κs. search needs)
+    (λ c κs. search needs)
     returns-2)

@@ -26,12 +26,6 @@ loop-holds c = (search needs, refl)
 begin-line-requires : tie.Need-begin-line-requires Inv-loop μ-loop
 begin-line-requires c κs = (search needs, begun-fits _ _ _ (c .before .loop .inv .1) .0, begun-fits _ _ _ (c .before .loop .inv .1) .1)
 
-add-i : tie.Need-add-i Inv-loop μ-loop
-add-i c = search needs
-
-loop-less : tie.Need-loop-less Inv-loop μ-loop
-loop-less c = search needs
-
 loop-again : tie.Need-loop-again Inv-loop μ-loop
 loop-again c = (search needs, begun-next _ _ _ _ (c .before .before .loop .inv .1) (c .begin-line .ensures))
 
@@ -41,4 +35,4 @@ returns c = begun-all _ _ _ (c .before .loop .inv .0) (c .loop-test .left) (c .b
 pub programs-in-spec : {M : Type 1} → statement M
 programs-in-spec =
     tie.close
-    (tie.spec Inv-loop μ-loop loop-holds begin-line-requires add-i loop-less loop-again returns)
+    (tie.spec Inv-loop μ-loop loop-holds begin-line-requires (λ c. search needs) (λ c. search needs) loop-again returns)

@@ -7,26 +7,11 @@ use Rattle.place_table.proofs.FillLaws.{refused-number, total-few, work
 use Rattle.place_table.proofs.fill_rows.Statement.{statement}
 use Rattle.place_table.proofs.fill_rows.Tie as tie
 
-slice-aggregate-unfold-places : tie.Need-slice-aggregate-unfold-places
-slice-aggregate-unfold-places c = search needs
-
-unfold-places-requires : tie.Need-unfold-places-requires
-unfold-places-requires c κs = search needs
-
 returns : tie.Need-returns
 returns c =
     let entry = c .before .before .before .before in
     refused-number (entry .args .w) _ refl (c .before .before .unfold-places .result) _ (c .before .before .unfold-places .ensures) _
     (c .if1 .taken)
-
-slice-aggregate-fill-table : tie.Need-slice-aggregate-fill-table
-slice-aggregate-fill-table c = search needs
-
-slice-aggregate-fill-table-2 : tie.Need-slice-aggregate-fill-table-2
-slice-aggregate-fill-table-2 c = search needs
-
-slice-aggregate-fill-table-3 : tie.Need-slice-aggregate-fill-table-3
-slice-aggregate-fill-table-3 c = search needs
 
 fill-table-requires : tie.Need-fill-table-requires
 fill-table-requires c κs =
@@ -50,11 +35,11 @@ pub fill-rows-spec : {M : Type 1} → statement M
 fill-rows-spec =
     tie.close
     (tie.spec
-    slice-aggregate-unfold-places
-    unfold-places-requires
+    (λ c. search needs)
+    (λ c κs. search needs)
     returns
-    slice-aggregate-fill-table
-    slice-aggregate-fill-table-2
-    slice-aggregate-fill-table-3
+    (λ c. search needs)
+    (λ c. search needs)
+    (λ c. search needs)
     fill-table-requires
     returns-2)

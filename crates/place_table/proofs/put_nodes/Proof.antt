@@ -26,30 +26,12 @@ abbrev μ-loop : tie.MeasureT-loop
 loop-holds : tie.Need-loop-holds Inv-loop μ-loop
 loop-holds c = (search needs, total-none _, all-start _ _ _ _ _ _ _ (c .before .before .before .before .before .before .pre))
 
-byte-at-requires : tie.Need-byte-at-requires Inv-loop μ-loop
-byte-at-requires c κs = search needs
-
-cast-word-at : tie.Need-cast-word-at Inv-loop μ-loop
-cast-word-at c = search needs
-
-word-at-requires : tie.Need-word-at-requires Inv-loop μ-loop
-word-at-requires c κs = search needs
-
-word-at-requires-2 : tie.Need-word-at-requires-2 Inv-loop μ-loop
-word-at-requires-2 c κs = search needs
-
 put-places-requires : tie.Need-put-places-requires Inv-loop μ-loop
 put-places-requires c κs =
     let c4 = c .before .before .before .before in
     let c5 = c4 .before in
     let c12 = c5 .before .before .before .before .before .before .before in
     all-room _ _ _ _ _ _ _ (c12 .pre) _ _ _ (c4 .loop-test .taken) (c5 .loop .inv .1) (c5 .loop .inv .2) _ (c .before .word-at2 .ensures)
-
-add-j : tie.Need-add-j Inv-loop μ-loop
-add-j c = search needs
-
-loop-less : tie.Need-loop-less Inv-loop μ-loop
-loop-less c = search needs
 
 loop-again : tie.Need-loop-again Inv-loop μ-loop
 loop-again c =
@@ -83,13 +65,13 @@ put-nodes-spec =
     Inv-loop
     μ-loop
     loop-holds
-    byte-at-requires
-    cast-word-at
-    word-at-requires
-    word-at-requires-2
+    (λ c κs. search needs)
+    (λ c. search needs)
+    (λ c κs. search needs)
+    (λ c κs. search needs)
     put-places-requires
-    add-j
-    loop-less
+    (λ c. search needs)
+    (λ c. search needs)
     loop-again
     same-length
     returns)

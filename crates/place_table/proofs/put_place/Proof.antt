@@ -14,51 +14,6 @@ use Rattle.place_keys.proofs.keys_from.Reads as keys-from-reads
 use Rattle.word_rows.proofs.put_row.Reads as put-row-reads
 use Rattle.word_list.proofs.word_at.Reads as word-at-reads
 
-mul-l : tie.Need-mul-l
-mul-l c = search needs
-
-add-word-at : tie.Need-add-word-at
-add-word-at c = search needs
-
-word-at-requires : tie.Need-word-at-requires
-word-at-requires c κs = search needs
-
-keys-from-requires : tie.Need-keys-from-requires
-keys-from-requires c κs = search needs
-
-word-at-requires-2 : tie.Need-word-at-requires-2
-word-at-requires-2 c κs = search needs
-
-add-word-at-2 : tie.Need-add-word-at-2
-add-word-at-2 c = search needs
-
-word-at-requires-3 : tie.Need-word-at-requires-3
-word-at-requires-3 c κs = search needs
-
-add-word-at-3 : tie.Need-add-word-at-3
-add-word-at-3 c = search needs
-
-word-at-requires-4 : tie.Need-word-at-requires-4
-word-at-requires-4 c κs = search needs
-
-add-word-at-4 : tie.Need-add-word-at-4
-add-word-at-4 c = search needs
-
-word-at-requires-5 : tie.Need-word-at-requires-5
-word-at-requires-5 c κs = search needs
-
-add-word-at-5 : tie.Need-add-word-at-5
-add-word-at-5 c = search needs
-
-word-at-requires-6 : tie.Need-word-at-requires-6
-word-at-requires-6 c κs = search needs
-
-put-row-requires : tie.Need-put-row-requires
-put-row-requires c κs = search needs
-
-same-length : tie.Need-same-length
-same-length c = search needs
-
 returns : tie.Need-returns
 returns c =
     let c3 = c .before .before .before in
@@ -78,19 +33,19 @@ pub put-place-spec : {M : Type 1} → statement M
 put-place-spec =
     tie.close
     (tie.spec
-    mul-l
-    add-word-at
-    word-at-requires
-    keys-from-requires
-    word-at-requires-2
-    add-word-at-2
-    word-at-requires-3
-    add-word-at-3
-    word-at-requires-4
-    add-word-at-4
-    word-at-requires-5
-    add-word-at-5
-    word-at-requires-6
-    put-row-requires
-    same-length
+    (λ c. search needs)
+    (λ c. search needs)
+    (λ c κs. search needs)
+    (λ c κs. search needs)
+    (λ c κs. search needs)
+    (λ c. search needs)
+    (λ c κs. search needs)
+    (λ c. search needs)
+    (λ c κs. search needs)
+    (λ c. search needs)
+    (λ c κs. search needs)
+    (λ c. search needs)
+    (λ c κs. search needs)
+    (λ c κs. search needs)
+    (λ c. search needs)
     returns)

@@ -24,29 +24,11 @@ abbrev μ-loop : tie.MeasureT-loop
 loop-holds : tie.Need-loop-holds Inv-loop μ-loop
 loop-holds c = (search needs, rows-start _ _ _ _ _ _ _ (c .before .before .before .pre))
 
-add-word-at : tie.Need-add-word-at Inv-loop μ-loop
-add-word-at c = search needs
-
-word-at-requires : tie.Need-word-at-requires Inv-loop μ-loop
-word-at-requires c κs = search needs
-
-add-put-place : tie.Need-add-put-place Inv-loop μ-loop
-add-put-place c = search needs
-
-mul-put-place : tie.Need-mul-put-place Inv-loop μ-loop
-mul-put-place c = search needs
-
 put-place-requires : tie.Need-put-place-requires Inv-loop μ-loop
 put-place-requires c κs =
     let c3 = c .before .before .before in
     let c7 = c3 .before .before .before .before in
     rows-room _ _ _ _ _ _ _ (c7 .pre) _ _ (c .before .before .loop-test .taken) (c3 .loop .inv .1)
-
-add-i : tie.Need-add-i Inv-loop μ-loop
-add-i c = search needs
-
-loop-less : tie.Need-loop-less Inv-loop μ-loop
-loop-less c = search needs
 
 loop-again : tie.Need-loop-again Inv-loop μ-loop
 loop-again c =
@@ -58,9 +40,6 @@ loop-again c =
       rows-next _ _ _ _ _ _ _ (c10 .pre) _ _ (c5 .loop-test .taken) (c6 .loop .inv .1) _ (c4 .word-at .ensures) _
           (c .before .before .put-place .ensures),
     )
-
-add-result : tie.Need-add-result Inv-loop μ-loop
-add-result c = search needs
 
 same-length : tie.Need-same-length Inv-loop μ-loop
 same-length c = rows-same _ _ _ _ _ _ _ (c .before .before .before .before .before .pre) _ _ (c .before .loop .inv .0) (c .before .loop .inv .1)
@@ -77,14 +56,14 @@ put-places-spec =
     Inv-loop
     μ-loop
     loop-holds
-    add-word-at
-    word-at-requires
-    add-put-place
-    mul-put-place
+    (λ c. search needs)
+    (λ c κs. search needs)
+    (λ c. search needs)
+    (λ c. search needs)
     put-place-requires
-    add-i
-    loop-less
+    (λ c. search needs)
+    (λ c. search needs)
     loop-again
-    add-result
+    (λ c. search needs)
     same-length
     returns)

@@ -4,14 +4,8 @@ use Rattle.report_bytes.specs.Bytes.{last-digit}
 use Rattle.report_bytes.proofs.digit_byte.Statement.{statement}
 use Rattle.report_bytes.proofs.digit_byte.Tie as tie
 
-add-result : tie.Need-add-result
-add-result c = search needs
-
-cast-result : tie.Need-cast-result
-cast-result c = search needs
-
 returns : tie.Need-returns
 returns c = last-digit _
 
 pub digit-byte-spec : {M : Type 1} → statement M
-digit-byte-spec = tie.close (tie.spec add-result cast-result returns)
+digit-byte-spec = tie.close (tie.spec (λ c. search needs) (λ c. search needs) returns)

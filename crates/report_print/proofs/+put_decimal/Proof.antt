@@ -1,5 +1,5 @@
 -- Below 10 the number is one digit (put-digit); else the digits of its tenth stand before its last one (put-digits). The measure is the number; a
--- word has at most 20 digits, so the last one has room (last-room).
+-- word has at most 20 digits, so the last one has room (last-room). The answers stand in the order of the code.
 use Rattle.report_print.specs.DecimalLaws.{last-room, put-digit, put-digits}
 use borrow.Author.Needs.{needs}
 use native.Mathlib.Omega.{arith}
@@ -27,81 +27,6 @@ abbrev put-decimal-below : ℕ → In 1 put-decimal-kinds.ps
 put-decimal-below t =
     and 1 put-decimal-kinds.ps (falls 1 put-decimal-kinds.ps _<_ μ-put-decimal t) put-decimal.Pre
 
-put-decimal-digit-byte-requires : (t : ℕ) → put-decimal-lts.Need-digit-byte-requires (
-  digit-byte-reads.Asked,
-  digit-byte-reads.Learnt,
-  put-byte-reads.Asked,
-  put-byte-reads.Learnt,
-  put-decimal-below t,
-  put-decimal.Post,
-) (put-decimal-at t) put-decimal.Post
-put-decimal-digit-byte-requires t c κs = search needs
-
-put-decimal-put-byte-requires : (t : ℕ) → put-decimal-lts.Need-put-byte-requires (
-  digit-byte-reads.Asked,
-  digit-byte-reads.Learnt,
-  put-byte-reads.Asked,
-  put-byte-reads.Learnt,
-  put-decimal-below t,
-  put-decimal.Post,
-) (put-decimal-at t) put-decimal.Post
-put-decimal-put-byte-requires t c κs = search needs
-
-put-decimal-returns : (t : ℕ) → put-decimal-lts.Need-returns (
-  digit-byte-reads.Asked,
-  digit-byte-reads.Learnt,
-  put-byte-reads.Asked,
-  put-byte-reads.Learnt,
-  put-decimal-below t,
-  put-decimal.Post,
-) (put-decimal-at t) put-decimal.Post
-put-decimal-returns t c = put-digit _ (c .before .before .before .if1 .taken) (c .before .digit-byte .ensures) (c .put-byte .ensures)
-
-put-decimal-put-decimal-requires : (t : ℕ) → put-decimal-lts.Need-put-decimal-requires (
-  digit-byte-reads.Asked,
-  digit-byte-reads.Learnt,
-  put-byte-reads.Asked,
-  put-byte-reads.Learnt,
-  put-decimal-below t,
-  put-decimal.Post,
-) (put-decimal-at t) put-decimal.Post
-put-decimal-put-decimal-requires t c κs = (omega arith, search needs)
-
-put-decimal-digit-byte-requires-2 : (t : ℕ) → put-decimal-lts.Need-digit-byte-requires-2 (
-  digit-byte-reads.Asked,
-  digit-byte-reads.Learnt,
-  put-byte-reads.Asked,
-  put-byte-reads.Learnt,
-  put-decimal-below t,
-  put-decimal.Post,
-) (put-decimal-at t) put-decimal.Post
-put-decimal-digit-byte-requires-2 t c κs = search needs
-
-put-decimal-put-byte-requires-2 : (t : ℕ) → put-decimal-lts.Need-put-byte-requires-2 (
-  digit-byte-reads.Asked,
-  digit-byte-reads.Learnt,
-  put-byte-reads.Asked,
-  put-byte-reads.Learnt,
-  put-decimal-below t,
-  put-decimal.Post,
-) (put-decimal-at t) put-decimal.Post
-put-decimal-put-byte-requires-2 t c κs =
-    let entry = c .before .before .before .before .before in
-    let last = last-room (entry .args .n) (omega arith) (omega arith) in omega (arith, last, c .before .before .put-decimal .ensures .place)
-
-put-decimal-returns-2 : (t : ℕ) → put-decimal-lts.Need-returns-2 (
-  digit-byte-reads.Asked,
-  digit-byte-reads.Learnt,
-  put-byte-reads.Asked,
-  put-byte-reads.Learnt,
-  put-decimal-below t,
-  put-decimal.Post,
-) (put-decimal-at t) put-decimal.Post
-put-decimal-returns-2 t c =
-    let c3 = c .before .before .before in
-    let c5 = c3 .before .before in
-    put-digits _ (c5 .if1 .left) (omega arith) (c3 .put-decimal .ensures) (c .before .digit-byte2 .ensures) (c .put-byte2 .ensures)
-
 pub +put-decimal-spec : {M : Type 1} → statement M
 +put-decimal-spec = close μ-put-decimal λ t. put-decimal-lts.spec (
   digit-byte-reads.Asked,
@@ -113,10 +38,15 @@ pub +put-decimal-spec : {M : Type 1} → statement M
 )
     (put-decimal-at t)
     put-decimal.Post
-    (put-decimal-digit-byte-requires t)
-    (put-decimal-put-byte-requires t)
-    (put-decimal-returns t)
-    (put-decimal-put-decimal-requires t)
-    (put-decimal-digit-byte-requires-2 t)
-    (put-decimal-put-byte-requires-2 t)
-    (put-decimal-returns-2 t)
+    (λ c κs. search needs)
+    (λ c κs. search needs)
+    (λ c. put-digit _ (c .before .before .before .if1 .taken) (c .before .digit-byte .ensures) (c .put-byte .ensures))
+    (λ c κs. (omega arith, search needs))
+    (λ c κs. search needs)
+    (λ c κs.
+    let last = last-room (c .before .before .before .before .before .args .n) (omega arith) (omega arith) in
+    omega (arith, last, c .before .before .put-decimal .ensures .place))
+    (λ c.
+    let c3 = c .before .before .before in
+    put-digits _ (c3 .before .before .if1 .left) (omega arith) (c3 .put-decimal .ensures) (c .before .digit-byte2 .ensures)
+    (c .put-byte2 .ensures))

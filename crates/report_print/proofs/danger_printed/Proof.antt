@@ -13,15 +13,9 @@ use Rattle.report_print.proofs.danger_printed.Lts as lts
 use Rattle.report_print.proofs.at_most_65.Reads as at-most-65-reads
 use Rattle.report_print.proofs.put_danger.Reads as put-danger-reads
 
-at-most-65-requires : tie.Need-at-most-65-requires
-at-most-65-requires c κs = search needs
-
-put-danger-requires : tie.Need-put-danger-requires
-put-danger-requires c κs = search needs
-
 returns : tie.Need-returns
 returns c = danger-printed _ _ _ (c .before .before .at-most-65 .ensures) (c .put-danger .ensures)
 
 pub danger-printed-spec : {M : Type 1} → statement M
 danger-printed-spec =
-    tie.close (tie.spec at-most-65-requires put-danger-requires returns)
+    tie.close (tie.spec (λ c κs. search needs) (λ c κs. search needs) returns)

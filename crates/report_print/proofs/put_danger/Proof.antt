@@ -14,21 +14,6 @@ use Rattle.report_print.proofs.put.Reads as put-reads
 use Rattle.report_print.proofs.put_steps.Reads as put-steps-reads
 use Rattle.report_print.proofs.put_verdict.Reads as put-verdict-reads
 
-slice-aggregate-put-verdict : tie.Need-slice-aggregate-put-verdict
-slice-aggregate-put-verdict c = search needs
-
-put-verdict-requires : tie.Need-put-verdict-requires
-put-verdict-requires c κs = search needs
-
-slice-aggregate-put : tie.Need-slice-aggregate-put
-slice-aggregate-put c = search needs
-
-put-requires : tie.Need-put-requires
-put-requires c κs = search needs
-
-put-steps-requires : tie.Need-put-steps-requires
-put-steps-requires c κs = search needs
-
 returns : tie.Need-returns
 unfolding dangerWord stepNames
 returns c =
@@ -40,9 +25,9 @@ pub put-danger-spec : {M : Type 1} → statement M
 put-danger-spec =
     tie.close
     (tie.spec
-    slice-aggregate-put-verdict
-    put-verdict-requires
-    slice-aggregate-put
-    put-requires
-    put-steps-requires
+    (λ c. search needs)
+    (λ c κs. search needs)
+    (λ c. search needs)
+    (λ c κs. search needs)
+    (λ c κs. search needs)
     returns)

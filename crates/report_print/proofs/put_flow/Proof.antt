@@ -12,18 +12,6 @@ use Rattle.report_print.proofs.put_flow.Lts as lts
 use Rattle.report_bytes.proofs.flow_letter.Reads as flow-letter-reads
 use Rattle.report_print.proofs.put_byte.Reads as put-byte-reads
 
-put-byte-requires : tie.Need-put-byte-requires
-put-byte-requires c κs = search needs
-
-flow-letter-requires : tie.Need-flow-letter-requires
-flow-letter-requires c κs = search needs
-
-put-byte-requires-2 : tie.Need-put-byte-requires-2
-put-byte-requires-2 c κs = search needs
-
-put-byte-requires-3 : tie.Need-put-byte-requires-3
-put-byte-requires-3 c κs = search needs
-
 returns : tie.Need-returns
 returns c =
     let c3 = c .before .before .before in
@@ -34,8 +22,8 @@ pub put-flow-spec : {M : Type 1} → statement M
 put-flow-spec =
     tie.close
     (tie.spec
-    put-byte-requires
-    flow-letter-requires
-    put-byte-requires-2
-    put-byte-requires-3
+    (λ c κs. search needs)
+    (λ c κs. search needs)
+    (λ c κs. search needs)
+    (λ c κs. search needs)
     returns)

@@ -12,14 +12,8 @@ use Rattle.report_print.proofs.put_number.Lts as lts
 use Rattle.report_print.proofs.put_byte.Reads as put-byte-reads
 use Rattle.report_print.proofs.put_decimal.Reads as put-decimal-reads
 
-put-byte-requires : tie.Need-put-byte-requires
-put-byte-requires c κs = search needs
-
-put-decimal-requires : tie.Need-put-decimal-requires
-put-decimal-requires c κs = search needs
-
 returns : tie.Need-returns
 returns c = number-put _ (c .before .before .put-byte .ensures) (c .put-decimal .ensures)
 
 pub put-number-spec : {M : Type 1} → statement M
-put-number-spec = tie.close (tie.spec put-byte-requires put-decimal-requires returns)
+put-number-spec = tie.close (tie.spec (λ c κs. search needs) (λ c κs. search needs) returns)

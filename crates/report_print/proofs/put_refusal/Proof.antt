@@ -15,21 +15,6 @@ use Rattle.report_print.proofs.put_byte.Reads as put-byte-reads
 use Rattle.report_print.proofs.put_decimal.Reads as put-decimal-reads
 use Rattle.report_print.proofs.put_number.Reads as put-number-reads
 
-slice-aggregate-put : tie.Need-slice-aggregate-put
-slice-aggregate-put c = search needs
-
-put-requires : tie.Need-put-requires
-put-requires c κs = search needs
-
-put-decimal-requires : tie.Need-put-decimal-requires
-put-decimal-requires c κs = search needs
-
-put-number-requires : tie.Need-put-number-requires
-put-number-requires c κs = search needs
-
-put-byte-requires : tie.Need-put-byte-requires
-put-byte-requires c κs = search needs
-
 returns : tie.Need-returns
 unfolding refusedNames
 returns c =
@@ -41,9 +26,9 @@ pub put-refusal-spec : {M : Type 1} → statement M
 put-refusal-spec =
     tie.close
     (tie.spec
-    slice-aggregate-put
-    put-requires
-    put-decimal-requires
-    put-number-requires
-    put-byte-requires
+    (λ c. search needs)
+    (λ c κs. search needs)
+    (λ c κs. search needs)
+    (λ c κs. search needs)
+    (λ c κs. search needs)
     returns)

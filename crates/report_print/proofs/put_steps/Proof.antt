@@ -22,15 +22,6 @@ abbrev μ-loop : tie.MeasureT-loop
 loop-holds : tie.Need-loop-holds Inv-loop μ-loop
 loop-holds c = steps-first _ _ _ _
 
-put-step-requires : tie.Need-put-step-requires Inv-loop μ-loop
-put-step-requires c κs = search needs
-
-add-k : tie.Need-add-k Inv-loop μ-loop
-add-k c = search needs
-
-loop-less : tie.Need-loop-less Inv-loop μ-loop
-loop-less c = search needs
-
 loop-again : tie.Need-loop-again Inv-loop μ-loop
 loop-again c = steps-turn (c .before .before .loop-test .taken) (c .before .before .before .loop .inv) (c .put-step .ensures)
 
@@ -44,8 +35,8 @@ put-steps-spec =
     Inv-loop
     μ-loop
     loop-holds
-    put-step-requires
-    add-k
-    loop-less
+    (λ c κs. search needs)
+    (λ c. search needs)
+    (λ c. search needs)
     loop-again
     returns)

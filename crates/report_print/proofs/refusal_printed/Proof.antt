@@ -11,12 +11,9 @@ use Rattle.report_print.proofs.refusal_printed.Reads as reads
 use Rattle.report_print.proofs.refusal_printed.Lts as lts
 use Rattle.report_print.proofs.put_refusal.Reads as put-refusal-reads
 
-put-refusal-requires : tie.Need-put-refusal-requires
-put-refusal-requires c κs = search needs
-
 returns : tie.Need-returns
 returns c = printed-is (omega arith) (c .put-refusal .ensures)
 
 pub refusal-printed-spec : {M : Type 1} → statement M
 refusal-printed-spec =
-    tie.close (tie.spec put-refusal-requires returns)
+    tie.close (tie.spec (λ c κs. search needs) returns)

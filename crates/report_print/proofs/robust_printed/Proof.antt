@@ -14,15 +14,9 @@ use Rattle.report_print.proofs.robust_printed.Reads as reads
 use Rattle.report_print.proofs.robust_printed.Lts as lts
 use Rattle.report_print.proofs.put_verdict.Reads as put-verdict-reads
 
-slice-aggregate-put-verdict : tie.Need-slice-aggregate-put-verdict
-slice-aggregate-put-verdict c = search needs
-
-put-verdict-requires : tie.Need-put-verdict-requires
-put-verdict-requires c κs = search needs
-
 returns : tie.Need-returns
 unfolding robustWord
 returns c = printed-is (omega arith) (robust-put _ (c .put-verdict .ensures))
 
 pub robust-printed-spec : {M : Type 1} → statement M
-robust-printed-spec = tie.close (tie.spec slice-aggregate-put-verdict put-verdict-requires returns)
+robust-printed-spec = tie.close (tie.spec (λ c. search needs) (λ c κs. search needs) returns)

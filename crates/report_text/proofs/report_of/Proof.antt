@@ -14,20 +14,8 @@ use Rattle.report_print.proofs.refusal_printed.Reads as refusal-printed-reads
 use Rattle.text_read.proofs.read_text.Reads as read-text-reads
 use Rattle.report_text.proofs.value_report.Reads as value-report-reads
 
-read-text-requires : tie.Need-read-text-requires
-read-text-requires c κs = search needs
-
-cast-refusal-printed : tie.Need-cast-refusal-printed
-cast-refusal-printed c = search needs
-
-refusal-printed-requires : tie.Need-refusal-printed-requires
-refusal-printed-requires c κs = search needs
-
 returns : tie.Need-returns
 returns c = reported-refusal _ (c .before .before .read-text .ensures) (c .before .if1 .taken) (c .refusal-printed .ensures)
-
-value-report-requires : tie.Need-value-report-requires
-value-report-requires c κs = search needs
 
 returns-2 : tie.Need-returns-2
 returns-2 c = reported-value _ (c .before .before .before .read-text .ensures) (c .before .before .if1 .left) (c .value-report .ensures)
@@ -36,9 +24,9 @@ pub report-of-spec : {M : Type 1} → statement M
 report-of-spec =
     tie.close
     (tie.spec
-    read-text-requires
-    cast-refusal-printed
-    refusal-printed-requires
+    (λ c κs. search needs)
+    (λ c. search needs)
+    (λ c κs. search needs)
     returns
-    value-report-requires
+    (λ c κs. search needs)
     returns-2)

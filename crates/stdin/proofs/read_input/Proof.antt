@@ -16,23 +16,8 @@ Inv-loop area₀ received₀ area received = (length area ≡ length area₀) ×
 abbrev μ-loop : tie.MeasureT-loop
 μ-loop area₀ received₀ area received = length area - received .count
 
-nothing-requires : tie.Need-nothing-requires Inv-loop μ-loop
-nothing-requires c κs = search needs
-
 loop-holds : tie.Need-loop-holds Inv-loop μ-loop
 loop-holds c = (refl, going-first _ (c .nothing .ensures))
-
-count-requires : tie.Need-count-requires Inv-loop μ-loop
-count-requires c κs = search needs
-
-more-requires : tie.Need-more-requires Inv-loop μ-loop
-more-requires c κs = search needs
-
-last-requires : tie.Need-last-requires Inv-loop μ-loop
-last-requires c κs = search needs
-
-same-length : tie.Need-same-length Inv-loop μ-loop
-same-length c = search needs
 
 returns : tie.Need-returns Inv-loop μ-loop
 returns c =
@@ -40,9 +25,6 @@ returns c =
     failed-ends (search needs) (m .more .ensures) (omega (arith, m .before .before .if1 .taken, m .before .before .before .count .ensures))
     (toZ-ofZ w64 _ (record { sfits = c .before .last .ok }) ∙ c .before .last .ensures)
     (c .if2 .taken)
-
-same-length-2 : tie.Need-same-length-2 Inv-loop μ-loop
-same-length-2 c = search needs
 
 returns-2 : tie.Need-returns-2 Inv-loop μ-loop
 returns-2 c =
@@ -74,9 +56,6 @@ loop-again c =
           (last ∙ c .before .before .last .ensures) (c .before .if2 .left) (λ h. c .if3 .left (bits-of-zero (sym last ∙ h))),
     )
 
-same-length-3 : tie.Need-same-length-3 Inv-loop μ-loop
-same-length-3 c = search needs
-
 returns-3 : tie.Need-returns-3 Inv-loop μ-loop
 returns-3 c =
     let n = c .before .count .ensures in let l = c .if1 .left in
@@ -90,16 +69,16 @@ read-input-spec =
     (tie.spec
     Inv-loop
     μ-loop
-    nothing-requires
+    (λ c κs. search needs)
     loop-holds
-    count-requires
-    more-requires
-    last-requires
-    same-length
+    (λ c κs. search needs)
+    (λ c κs. search needs)
+    (λ c κs. search needs)
+    (λ c. search needs)
     returns
-    same-length-2
+    (λ c. search needs)
     returns-2
     loop-less
     loop-again
-    same-length-3
+    (λ c. search needs)
     returns-3)

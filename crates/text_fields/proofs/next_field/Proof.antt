@@ -18,6 +18,9 @@ add-start c = search needs
 field-end-requires : tie.Need-field-end-requires
 field-end-requires c κs = search needs
 
+form-if-requires : tie.Need-form-if-requires
+form-if-requires c κs = search needs
+
 sub-field-of : tie.Need-sub-field-of
 sub-field-of c = search needs
 
@@ -28,8 +31,8 @@ part-field-of-end : tie.Need-part-field-of-end
 part-field-of-end c =
     omega (
       arith,
-      c .field-end .ensures,
-      field-inside (c .before .before .before .args .bytes .now) (c .before .before .before .args .at + 1) (omega arith),
+      c .before .field-end .ensures,
+      field-inside (c .before .before .before .before .args .bytes .now) (c .before .before .before .before .args .at + 1) (omega arith),
     )
 
 field-of-requires : tie.Need-field-of-requires
@@ -43,16 +46,21 @@ enum-told c = search needs
 
 returns-2 : tie.Need-returns-2
 unfolding before
-returns-2 c = sym
-    (step-is _ _ _ _ (c .before .before .before .before .before .before .if1 .left)
-    (c .before .before .before .before .before .field-end .ensures)
-    (sym (c .before .before .before .field-of .ensures) ∙ ap fieldAnswer (c .before .r .given .1)))
+returns-2 c =
+    let read = c .before .before .before in
+    let form = read .before .before in
+    sym
+    (step-is _ _ _ _ (form .before .before .if1 .left) (form .before .field-end .ensures)
+    (rw (form .form-if .ensures) at (sym (read .field-of .ensures)) ∙ ap fieldAnswer (c .before .r .given .1)))
 
 returns-3 : tie.Need-returns-3
 unfolding before
-returns-3 c = sym
-    (step-is _ _ _ _ (c .before .before .before .before .before .if1 .left) (c .before .before .before .before .field-end .ensures)
-    (sym (c .before .before .field-of .ensures) ∙ ap fieldAnswer (c .enum-told .given .1)))
+returns-3 c =
+    let read = c .before .before in
+    let form = read .before .before in
+    sym
+    (step-is _ _ _ _ (form .before .before .if1 .left) (form .before .field-end .ensures)
+    (rw (form .form-if .ensures) at (sym (read .field-of .ensures)) ∙ ap fieldAnswer (c .enum-told .given .1)))
 
 pub next-field-spec : {M : Type 1} → statement M
 next-field-spec =
@@ -61,6 +69,7 @@ next-field-spec =
     returns
     add-start
     field-end-requires
+    form-if-requires
     sub-field-of
     part-field-of-start
     part-field-of-end

@@ -10,27 +10,6 @@ use Rattle.unfold.proofs.add.Tie as tie
 use Rattle.unfold.proofs.add.Reads as reads
 use Rattle.unfold.proofs.add.Lts as lts
 
-element-write-f : tie.Need-element-write-f
-element-write-f c = search needs
-
-mul-f : tie.Need-mul-f
-mul-f c = search needs
-
-element-write-f-2 : tie.Need-element-write-f-2
-element-write-f-2 c = search needs
-
-mul-f-2 : tie.Need-mul-f-2
-mul-f-2 c = search needs
-
-element-write-f-3 : tie.Need-element-write-f-3
-element-write-f-3 c = search needs
-
-add-f : tie.Need-add-f
-add-f c = search needs
-
-add-f-2 : tie.Need-add-f-2
-add-f-2 c = search needs
-
 returns : tie.Need-returns
 unfolding added
 returns c = cc
@@ -39,11 +18,11 @@ pub add-spec : {M : Type 1} → statement M
 add-spec =
     tie.close
     (tie.spec
-    element-write-f
-    mul-f
-    element-write-f-2
-    mul-f-2
-    element-write-f-3
-    add-f
-    add-f-2
+    (λ c. search needs)
+    (λ c. search needs)
+    (λ c. search needs)
+    (λ c. search needs)
+    (λ c. search needs)
+    (λ c. search needs)
+    (λ c. search needs)
     returns)

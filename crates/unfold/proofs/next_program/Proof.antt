@@ -10,12 +10,6 @@ use Rattle.unfold.proofs.next_program.Tie as tie
 use Rattle.unfold.proofs.next_program.Reads as reads
 use Rattle.unfold.proofs.next_program.Lts as lts
 
-shared-slice-read-if1 : tie.Need-shared-slice-read-if1
-shared-slice-read-if1 c = search needs
-
-add-result : tie.Need-add-result
-add-result c = search needs
-
 returns : tie.Need-returns
 returns c = program-next _ _ _ (c .if1 .taken)
 
@@ -23,4 +17,4 @@ returns-2 : tie.Need-returns-2
 returns-2 c = program-stays _ _ _ (c .if1 .left)
 
 pub next-program-spec : {M : Type 1} → statement M
-next-program-spec = tie.close (tie.spec shared-slice-read-if1 add-result returns returns-2)
+next-program-spec = tie.close (tie.spec (λ c. search needs) (λ c. search needs) returns returns-2)

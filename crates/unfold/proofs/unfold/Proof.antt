@@ -2,8 +2,8 @@
 -- `unfold_tables` writes are the nodes' statement ids (settled-ids).
 use Rattle.unfold.proofs.UnfoldSettledLaws.{
   not-given-ids,
-  ids-codes,
-  ids-words,
+  table-codes,
+  table-ids,
   part-fits,
   part-length,
   codes-length,
@@ -22,31 +22,22 @@ use Rattle.unfold.proofs.unfold.Tie as tie
 use Rattle.unfold.proofs.unfold.Reads as reads
 use Rattle.unfold.proofs.unfold.Lts as lts
 use Rattle.value_given.proofs.is_given.Reads as is-given-reads
-use Rattle.value_tables.proofs.id_tables.Reads as id-tables-reads
+use Rattle.value_tables.proofs.write_tables.Reads as write-tables-reads
 use Rattle.unfold.proofs.refused.Reads as refused-reads
 use Rattle.unfold.proofs.unfold_tables.Reads as unfold-tables-reads
-
-is-given-requires : tie.Need-is-given-requires
-is-given-requires c κs = search needs
-
-refused-requires : tie.Need-refused-requires
-refused-requires c κs = search needs
 
 returns : tie.Need-returns
 returns c =
     not-given-ids _ _ _ (c .before .before .is-given .ensures .no (not-true _ (c .before .if1 .taken))) (c .refused .ensures)
-
-id-tables-requires : tie.Need-id-tables-requires
-id-tables-requires c κs = search needs
 
 array-share-prefix-codes : tie.Need-array-share-prefix-codes
 array-share-prefix-codes c =
     let c3 = c .before .before .before in
     let c4 = c3 .before in
     let entry = c4 .before .before in
-    part-fits (entry .args .w) (c4 .is-given .ensures .yes (not-false _ (c3 .if1 .left))) (c .before .before .id-tables .result .codes)
+    part-fits (entry .args .w) (c4 .is-given .ensures .yes (not-false _ (c3 .if1 .left))) (c .before .before .write-tables .result .codes)
     (codes-length (entry .args .w) (c4 .is-given .ensures .yes (not-false _ (c3 .if1 .left)))
-    (c .before .before .id-tables .result .codes) (ids-codes _ _ (c .before .before .id-tables .ensures)))
+    (c .before .before .write-tables .result .codes) (table-codes _ _ (c .before .before .write-tables .ensures)))
 
 slice-aggregate-unfold-tables : tie.Need-slice-aggregate-unfold-tables
 slice-aggregate-unfold-tables c =
@@ -54,9 +45,9 @@ slice-aggregate-unfold-tables c =
     let c4 = c3 .before in
     let c5 = c4 .before in
     let entry = c5 .before .before in
-    part-length (entry .args .w) (c5 .is-given .ensures .yes (not-false _ (c4 .if1 .left))) (c3 .id-tables .result .codes)
-    (codes-length (entry .args .w) (c5 .is-given .ensures .yes (not-false _ (c4 .if1 .left))) (c3 .id-tables .result .codes)
-    (ids-codes _ _ (c3 .id-tables .ensures)))
+    part-length (entry .args .w) (c5 .is-given .ensures .yes (not-false _ (c4 .if1 .left))) (c3 .write-tables .result .codes)
+    (codes-length (entry .args .w) (c5 .is-given .ensures .yes (not-false _ (c4 .if1 .left))) (c3 .write-tables .result .codes)
+    (table-codes _ _ (c3 .write-tables .ensures)))
 
 array-share-prefix-words : tie.Need-array-share-prefix-words
 array-share-prefix-words c =
@@ -64,9 +55,9 @@ array-share-prefix-words c =
     let c4 = c3 .before in
     let c5 = c4 .before in
     let entry = c5 .before .before in
-    part-fits (entry .args .w) (c5 .is-given .ensures .yes (not-false _ (c4 .if1 .left))) (c3 .id-tables .result .words)
-    (ids-length (entry .args .w) (c5 .is-given .ensures .yes (not-false _ (c4 .if1 .left))) (c3 .id-tables .result .words)
-    (ids-words _ _ (c3 .id-tables .ensures)))
+    part-fits (entry .args .w) (c5 .is-given .ensures .yes (not-false _ (c4 .if1 .left))) (c3 .write-tables .result .ids)
+    (ids-length (entry .args .w) (c5 .is-given .ensures .yes (not-false _ (c4 .if1 .left))) (c3 .write-tables .result .ids)
+    (table-ids _ _ (c3 .write-tables .ensures)))
 
 slice-aggregate-unfold-tables-2 : tie.Need-slice-aggregate-unfold-tables-2
 slice-aggregate-unfold-tables-2 c =
@@ -74,12 +65,9 @@ slice-aggregate-unfold-tables-2 c =
     let c5 = c4 .before in
     let c6 = c5 .before in
     let entry = c6 .before .before in
-    part-length (entry .args .w) (c6 .is-given .ensures .yes (not-false _ (c5 .if1 .left))) (c4 .id-tables .result .words)
-    (ids-length (entry .args .w) (c6 .is-given .ensures .yes (not-false _ (c5 .if1 .left))) (c4 .id-tables .result .words)
-    (ids-words _ _ (c4 .id-tables .ensures)))
-
-slice-aggregate-unfold-tables-3 : tie.Need-slice-aggregate-unfold-tables-3
-slice-aggregate-unfold-tables-3 c = search needs
+    part-length (entry .args .w) (c6 .is-given .ensures .yes (not-false _ (c5 .if1 .left))) (c4 .write-tables .result .ids)
+    (ids-length (entry .args .w) (c6 .is-given .ensures .yes (not-false _ (c5 .if1 .left))) (c4 .write-tables .result .ids)
+    (table-ids _ _ (c4 .write-tables .ensures)))
 
 unfold-tables-requires : tie.Need-unfold-tables-requires
 unfold-tables-requires c κs =
@@ -87,11 +75,8 @@ unfold-tables-requires c κs =
     let c7 = c6 .before in
     let c8 = c7 .before in
     let entry = c8 .before .before in
-    ready-ids (entry .args .w) (c8 .is-given .ensures .yes (not-false _ (c7 .if1 .left))) _ _ (ids-codes _ _ (c6 .id-tables .ensures))
-    (ids-words _ _ (c6 .id-tables .ensures))
-
-same-length : tie.Need-same-length
-same-length c = search needs
+    ready-ids (entry .args .w) (c8 .is-given .ensures .yes (not-false _ (c7 .if1 .left))) _ _ (table-codes _ _ (c6 .write-tables .ensures))
+    (table-ids _ _ (c6 .write-tables .ensures))
 
 returns-2 : tie.Need-returns-2
 returns-2 c =
@@ -99,22 +84,22 @@ returns-2 c =
     let c10 = c9 .before in
     let c11 = c10 .before in
     let entry = c11 .before .before in
-    settled-ids (entry .args .w) (c11 .is-given .ensures .yes (not-false _ (c10 .if1 .left))) _ _ (ids-codes _ _ (c9 .id-tables .ensures))
-    (ids-words _ _ (c9 .id-tables .ensures)) _ _ _ (c .before .before .unfold-tables .ensures)
+    settled-ids (entry .args .w) (c11 .is-given .ensures .yes (not-false _ (c10 .if1 .left))) _ _ (table-codes _ _ (c9 .write-tables .ensures))
+    (table-ids _ _ (c9 .write-tables .ensures)) _ _ _ (c .before .before .unfold-tables .ensures)
 
 pub unfold-spec : {M : Type 1} → statement M
 unfold-spec =
     tie.close
     (tie.spec
-    is-given-requires
-    refused-requires
+    (λ c κs. search needs)
+    (λ c κs. search needs)
     returns
-    id-tables-requires
+    (λ c κs. search needs)
     array-share-prefix-codes
     slice-aggregate-unfold-tables
     array-share-prefix-words
     slice-aggregate-unfold-tables-2
-    slice-aggregate-unfold-tables-3
+    (λ c. search needs)
     unfold-tables-requires
-    same-length
+    (λ c. search needs)
     returns-2)

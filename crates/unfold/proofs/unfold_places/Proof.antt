@@ -2,9 +2,9 @@
 -- writes are words for the nodes' places (settled-places).
 use Rattle.unfold.proofs.UnfoldSettledLaws.{
   not-given-places,
-  places-codes,
-  places-words,
-  places-marks,
+  table-codes,
+  table-numbers,
+  table-marks,
   part-fits,
   part-length,
   codes-length,
@@ -24,22 +24,13 @@ use Rattle.unfold.proofs.unfold_places.Tie as tie
 use Rattle.unfold.proofs.unfold_places.Reads as reads
 use Rattle.unfold.proofs.unfold_places.Lts as lts
 use Rattle.value_given.proofs.is_given.Reads as is-given-reads
-use Rattle.value_tables.proofs.place_tables.Reads as place-tables-reads
+use Rattle.value_tables.proofs.write_tables.Reads as write-tables-reads
 use Rattle.unfold.proofs.refused.Reads as refused-reads
 use Rattle.unfold.proofs.unfold_tables.Reads as unfold-tables-reads
-
-is-given-requires : tie.Need-is-given-requires
-is-given-requires c κs = search needs
-
-refused-requires : tie.Need-refused-requires
-refused-requires c κs = search needs
 
 returns : tie.Need-returns
 returns c =
     not-given-places _ _ _ (c .before .before .is-given .ensures .no (not-true _ (c .before .if1 .taken))) (c .refused .ensures)
-
-place-tables-requires : tie.Need-place-tables-requires
-place-tables-requires c κs = search needs
 
 array-share-prefix-codes : tie.Need-array-share-prefix-codes
 array-share-prefix-codes c =
@@ -47,9 +38,9 @@ array-share-prefix-codes c =
     let c4 = c3 .before in
     let c5 = c4 .before in
     let entry = c5 .before .before in
-    part-fits (entry .args .w) (c5 .is-given .ensures .yes (not-false _ (c4 .if1 .left))) (c3 .place-tables .result .codes)
-    (codes-length (entry .args .w) (c5 .is-given .ensures .yes (not-false _ (c4 .if1 .left))) (c3 .place-tables .result .codes)
-    (places-codes _ _ (c3 .place-tables .ensures)))
+    part-fits (entry .args .w) (c5 .is-given .ensures .yes (not-false _ (c4 .if1 .left))) (c3 .write-tables .result .codes)
+    (codes-length (entry .args .w) (c5 .is-given .ensures .yes (not-false _ (c4 .if1 .left))) (c3 .write-tables .result .codes)
+    (table-codes _ _ (c3 .write-tables .ensures)))
 
 slice-aggregate-unfold-tables : tie.Need-slice-aggregate-unfold-tables
 slice-aggregate-unfold-tables c =
@@ -57,9 +48,9 @@ slice-aggregate-unfold-tables c =
     let c5 = c4 .before in
     let c6 = c5 .before in
     let entry = c6 .before .before in
-    part-length (entry .args .w) (c6 .is-given .ensures .yes (not-false _ (c5 .if1 .left))) (c4 .place-tables .result .codes)
-    (codes-length (entry .args .w) (c6 .is-given .ensures .yes (not-false _ (c5 .if1 .left))) (c4 .place-tables .result .codes)
-    (places-codes _ _ (c4 .place-tables .ensures)))
+    part-length (entry .args .w) (c6 .is-given .ensures .yes (not-false _ (c5 .if1 .left))) (c4 .write-tables .result .codes)
+    (codes-length (entry .args .w) (c6 .is-given .ensures .yes (not-false _ (c5 .if1 .left))) (c4 .write-tables .result .codes)
+    (table-codes _ _ (c4 .write-tables .ensures)))
 
 array-share-prefix-words : tie.Need-array-share-prefix-words
 array-share-prefix-words c =
@@ -67,9 +58,9 @@ array-share-prefix-words c =
     let c5 = c4 .before in
     let c6 = c5 .before in
     let entry = c6 .before .before in
-    part-fits (entry .args .w) (c6 .is-given .ensures .yes (not-false _ (c5 .if1 .left))) (c4 .place-tables .result .words)
-    (numbers-length (entry .args .w) (c6 .is-given .ensures .yes (not-false _ (c5 .if1 .left))) (c4 .place-tables .result .words)
-    (places-words _ _ (c4 .place-tables .ensures)))
+    part-fits (entry .args .w) (c6 .is-given .ensures .yes (not-false _ (c5 .if1 .left))) (c4 .write-tables .result .numbers)
+    (numbers-length (entry .args .w) (c6 .is-given .ensures .yes (not-false _ (c5 .if1 .left))) (c4 .write-tables .result .numbers)
+    (table-numbers _ _ (c4 .write-tables .ensures)))
 
 slice-aggregate-unfold-tables-2 : tie.Need-slice-aggregate-unfold-tables-2
 slice-aggregate-unfold-tables-2 c =
@@ -77,9 +68,9 @@ slice-aggregate-unfold-tables-2 c =
     let c6 = c5 .before in
     let c7 = c6 .before in
     let entry = c7 .before .before in
-    part-length (entry .args .w) (c7 .is-given .ensures .yes (not-false _ (c6 .if1 .left))) (c5 .place-tables .result .words)
-    (numbers-length (entry .args .w) (c7 .is-given .ensures .yes (not-false _ (c6 .if1 .left))) (c5 .place-tables .result .words)
-    (places-words _ _ (c5 .place-tables .ensures)))
+    part-length (entry .args .w) (c7 .is-given .ensures .yes (not-false _ (c6 .if1 .left))) (c5 .write-tables .result .numbers)
+    (numbers-length (entry .args .w) (c7 .is-given .ensures .yes (not-false _ (c6 .if1 .left))) (c5 .write-tables .result .numbers)
+    (table-numbers _ _ (c5 .write-tables .ensures)))
 
 array-share-prefix-marks : tie.Need-array-share-prefix-marks
 array-share-prefix-marks c =
@@ -87,9 +78,9 @@ array-share-prefix-marks c =
     let c6 = c5 .before in
     let c7 = c6 .before in
     let entry = c7 .before .before in
-    part-fits (entry .args .w) (c7 .is-given .ensures .yes (not-false _ (c6 .if1 .left))) (c5 .place-tables .result .marks)
-    (marks-length (entry .args .w) (c7 .is-given .ensures .yes (not-false _ (c6 .if1 .left))) (c5 .place-tables .result .marks)
-    (places-marks _ _ (c5 .place-tables .ensures)))
+    part-fits (entry .args .w) (c7 .is-given .ensures .yes (not-false _ (c6 .if1 .left))) (c5 .write-tables .result .marks)
+    (marks-length (entry .args .w) (c7 .is-given .ensures .yes (not-false _ (c6 .if1 .left))) (c5 .write-tables .result .marks)
+    (table-marks _ _ (c5 .write-tables .ensures)))
 
 slice-aggregate-unfold-tables-3 : tie.Need-slice-aggregate-unfold-tables-3
 slice-aggregate-unfold-tables-3 c =
@@ -97,9 +88,9 @@ slice-aggregate-unfold-tables-3 c =
     let c7 = c6 .before in
     let c8 = c7 .before in
     let entry = c8 .before .before in
-    part-length (entry .args .w) (c8 .is-given .ensures .yes (not-false _ (c7 .if1 .left))) (c6 .place-tables .result .marks)
-    (marks-length (entry .args .w) (c8 .is-given .ensures .yes (not-false _ (c7 .if1 .left))) (c6 .place-tables .result .marks)
-    (places-marks _ _ (c6 .place-tables .ensures)))
+    part-length (entry .args .w) (c8 .is-given .ensures .yes (not-false _ (c7 .if1 .left))) (c6 .write-tables .result .marks)
+    (marks-length (entry .args .w) (c8 .is-given .ensures .yes (not-false _ (c7 .if1 .left))) (c6 .write-tables .result .marks)
+    (table-marks _ _ (c6 .write-tables .ensures)))
 
 unfold-tables-requires : tie.Need-unfold-tables-requires
 unfold-tables-requires c κs =
@@ -108,11 +99,8 @@ unfold-tables-requires c κs =
     let c9 = c8 .before in
     let entry = c9 .before .before in
     ready-places (entry .args .w) (c9 .is-given .ensures .yes (not-false _ (c8 .if1 .left))) _ _ _
-    (places-codes _ _ (c7 .place-tables .ensures)) (places-words _ _ (c7 .place-tables .ensures))
-    (places-marks _ _ (c7 .place-tables .ensures))
-
-same-length : tie.Need-same-length
-same-length c = search needs
+    (table-codes _ _ (c7 .write-tables .ensures)) (table-numbers _ _ (c7 .write-tables .ensures))
+    (table-marks _ _ (c7 .write-tables .ensures))
 
 returns-2 : tie.Need-returns-2
 returns-2 c =
@@ -121,17 +109,17 @@ returns-2 c =
     let c12 = c11 .before in
     let entry = c12 .before .before in
     settled-places (entry .args .w) (c12 .is-given .ensures .yes (not-false _ (c11 .if1 .left))) _ _ _
-    (places-codes _ _ (c10 .place-tables .ensures)) (places-words _ _ (c10 .place-tables .ensures))
-    (places-marks _ _ (c10 .place-tables .ensures)) _ _ _ (c .before .before .unfold-tables .ensures)
+    (table-codes _ _ (c10 .write-tables .ensures)) (table-numbers _ _ (c10 .write-tables .ensures))
+    (table-marks _ _ (c10 .write-tables .ensures)) _ _ _ (c .before .before .unfold-tables .ensures)
 
 pub unfold-places-spec : {M : Type 1} → statement M
 unfold-places-spec =
     tie.close
     (tie.spec
-    is-given-requires
-    refused-requires
+    (λ c κs. search needs)
+    (λ c κs. search needs)
     returns
-    place-tables-requires
+    (λ c κs. search needs)
     array-share-prefix-codes
     slice-aggregate-unfold-tables
     array-share-prefix-words
@@ -139,5 +127,5 @@ unfold-places-spec =
     array-share-prefix-marks
     slice-aggregate-unfold-tables-3
     unfold-tables-requires
-    same-length
+    (λ c. search needs)
     returns-2)

@@ -20,9 +20,6 @@ Inv-loop codes words marks area₀ t₀ program₀ i₀ area t program i = Going
 abbrev μ-loop : tie.MeasureT-loop
 μ-loop codes words marks area₀ t₀ program₀ i₀ area t program i = length codes - i
 
-empty-table-requires : tie.Need-empty-table-requires Inv-loop μ-loop
-empty-table-requires c κs = search needs
-
 loop-holds : tie.Need-loop-holds Inv-loop μ-loop
 loop-holds c = going-start _ _ _ _ _ (c .empty-table .ensures)
 
@@ -36,12 +33,6 @@ next-program-requires c κs =
     let c5 = c .before .before .before .before .before in
     let c11 = c5 .before .before .before .before .before .before in
     (search needs, program-small _ _ _ _ (c11 .pre) _ _ _ _ (c5 .loop .inv))
-
-add-i : tie.Need-add-i Inv-loop μ-loop
-add-i c = search needs
-
-loop-less : tie.Need-loop-less Inv-loop μ-loop
-loop-less c = search needs
 
 loop-again : tie.Need-loop-again Inv-loop μ-loop
 loop-again c =
@@ -65,12 +56,12 @@ write-all-spec =
     (tie.spec
     Inv-loop
     μ-loop
-    empty-table-requires
+    (λ c κs. search needs)
     loop-holds
     write-line-requires
     next-program-requires
-    add-i
-    loop-less
+    (λ c. search needs)
+    (λ c. search needs)
     loop-again
     same-length
     returns)

@@ -12,18 +12,9 @@ use Rattle.unfold_count.proofs.count_arms.Lts as lts
 use Rattle.unfold_bounds.proofs.line_after.Reads as line-after-reads
 use Rattle.unfold_count.proofs.sum.Reads as sum-reads
 
-sum-requires : tie.Need-sum-requires
-sum-requires c κs = search needs
-
-sum-requires-2 : tie.Need-sum-requires-2
-sum-requires-2 c κs = search needs
-
-line-after-requires : tie.Need-line-after-requires
-line-after-requires c κs = search needs
-
 returns : tie.Need-returns
 returns c =
     branch-made _ _ _ _ _ _ (c .before .before .sum .ensures) (c .before .sum2 .ensures) (c .line-after .ensures)
 
 pub count-arms-spec : {M : Type 1} → statement M
-count-arms-spec = tie.close (tie.spec sum-requires sum-requires-2 line-after-requires returns)
+count-arms-spec = tie.close (tie.spec (λ c κs. search needs) (λ c κs. search needs) (λ c κs. search needs) returns)

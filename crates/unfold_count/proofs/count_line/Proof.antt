@@ -13,30 +13,9 @@ use Rattle.unfold_count.proofs.count_line.Lts as lts
 use Rattle.unfold_count.proofs.count_run.Reads as count-run-reads
 use Rattle.unfold_count.proofs.sum.Reads as sum-reads
 
-shared-slice-read-if1 : tie.Need-shared-slice-read-if1
-shared-slice-read-if1 c = search needs
-
 returns : tie.Need-returns
 returns c =
     line-none _ _ _ (c .if1 .taken) (c .before .before .before .pre .1) (c .before .before .before .pre .2)
-
-add-count-run : tie.Need-add-count-run
-add-count-run c = search needs
-
-add-count-run-2 : tie.Need-add-count-run-2
-add-count-run-2 c = search needs
-
-sub-count-run : tie.Need-sub-count-run
-sub-count-run c = search needs
-
-count-run-requires : tie.Need-count-run-requires
-count-run-requires c κs = search needs
-
-sum-requires : tie.Need-sum-requires
-sum-requires c κs = search needs
-
-sum-requires-2 : tie.Need-sum-requires-2
-sum-requires-2 c κs = search needs
 
 returns-2 : tie.Need-returns-2
 returns-2 c =
@@ -48,12 +27,12 @@ pub count-line-spec : {M : Type 1} → statement M
 count-line-spec =
     tie.close
     (tie.spec
-    shared-slice-read-if1
+    (λ c. search needs)
     returns
-    add-count-run
-    add-count-run-2
-    sub-count-run
-    count-run-requires
-    sum-requires
-    sum-requires-2
+    (λ c. search needs)
+    (λ c. search needs)
+    (λ c. search needs)
+    (λ c κs. search needs)
+    (λ c κs. search needs)
+    (λ c κs. search needs)
     returns-2)

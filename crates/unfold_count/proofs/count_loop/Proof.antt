@@ -13,30 +13,6 @@ use Rattle.unfold_bounds.proofs.line_after.Reads as line-after-reads
 use Rattle.unfold_count.proofs.product.Reads as product-reads
 use Rattle.unfold_count.proofs.sum.Reads as sum-reads
 
-product-requires : tie.Need-product-requires
-product-requires c κs = search needs
-
-sum-requires : tie.Need-sum-requires
-sum-requires c κs = search needs
-
-sum-requires-2 : tie.Need-sum-requires-2
-sum-requires-2 c κs = search needs
-
-product-requires-2 : tie.Need-product-requires-2
-product-requires-2 c κs = search needs
-
-product-requires-3 : tie.Need-product-requires-3
-product-requires-3 c κs = search needs
-
-sum-requires-3 : tie.Need-sum-requires-3
-sum-requires-3 c κs = search needs
-
-sum-requires-4 : tie.Need-sum-requires-4
-sum-requires-4 c κs = search needs
-
-line-after-requires : tie.Need-line-after-requires
-line-after-requires c κs = search needs
-
 returns : tie.Need-returns
 returns c =
     let c3 = c .before .before .before in
@@ -51,12 +27,12 @@ pub count-loop-spec : {M : Type 1} → statement M
 count-loop-spec =
     tie.close
     (tie.spec
-    product-requires
-    sum-requires
-    sum-requires-2
-    product-requires-2
-    product-requires-3
-    sum-requires-3
-    sum-requires-4
-    line-after-requires
+    (λ c κs. search needs)
+    (λ c κs. search needs)
+    (λ c κs. search needs)
+    (λ c κs. search needs)
+    (λ c κs. search needs)
+    (λ c κs. search needs)
+    (λ c κs. search needs)
+    (λ c κs. search needs)
     returns)

@@ -12,18 +12,6 @@ use Rattle.unfold_count.proofs.count_next.Lts as lts
 use Rattle.unfold_count.proofs.product.Reads as product-reads
 use Rattle.unfold_count.proofs.sum.Reads as sum-reads
 
-product-requires : tie.Need-product-requires
-product-requires c κs = search needs
-
-product-requires-2 : tie.Need-product-requires-2
-product-requires-2 c κs = search needs
-
-product-requires-3 : tie.Need-product-requires-3
-product-requires-3 c κs = search needs
-
-sum-requires : tie.Need-sum-requires
-sum-requires c κs = search needs
-
 returns : tie.Need-returns
 returns c =
     let c3 = c .before .before .before in
@@ -32,4 +20,4 @@ returns c =
 pub count-next-spec : {M : Type 1} → statement M
 count-next-spec =
     tie.close
-    (tie.spec product-requires product-requires-2 product-requires-3 sum-requires returns)
+    (tie.spec (λ c κs. search needs) (λ c κs. search needs) (λ c κs. search needs) (λ c κs. search needs) returns)

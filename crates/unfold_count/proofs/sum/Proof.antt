@@ -10,9 +10,6 @@ use Rattle.unfold_count.proofs.sum.Tie as tie
 use Rattle.unfold_count.proofs.sum.Reads as reads
 use Rattle.unfold_count.proofs.sum.Lts as lts
 
-add-x : tie.Need-add-x
-add-x c = search needs
-
 returns : tie.Need-returns
 returns c = stops-large _ (search needs)
 
@@ -20,4 +17,4 @@ returns-2 : tie.Need-returns-2
 returns-2 c = stops-small _ (search needs)
 
 pub sum-spec : {M : Type 1} → statement M
-sum-spec = tie.close (tie.spec add-x returns returns-2)
+sum-spec = tie.close (tie.spec (λ c. search needs) returns returns-2)

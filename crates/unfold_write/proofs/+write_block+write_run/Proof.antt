@@ -73,10 +73,7 @@ pub +write-block+write-run-spec : {M : Type 1} → statement M
     (λ c. search needs)
     (λ c.
     let c3 = c .before .before .before in
-    let entry = c3 .before .before .before .before .before in
-    loop-none (entry .args .codes .now) (entry .args .words .now) (entry .args .marks .now) (entry .args .seen) (entry .args .at)
-    (entry .args .k) _ (entry .args .left) (c3 .count-run .result) (c3 .count-run .ensures) (c .before .if1 .taken) (c .if2 .taken))
-    (λ c. search needs)
+    loop-none _ _ _ _ _ _ _ _ _ (c3 .count-run .ensures) (c .before .if1 .taken) (c .if2 .taken))
     (λ c. search needs)
     (λ c κs. search needs)
     (λ c. search needs)
@@ -84,17 +81,12 @@ pub +write-block+write-run-spec : {M : Type 1} → statement M
     let c4 = c .before .before .before .before in
     let c5 = c4 .before in
     let c6 = c5 .before in
-    let c8 = c6 .before .before in
-    let entry = c8 .before .before .before .before .before in
-    loop-one (entry .args .codes .now) (entry .args .words .now) (entry .args .marks .now) (entry .args .seen) (entry .args .at)
-    (entry .args .k) _ (entry .args .left) (c8 .count-run .result) (c8 .count-run .ensures) _ _ (c6 .if1 .taken) (c5 .if2 .left)
-    (c4 .if3 .taken) (c .before .before .write-run .ensures))
-    (λ c. search needs)
+    loop-one _ _ _ _ _ _ _ _ _ (c6 .before .before .count-run .ensures) _ _ (c6 .if1 .taken) (c5 .if2 .left) (c4 .if3 .taken)
+    (c .before .before .write-run .ensures))
     (λ c. search needs)
     (λ c. search needs)
     (λ c. search needs)
     (λ c κs. search needs)
-    (λ c. search needs)
     (λ c. search needs)
     (λ c. search needs)
     (λ c. search needs)
@@ -102,13 +94,14 @@ pub +write-block+write-run-spec : {M : Type 1} → statement M
     (λ c. search needs)
     (λ c κs. search needs)
     (λ c.
-    let c6 = c .before .before .before .before .before .before in
-    let entry = c6 .before .before .before .before .before .before .before .before .before .before .before in
+    let first = c .before .before .before .before .before .before in
+    let entry = first .before .before .before .before .before .before .before .before .before .before .before in
+    let room = entry .good .1 .1 .1 .1 .1 .1 .1 .0 in
     omega (
       arith,
-      lays-inside _ _ (entry .args .out .now) _ _ _ _ (c6 .write-run2 .ensures .lays)
+      lays-inside _ _ (entry .args .out .now) _ _ _ _ (first .write-run2 .ensures .lays)
           (c .before .before .write-run3 .ensures .lays),
-      (entry .good .1 .1 .1 .1 .1 .1 .1 .0),
+      room,
     ))
     (λ c. search needs)
     (λ c.
@@ -116,21 +109,14 @@ pub +write-block+write-run-spec : {M : Type 1} → statement M
     let c8 = c6 .before .before in
     let c9 = c8 .before in
     let c10 = c9 .before in
-    let c12 = c10 .before .before in
-    let entry = c12 .before .before .before .before .before in
-    loop-two (entry .args .codes .now) (entry .args .words .now) (entry .args .marks .now) (entry .args .seen) (entry .args .at)
-    (entry .args .k) _ (entry .args .left) (c12 .count-run .result) (c12 .count-run .ensures) _ _ _ _ (c10 .if1 .taken) (c9 .if2 .left)
-    (c8 .if3 .left) (c6 .write-run2 .ensures) (c .before .before .write-run3 .ensures))
-    (λ c. search needs)
+    loop-two _ _ _ _ _ _ _ _ _ (c10 .before .before .count-run .ensures) _ _ _ _ (c10 .if1 .taken) (c9 .if2 .left) (c8 .if3 .left)
+    (c6 .write-run2 .ensures) (c .before .before .write-run3 .ensures))
     (λ c κs. search needs)
     (λ c. search needs)
     (λ c.
     let c4 = c .before .before .before .before in
     let c5 = c4 .before in
-    let c7 = c5 .before .before in
-    let entry = c7 .before .before .before .before .before in
-    branch-one (entry .args .codes .now) (entry .args .words .now) (entry .args .marks .now) (entry .args .seen) (entry .args .at)
-    (entry .args .k) _ (entry .args .left) (c7 .count-run .result) (c7 .count-run .ensures) _ _ (c5 .if1 .left) (c4 .if4 .taken)
+    branch-one _ _ _ _ _ _ _ _ _ (c5 .before .before .count-run .ensures) _ _ (c5 .if1 .left) (c4 .if4 .taken)
     (c .before .before .write-run4 .ensures))
     (λ c κs. search needs)
     (λ c κs. search needs)
@@ -139,11 +125,8 @@ pub +write-block+write-run-spec : {M : Type 1} → statement M
     let c4 = c .before .before .before .before in
     let c5 = c4 .before in
     let c6 = c5 .before in
-    let c8 = c6 .before .before in
-    let entry = c8 .before .before .before .before .before in
-    branch-two (entry .args .codes .now) (entry .args .words .now) (entry .args .marks .now) (entry .args .seen) (entry .args .at)
-    (entry .args .k) _ (entry .args .left) (c8 .count-run .result) (c8 .count-run .ensures) _ _ _ (c4 .line-after .ensures) (c6 .if1 .left)
-    (c5 .if4 .left) (c .before .before .write-run5 .ensures)))
+    branch-two _ _ _ _ _ _ _ _ _ (c6 .before .before .count-run .ensures) _ _ _ (c4 .line-after .ensures) (c6 .if1 .left) (c5 .if4 .left)
+    (c .before .before .write-run5 .ensures)))
     λ t. write-run-lts.spec (
       place-word-reads.Asked,
       place-word-reads.Learnt,
@@ -162,19 +145,10 @@ pub +write-block+write-run-spec : {M : Type 1} → statement M
     )
     (write-run-at t)
     write-run.Post
-    (λ c.
-    let entry = c .before .before .before .before .before in
-    run-none (entry .args .codes .now) (entry .args .words .now) (entry .args .marks .now) (entry .args .seen) (entry .args .at)
-    (entry .args .k) _ (entry .args .left) (c .if1 .taken))
-    (λ c.
-    let entry = c .before .before .before .before .before .before in
-    run-past (entry .args .codes .now) (entry .args .words .now) (entry .args .marks .now) (entry .args .seen) (entry .args .at)
-    (entry .args .k) _ (entry .args .left) (c .if2 .taken))
+    (λ c. run-none _ _ _ _ _ _ _ _ (c .if1 .taken))
+    (λ c. run-past _ _ _ _ _ _ _ _ (c .if2 .taken))
     (λ c. search needs)
-    (λ c.
-    let entry = c .before .before .before .before .before .before .before .before in
-    run-stop (entry .args .codes .now) (entry .args .words .now) (entry .args .marks .now) (entry .args .seen) (entry .args .at)
-    (entry .args .k) _ (entry .args .left) (c .before .before .if2 .left) (c .if3 .taken))
+    (λ c. run-stop _ _ _ _ _ _ _ _ (c .before .before .if2 .left) (c .if3 .taken))
     (λ c. search needs)
     (λ c κs. search needs)
     (λ c κs. search needs)
@@ -184,35 +158,28 @@ pub +write-block+write-run-spec : {M : Type 1} → statement M
     (λ c. search needs)
     (λ c. search needs)
     (λ c. search needs)
-    (λ c. search needs)
     (λ c κs. search needs)
     (λ c.
-    let c7 = c .before .before .before .before .before .before .before in
-    let entry = c7 .before .before .before .before .before .before .before .before .before .before .before .before .before in
-    omega (arith, lays-inside _ _ (entry .args .out .now) _ _ _ _ (c7 .lay-word .ensures) (c .before .before .write-run .ensures .lays)))
+    let first = c .before .before .before .before .before .before .before in
+    let entry = first .before .before .before .before .before .before .before .before .before .before .before .before in
+    let room = entry .good .1 .1 .1 .1 .1 .1 .1 .0 in
+    omega (arith, lays-inside _ _ (entry .args .out .now) _ _ _ _ (first .lay-word .ensures) (c .before .before .write-run .ensures .lays), room))
     (λ c. search needs)
     (λ c.
     let c4 = c .before .before .before .before in
     let c7 = c4 .before .before .before in
     let c9 = c7 .before .before in
     let c10 = c9 .before in
-    let c14 = c10 .before .before .before .before in
-    let c15 = c14 .before in
-    let entry = c15 .before .before .before .before .before in
-    run-statement (entry .args .codes .now) (entry .args .words .now) (entry .args .marks .now) (entry .args .seen) (entry .args .at)
-    (entry .args .k) _ _ _ _ _ (entry .args .left) _ _ (c15 .if1 .left) (c14 .if2 .left) (c10 .if4 .taken) (c9 .place-word .ensures)
+    let c13 = c10 .before .before .before in
+    run-statement _ _ _ _ _ _ _ _ _ _ _ _ _ _ (c13 .before .if1 .left) (c13 .if2 .left) (c10 .if4 .taken) (c9 .place-word .ensures)
     (c4 .mark-at .ensures) (c7 .lay-word .ensures) (c .before .before .write-run .ensures))
-    (λ c. search needs)
+    (λ c κs. search needs)
     (λ c κs. search needs)
     (λ c. search needs)
     (λ c κs. search needs)
-    (λ c. search needs)
-    (λ c. search needs)
-    (λ c κs. search needs)
-    (λ c. search needs)
     (λ c. search needs)
     (λ c.
-    let entry = c .before .before .before .before .before .before .before .before .before .before .before .before .before .before .before .before in
+    let entry = c .before .before .before .before .before .before .before .before .before .before .before .before .before .before .before in
     let h : (c .before .before .write-block .result) ≤ length (entry .args .out .now) = (c .before .before .write-block .ensures .inside) in
     search (needs, h, (entry .good .1 .1 .1 .1 .1 .1 .1 .0)))
     (λ c. search needs)
@@ -220,24 +187,17 @@ pub +write-block+write-run-spec : {M : Type 1} → statement M
     (λ c. search needs)
     (λ c κs. search needs)
     (λ c.
-    let c6 = c .before .before .before .before .before .before in
-    let entry = c6 .before .before .before .before .before .before .before .before .before .before .before .before .before .before in
-    omega (
-      arith,
-      lays-inside _ _ (entry .args .out .now) _ _ _ _ (c6 .write-block .ensures) (c .before .before .write-run2 .ensures .lays),
-      (entry .good .1 .1 .1 .1 .1 .1 .1 .0),
-    ))
+    let first = c .before .before .before .before .before .before in
+    let entry = first .before .before .before .before .before .before .before .before .before .before .before .before .before in
+    let room = entry .good .1 .1 .1 .1 .1 .1 .1 .0 in
+    omega (arith, lays-inside _ _ (entry .args .out .now) _ _ _ _ (first .write-block .ensures) (c .before .before .write-run2 .ensures .lays), room))
     (λ c. search needs)
     (λ c.
     let c6 = c .before .before .before .before .before .before in
     let c8 = c6 .before .before in
     let c9 = c8 .before in
     let c10 = c9 .before in
-    let c12 = c10 .before .before in
-    let c14 = c12 .before .before in
-    let c15 = c14 .before in
-    let entry = c15 .before .before .before .before .before in
-    run-block (entry .args .codes .now) (entry .args .words .now) (entry .args .marks .now) (entry .args .seen) (entry .args .at)
-    (entry .args .k) _ _ _ _ _ (entry .args .left) (c9 .count-place .result) (c8 .count-run .result) (c15 .if1 .left) (c14 .if2 .left)
-    (c12 .if3 .left) (c10 .if4 .left) (c9 .count-place .ensures) (c8 .count-run .ensures) (c6 .write-block .ensures)
-    (c .before .before .write-run2 .ensures))
+    let c11 = c10 .before in
+    let c13 = c11 .before .before in
+    run-block _ _ _ _ _ _ _ _ _ _ _ _ _ _ (c13 .before .if1 .left) (c13 .if2 .left) (c11 .if3 .left) (c10 .if4 .left)
+    (c9 .count-place .ensures) (c8 .count-run .ensures) (c6 .write-block .ensures) (c .before .before .write-run2 .ensures))

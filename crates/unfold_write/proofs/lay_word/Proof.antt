@@ -13,14 +13,8 @@ use Rattle.unfold_write.proofs.lay_word.Lts as lts
 returns : tie.Need-returns
 returns c = lays-none _ _ (c .if1 .taken)
 
-slice-write-out : tie.Need-slice-write-out
-slice-write-out c = search needs
-
-same-length : tie.Need-same-length
-same-length c = search needs
-
 returns-2 : tie.Need-returns-2
 returns-2 c = lays-one _ _ (c .if1 .left)
 
 pub lay-word-spec : {M : Type 1} → statement M
-lay-word-spec = tie.close (tie.spec returns slice-write-out same-length returns-2)
+lay-word-spec = tie.close (tie.spec returns (λ c. search needs) (λ c. search needs) returns-2)

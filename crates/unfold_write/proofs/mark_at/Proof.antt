@@ -13,14 +13,5 @@ use Rattle.unfold_write.proofs.mark_at.Lts as lts
 returns : tie.Need-returns
 returns c = sym (List·getD-eq-default (c .before .args .marks .now) 0 {n = c .before .args .at} (c .if1 .taken))
 
-mul-result : tie.Need-mul-result
-mul-result c = search needs
-
-shared-slice-read-result : tie.Need-shared-slice-read-result
-shared-slice-read-result c = search needs
-
-returns-2 : tie.Need-returns-2
-returns-2 c = search needs
-
 pub mark-at-spec : {M : Type 1} → statement M
-mark-at-spec = tie.close (tie.spec returns mul-result shared-slice-read-result returns-2)
+mark-at-spec = tie.close (tie.spec returns (λ c. search needs) (λ c. search needs) (λ c. search needs))

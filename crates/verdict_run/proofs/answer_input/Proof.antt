@@ -6,14 +6,8 @@ use Rattle.verdict_run.specs.Answered.{Answered}
 use Rattle.verdict_run.proofs.answer_input.Statement.{statement}
 use Rattle.verdict_run.proofs.answer_input.Tie as tie
 
-slice-aggregate-answer-with : tie.Need-slice-aggregate-answer-with
-slice-aggregate-answer-with c = search needs
-
-answer-with-requires : tie.Need-answer-with-requires
-answer-with-requires c κs = search needs
-
 returns : tie.Need-returns
 returns c = subst (λ (n : ℕ). Answered n (c .before .answer-with .result)) (search needs) (c .before .answer-with .ensures)
 
 pub answer-input-spec : {M : Type 1} → statement M
-answer-input-spec = tie.close (tie.spec slice-aggregate-answer-with answer-with-requires returns)
+answer-input-spec = tie.close (tie.spec (λ c. search needs) (λ c κs. search needs) returns)

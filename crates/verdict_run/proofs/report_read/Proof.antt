@@ -15,12 +15,6 @@ slice-aggregate-report-of c =
     let fits = read-fits {size = length (c .before .before .args .area .now)} (c .before .before .args .read) (p .1 .0) (p .1 .1) in
     first-bytes (c .before .before .args .area .now) (omega (arith, fits, p .1 .2))
 
-report-of-requires : tie.Need-report-of-requires
-report-of-requires c κs = search needs
-
-array-share-prefix-bytes : tie.Need-array-share-prefix-bytes
-array-share-prefix-bytes c = search needs
-
 slice-aggregate-show : tie.Need-slice-aggregate-show
 slice-aggregate-show c =
     let e = c .before .before .report-of .ensures in
@@ -34,16 +28,13 @@ show-requires c κs =
     report-shown (start .args .read) (start .pre .0) (start .pre .1 .0) (start .pre .1 .1)
     (subst (λ (n : ℕ). Report (take n (start .args .area .now)) bytes) (start .pre .1 .2) (r .ensures .report))
 
-returns : tie.Need-returns
-returns c = search needs
-
 pub report-read-spec : {M : Type 1} → statement M
 report-read-spec =
     tie.close
     (tie.spec
     slice-aggregate-report-of
-    report-of-requires
-    array-share-prefix-bytes
+    (λ c κs. search needs)
+    (λ c. search needs)
     slice-aggregate-show
     show-requires
-    returns)
+    (λ c. search needs))

@@ -24,18 +24,6 @@ same-length c = c .before .before .loop .inv .2 .size
 returns : tie.Need-returns Inv-loop μ-loop
 returns c = cleared-past (c .if1 .taken) (c .before .loop-test .taken) (c .before .before .loop .inv .2)
 
-mul-words : tie.Need-mul-words Inv-loop μ-loop
-mul-words c = search needs
-
-slice-write-words : tie.Need-slice-write-words Inv-loop μ-loop
-slice-write-words c = search needs
-
-add-i : tie.Need-add-i Inv-loop μ-loop
-add-i c = search needs
-
-loop-less : tie.Need-loop-less Inv-loop μ-loop
-loop-less c = search needs
-
 loop-again : tie.Need-loop-again Inv-loop μ-loop
 loop-again c =
     let inv = c .before .before .loop .inv in
@@ -56,10 +44,10 @@ clear-spec =
     loop-holds
     same-length
     returns
-    mul-words
-    slice-write-words
-    add-i
-    loop-less
+    (λ c. search needs)
+    (λ c. search needs)
+    (λ c. search needs)
+    (λ c. search needs)
     loop-again
     same-length-2
     returns-2)

@@ -17,11 +17,5 @@ returns c =
     let small : c .before .args .word < 2 ^ 64 = search needs in
     sym (ap (λ (y : ℕ). eqb (y % 2) 1) (div-eq-of-lt (lt-of-lt-of-le small (pow-mono (c .if1 .taken)))))
 
-shr-result : tie.Need-shr-result
-shr-result c = search needs
-
-returns-2 : tie.Need-returns-2
-returns-2 c = search needs
-
 pub has-bit-spec : {M : Type 1} → statement M
-has-bit-spec = tie.close (tie.spec returns shr-result returns-2)
+has-bit-spec = tie.close (tie.spec returns (λ c. search needs) (λ c. search needs))

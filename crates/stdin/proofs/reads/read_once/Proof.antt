@@ -7,15 +7,6 @@ use Rattle.stdin.specs.ReadsLaws.{one-brought}
 use Rattle.stdin.proofs.reads.read_once.Statement.{statement}
 use Rattle.stdin.proofs.reads.read_once.Tie as tie
 
-read-requires : tie.Need-read-requires
-read-requires c κs = search needs
-
-count-requires : tie.Need-count-requires
-count-requires c κs = search needs
-
-same-length : tie.Need-same-length
-same-length c = search needs
-
 returns : tie.Need-returns
 returns c =
     let r = c .before .before .before .before in
@@ -23,4 +14,4 @@ returns c =
     (r .read .ensures) (c .count .ensures .1)
 
 pub read-once-spec : {M : Type 1} → statement M
-read-once-spec = tie.close (tie.spec read-requires count-requires same-length returns)
+read-once-spec = tie.close (tie.spec (λ c κs. search needs) (λ c κs. search needs) (λ c. search needs) returns)

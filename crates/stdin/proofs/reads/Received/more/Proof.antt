@@ -13,21 +13,6 @@ use Rattle.stdin.proofs.reads.Received.more.Tie as tie
 returns : tie.Need-returns
 returns c = no-more _ _ (c .if1 .taken)
 
-sub-room : tie.Need-sub-room
-sub-room c = search needs
-
-sub-read-once : tie.Need-sub-read-once
-sub-read-once c = search needs
-
-part-read-once-start : tie.Need-part-read-once-start
-part-read-once-start c = search needs
-
-part-read-once-end : tie.Need-part-read-once-end
-part-read-once-end c = search needs
-
-read-once-requires : tie.Need-read-once-requires
-read-once-requires c κs = search needs
-
 add-t6 : tie.Need-add-t6
 add-t6 c =
     let r = c .before .before .before in
@@ -35,9 +20,6 @@ add-t6 c =
     let fits = brought-fits (r .read-once .ensures) in
     let part = mid-len (r .before .before .before .before .args .self .count) (length bytes) bytes (omega arith) in
     record { fits = omega (arith, fits, part, r .before .before .if1 .left) }
-
-same-length : tie.Need-same-length
-same-length c = search needs
 
 returns-2 : tie.Need-returns-2
 returns-2 c =
@@ -55,11 +37,11 @@ more-spec =
     tie.close
     (tie.spec
     returns
-    sub-room
-    sub-read-once
-    part-read-once-start
-    part-read-once-end
-    read-once-requires
+    (λ c. search needs)
+    (λ c. search needs)
+    (λ c. search needs)
+    (λ c. search needs)
+    (λ c κs. search needs)
     add-t6
-    same-length
+    (λ c. search needs)
     returns-2)

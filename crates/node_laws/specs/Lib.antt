@@ -1,0 +1,3 @@
+pub mod FromLines
+pub mod FromLinks
+pub mod GivenNodes

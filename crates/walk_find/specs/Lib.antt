@@ -1,5 +1,0 @@
-pub mod TableWalk
-pub mod WayLaws
-pub mod LowestLaws
-pub mod WalkLaws
-pub mod ShowLaws

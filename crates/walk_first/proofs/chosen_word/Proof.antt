@@ -1,0 +1,48 @@
+-- The word stands where both nodes are among the nodes, else 0.
+use Rattle.walk_first.specs.FirstSteps.{chosenWord}
+use native.Mathlib.Omega.{arith}
+use mathlib.Core.Path.{_≡_, refl, ap, sym, _∙_}
+use Prim.Native.Nat.{ℕ, _+_, _-_, _*_, _≤_, _<_}
+use lib.ListN.{length, set, getD, length-set, take, drop}
+use borrow.Author.Needs.{needs}
+use Rattle.walk_first.proofs.chosen_word.Statement.{statement}
+use Rattle.walk_first.proofs.chosen_word.Tie as tie
+use Rattle.walk_first.proofs.chosen_word.Reads as reads
+use Rattle.walk_first.proofs.chosen_word.Lts as lts
+use Rattle.word_list.proofs.has_bit.Reads as has-bit-reads
+
+has-bit-requires : tie.Need-has-bit-requires
+has-bit-requires c κs = search needs
+
+has-bit-requires-2 : tie.Need-has-bit-requires-2
+has-bit-requires-2 c κs = search needs
+
+mul-result : tie.Need-mul-result
+mul-result c = search needs
+
+element-copy-out-result : tie.Need-element-copy-out-result
+element-copy-out-result c = search needs
+
+returns : tie.Need-returns
+unfolding chosenWord
+returns c = simp (← c .before .before .before .before .has-bit .ensures, c .before .before .before .if1 .taken, ← c .before .before .has-bit2 .ensures, c .before .if2 .taken)
+
+returns-2 : tie.Need-returns-2
+unfolding chosenWord
+returns-2 c = simp (← c .before .before .before .has-bit .ensures, c .before .before .if1 .taken, ← c .before .has-bit2 .ensures, c .if2 .left)
+
+returns-3 : tie.Need-returns-3
+unfolding chosenWord
+returns-3 c = simp (← c .before .has-bit .ensures, c .if1 .left)
+
+pub chosen-word-spec : {M : Type 1} → statement M
+chosen-word-spec =
+    tie.close
+    (tie.spec
+    has-bit-requires
+    has-bit-requires-2
+    mul-result
+    element-copy-out-result
+    returns
+    returns-2
+    returns-3)

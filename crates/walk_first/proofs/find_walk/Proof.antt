@@ -1,0 +1,64 @@
+-- An area that is too short is refused (answer-short); what is searched, among the nodes of the word, is answered (answer-searched).
+use Rattle.walk_first.specs.AnswerLaws.{answer-short, answer-searched, searched-every, searched-some}
+use native.Mathlib.Omega.{arith}
+use mathlib.Core.Path.{_≡_, refl, ap, sym, _∙_}
+use Prim.Native.Nat.{ℕ, _+_, _-_, _*_, _≤_, _<_}
+use lib.ListN.{length, set, getD, length-set, take, drop}
+use borrow.Author.Needs.{needs}
+use Rattle.walk_first.proofs.find_walk.Statement.{statement}
+use Rattle.walk_first.proofs.find_walk.Tie as tie
+use Rattle.walk_first.proofs.find_walk.Reads as reads
+use Rattle.walk_first.proofs.find_walk.Lts as lts
+use Rattle.walk_first.proofs.chosen_words.Reads as chosen-words-reads
+use Rattle.walk_first.proofs.search.Reads as search-reads
+
+returns : tie.Need-returns
+returns c = answer-short _ _ _ _ _ (c .if1 .taken)
+
+search-requires : tie.Need-search-requires
+search-requires c κs = search needs
+
+same-length : tie.Need-same-length
+same-length c = search needs
+
+returns-2 : tie.Need-returns-2
+returns-2 c = let c6 = c .before .before .before .before .before .before in answer-searched _ _ _ _ _ (c6 .before .if1 .left) (searched-every _ _ _ _ _ (c6 .if2 .taken) (c .before .before .search .ensures))
+
+chosen-words-requires : tie.Need-chosen-words-requires
+chosen-words-requires c κs = search needs
+
+chosen-words-requires-2 : tie.Need-chosen-words-requires-2
+chosen-words-requires-2 c κs = search needs
+
+slice-aggregate-search : tie.Need-slice-aggregate-search
+slice-aggregate-search c = search needs
+
+slice-aggregate-search-2 : tie.Need-slice-aggregate-search-2
+slice-aggregate-search-2 c = search needs
+
+search-requires-2 : tie.Need-search-requires-2
+search-requires-2 c κs = search needs
+
+same-length-2 : tie.Need-same-length-2
+same-length-2 c = search needs
+
+returns-3 : tie.Need-returns-3
+returns-3 c = let c7 = c .before .before .before .before .before .before .before in
+    answer-searched _ _ _ _ _ (c7 .before .before .if1 .left)
+    (searched-some _ _ _ _ _ (c7 .before .if2 .left) (c7 .chosen-words .ensures) (c .before .before .before .before .before .before .chosen-words2 .ensures) (c .before .before .search2 .ensures))
+
+pub find-walk-spec : {M : Type 1} → statement M
+find-walk-spec =
+    tie.close
+    (tie.spec
+    returns
+    search-requires
+    same-length
+    returns-2
+    chosen-words-requires
+    chosen-words-requires-2
+    slice-aggregate-search
+    slice-aggregate-search-2
+    search-requires-2
+    same-length-2
+    returns-3)

@@ -1,0 +1,68 @@
+-- The needs, the limits, the least word, its step and the phase after it are those of `taken` and `goingOn` (taking).
+use Rattle.walk_first.specs.TakingLaws.{taking}
+use native.Mathlib.Omega.{arith}
+use mathlib.Core.Path.{_≡_, refl, ap, sym, _∙_}
+use Prim.Native.Nat.{ℕ, _+_, _-_, _*_, _≤_, _<_}
+use lib.ListN.{length, set, getD, length-set, take, drop}
+use borrow.Author.Needs.{needs}
+use Rattle.walk_first.proofs.take_step.Statement.{statement}
+use Rattle.walk_first.proofs.take_step.Tie as tie
+use Rattle.walk_first.proofs.take_step.Reads as reads
+use Rattle.walk_first.proofs.take_step.Lts as lts
+use Rattle.walk_first.proofs.flow_word.Reads as flow-word-reads
+use Rattle.walk_first.proofs.going_after.Reads as going-after-reads
+use Rattle.walk_first.proofs.opens_at.Reads as opens-at-reads
+use Rattle.walk_first.proofs.put_words.Reads as put-words-reads
+use Rattle.walk_need.proofs.limits_in.Reads as limits-in-reads
+use Rattle.walk_need.proofs.needs_in.Reads as needs-in-reads
+use Rattle.walk_step.proofs.least_step.Reads as least-step-reads
+use Rattle.walk_step.proofs.step_of.Reads as step-of-reads
+
+needs-in-requires : tie.Need-needs-in-requires
+needs-in-requires c κs = search needs
+
+limits-in-requires : tie.Need-limits-in-requires
+limits-in-requires c κs = search needs
+
+least-step-requires : tie.Need-least-step-requires
+least-step-requires c κs = search needs
+
+step-of-requires : tie.Need-step-of-requires
+step-of-requires c κs = search needs
+
+flow-word-requires : tie.Need-flow-word-requires
+flow-word-requires c κs = search needs
+
+put-words-requires : tie.Need-put-words-requires
+put-words-requires c κs = search needs
+
+opens-at-requires : tie.Need-opens-at-requires
+opens-at-requires c κs = search needs
+
+going-after-requires : tie.Need-going-after-requires
+going-after-requires c κs = search needs
+
+same-length : tie.Need-same-length
+same-length c = search needs
+
+returns : tie.Need-returns
+returns c = let c4 = c .before .before .before .before in
+    let c7 = c4 .before .before .before in
+    let c11 = c7 .before .before .before .before in
+    taking _ _ _ _ _ _ _ _ _ _ _ _ (c11 .before .needs-in .ensures) (c11 .limits-in .ensures) (c7 .before .least-step .ensures) (c7 .step-of .ensures)
+    (c4 .before .flow-word .ensures) (c4 .put-words .ensures) (c .before .opens-at .ensures) (c .going-after .ensures)
+
+pub take-step-spec : {M : Type 1} → statement M
+take-step-spec =
+    tie.close
+    (tie.spec
+    needs-in-requires
+    limits-in-requires
+    least-step-requires
+    step-of-requires
+    flow-word-requires
+    put-words-requires
+    opens-at-requires
+    going-after-requires
+    same-length
+    returns)

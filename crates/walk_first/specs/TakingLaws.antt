@@ -1,0 +1,140 @@
+-- Step after step: what is taken and written, one law for each path of the code.
+use mathlib.Core.Path.{_≡_, refl, sym, ap, ap₂, subst, _∙_}
+use mathlib.Core.Bool.{Bool, true, false, cond}
+use mathlib.Core.List.{List, [], _∷_}
+use Prim.Native.Nat.{ℕ, zero, suc, _+_, _-_, _*_, _≤_, _<_}
+use native.Mathlib.Numerals.{add-one}
+use native.Mathlib.Omega.{arith}
+use lib.ListN.{length, length-set}
+use Rattle.spec_graph.specs.Walk.{Step}
+use Rattle.spec_report.specs.Area.{flowWord}
+use Rattle.pick_laws.specs.declared.Going.{Going}
+use Rattle.pick_laws.specs.Demands.{goingAfter}
+use Rattle.walk_need.specs.Needs.{needsOf, limitsOf}
+use Rattle.walk_reach.specs.Layers.{joinedRows}
+use Rattle.walk_lead.specs.Leads.{leadRows, shortestReturn, returnIn, wrapStart}
+use Rattle.walk_ways.specs.Ways.{waysTo, openings, firstStart, widestTable}
+use Rattle.walk_step.specs.declared.Taken.{Taken}
+use Rattle.walk_step.specs.StepWord.{flowOf, stepOf}
+use Rattle.walk_step.specs.LeastStep.{leastStep}
+use mathlib.Core.Option.{Option, none, some}
+use Rattle.walk_first.specs.FirstSteps.{Prepared, prepared, opensAt, taken, stepTaken, goingOn, stepsFrom, startOf, preparedFor, walkOf}
+use Rattle.walk_first.specs.FirstSteps.{putWords, putStep, putSteps, TakenAs, Searched}
+use Rattle.walk_first.specs.FirstSteps.Searched.{nothing, walked}
+
+-- a flow as the area has it
+flow-word : (b : Bool) → flowWord (flowOf b) ≡ cond b 1 0
+flow-word true = refl
+flow-word false = refl
+
+-- a step is taken and written
+pub taking : (table backs ways opened wide : List ℕ) (s nodes r : ℕ) (going : Going) (x k : ℕ) (before : List ℕ)
+    {needs limits after : List ℕ} {word flow opens : ℕ} {t : Taken} {next : Going}
+    → needs ≡ needsOf backs ways opened wide s nodes r going → limits ≡ limitsOf ways wide nodes r going → word ≡ leastStep table x needs limits
+    → t ≡ stepOf word → flow ≡ cond (t .back) 1 0 → after ≡ putWords before k x (t .leaves) (t .enters) flow
+    → opens ≡ opensAt table x (t .leaves) (t .enters) → next ≡ goingAfter going (t .back) opens (t .leaves)
+    → TakenAs table backs (prepared nodes s ways opened wide) r going x k before after (t .into) next
+unfolding taken putStep goingOn
+taking table backs ways opened wide s nodes r going x k before {needs} {limits} {after} {word} {flow} {opens} {t} {next} a b c d e f h i =
+    record {
+      area =
+          f ∙ ap (putWords before k x (t .leaves) (t .enters)) (e ∙ sym (flow-word (t .back)))
+          ∙ ap (λ (u : Taken). putWords before k x (u .leaves) (u .enters) (flowWord (flowOf (u .back)))) same;
+      entered = ap (λ (u : Taken). u .into) same;
+      phase =
+          i ∙ ap (λ (o : ℕ). goingAfter going (t .back) o (t .leaves)) h
+          ∙ ap (λ (u : Taken). goingAfter going (u .back) (opensAt table x (u .leaves) (u .enters)) (u .leaves)) same;
+    }
+  where
+    same : t ≡ stepOf (leastStep table x (needsOf backs ways opened wide s nodes r going) (limitsOf ways wide nodes r going))
+    same = d ∙ ap stepOf (c ∙ ap₂ (leastStep table x) a b)
+
+-- a store of a step leaves the length
+length-step : (area : List ℕ) (k : ℕ) (s : Step) → length (putStep area k s) ≡ length area
+unfolding putStep putWords
+length-step area k s = rw (length-set, length-set, length-set, length-set) refl
+
+-- what holds in each turn of the writing of a walk
+pub record PutTurn (table backs : List ℕ) (p : Prepared) (steps : ℕ) (before area : List ℕ) (node : ℕ) (going : Going) (k : ℕ) : Type 0 where
+  pub few : k ≤ steps
+  pub long : length area ≡ length before
+  pub written : putSteps area k (stepsFrom table backs p (steps - k) going node)
+      ≡ putSteps before 0 (stepsFrom table backs p steps Going.Starting (p .start))
+
+module _ (table backs : List ℕ) (p : Prepared) (steps : ℕ) (before : List ℕ) where
+  pub put-start : PutTurn table backs p steps before before (p .start) Going.Starting 0
+  put-start =
+      let all : steps - 0 ≡ steps = omega arith in
+      record {
+        few = omega arith;
+        long = refl;
+        written = ap (λ (n : ℕ). putSteps before 0 (stepsFrom table backs p n Going.Starting (p .start))) all;
+      }
+
+  pub put-turn : {area after : List ℕ} {node k entered r : ℕ} {going next : Going} → PutTurn table backs p steps before area node going k
+      → k < steps → r ≡ steps - 1 - k → TakenAs table backs p r going node k area after entered next
+      → PutTurn table backs p steps before after entered next (k + 1)
+  unfolding stepsFrom putSteps
+  put-turn {area} {after} {node} {k} {entered} {r} {going} {next} turn h e t =
+      record {
+        few = omega arith;
+        long = let l = turn .long in let m = length-step area k (stepTaken node step) in let same = ap length (t .area) in omega arith;
+        written =
+            ap (λ (n : ℕ). putSteps after (k + 1) (stepsFrom table backs p n next entered)) fewer
+            ∙ rw add-one refl
+            ∙ ap₂ (λ (g : Going) (x : ℕ). putSteps after (suc k) (stepsFrom table backs p r g x)) (t .phase) (t .entered)
+            ∙ ap (λ (a : List ℕ). putSteps a (suc k) (stepsFrom table backs p r (goingOn table going node step) (step .into))) (t .area)
+            ∙ ap (λ (n : ℕ). putSteps area k (stepsFrom table backs p n going node)) (sym left)
+            ∙ turn .written;
+      }
+    where
+      step : Taken
+      step = taken table backs p r going node
+
+      left : steps - k ≡ suc r
+      left = omega arith
+
+      fewer : steps - (k + 1) ≡ r
+      fewer = omega arith
+
+  pub put-end : {area : List ℕ} {node k : ℕ} {going : Going} → PutTurn table backs p steps before area node going k → steps ≤ k
+      → area ≡ putSteps before 0 (stepsFrom table backs p steps Going.Starting (p .start))
+  unfolding stepsFrom putSteps
+  put-end {area} {node} {k} {going} turn h =
+      let last : 0 ≡ steps - k = omega arith in
+      ap (λ (n : ℕ). putSteps area k (stepsFrom table backs p n going node)) last ∙ turn .written
+
+-- the walk has as many steps as are taken
+pub steps-length : (table backs : List ℕ) (p : Prepared) (r : ℕ) (going : Going) (x : ℕ) → length (stepsFrom table backs p r going x) ≡ r
+unfolding stepsFrom
+steps-length table backs p zero going x = refl
+steps-length table backs p (suc r) going x = ap suc (steps-length table backs p r _ _)
+
+-- ---- the search
+
+module _ (table forwards backs : List ℕ) (nodes : ℕ) (before : List ℕ) {rows leads : List ℕ} {d : ℕ} (a : rows ≡ joinedRows forwards)
+    (b : leads ≡ leadRows forwards backs) (c : d ≡ shortestReturn rows leads) where
+  return-same : d ≡ returnIn forwards backs
+  return-same = c ∙ ap₂ shortestReturn a b
+
+  pub search-none : 64 ≤ d → Searched table forwards backs nodes before none none before
+  search-none h = let same = return-same in nothing (omega arith)
+
+  pub search-found : {later s : ℕ} {ways opened wide after : List ℕ} → d < 64 → later ≡ firstStart rows leads (d + 2)
+      → s ≡ wrapStart forwards backs rows d later → ways ≡ waysTo rows s (d + 2) → opened ≡ openings rows leads ways (d + 2)
+      → wide ≡ widestTable forwards rows s (d + 1)
+      → after ≡ putSteps before 0 (stepsFrom table backs (prepared nodes s ways opened wide) (d + 2) Going.Starting s)
+      → Searched table forwards backs nodes before (some (d + 2)) none after
+  unfolding walkOf startOf preparedFor
+  search-found {later} {s} {ways} {opened} {wide} {after} h e f i j k l =
+      let same = return-same in
+      subst (λ (t : List ℕ). Searched table forwards backs nodes before (some (d + 2)) none t) (sym (l ∙ ap (putSteps before 0) walk))
+      (subst
+      (λ (n : ℕ). Searched table forwards backs nodes before (some (n + 2)) none (putSteps before 0 (walkOf table forwards backs nodes n)))
+      (sym same) (walked (omega arith)))
+    where
+      start : s ≡ startOf forwards backs d
+      start = rw (f, e, a, b) refl
+
+      walk : stepsFrom table backs (prepared nodes s ways opened wide) (d + 2) Going.Starting s ≡ walkOf table forwards backs nodes d
+      walk = rw (k, j, i, a, b) (ap (λ (z : ℕ). stepsFrom table backs (preparedFor forwards backs nodes d z) (d + 2) Going.Starting z) start)
