@@ -40,11 +40,17 @@ slice-aggregate-pick-edges c =
 pick-edges-requires : tie.Need-pick-edges-requires
 pick-edges-requires c κs = search needs
 
-slice-aggregate-find-walk : tie.Need-slice-aggregate-find-walk
-slice-aggregate-find-walk c = search needs
+array-share-prefix-table-2 : tie.Need-array-share-prefix-table-2
+array-share-prefix-table-2 c =
+    let chosen = c .before .before .before .before .before in
+    let inside = whole-filled (chosen .before .before .fill-rows .ensures) (chosen .f2 .given .1) .inside in
+    omega arith
 
-slice-aggregate-find-walk-2 : tie.Need-slice-aggregate-find-walk-2
-slice-aggregate-find-walk-2 c = search needs
+slice-aggregate-find-walk : tie.Need-slice-aggregate-find-walk
+slice-aggregate-find-walk c =
+    let chosen = c .before .before .before .before .before .before in
+    let inside = whole-filled (chosen .before .before .fill-rows .ensures) (chosen .f2 .given .1) .inside in
+    sym (length-take-le _ _ (omega arith))
 
 find-walk-requires : tie.Need-find-walk-requires
 find-walk-requires c κs = search needs
@@ -57,10 +63,11 @@ same-length c = search needs
 
 returns-2 : tie.Need-returns-2
 returns-2 c =
-    let picking = c .before .before .before .before .before .before .before .before .before in
-    let filling = picking .before .before .before .before .before in
-    judged-picked _ _ _ _ _ _ _ _ _ _ (whole-filled (filling .fill-rows .ensures) (picking .before .before .before .f2 .given .1))
-    (picking .pick-edges .ensures) (c .before .before .before .find-walk .ensures) (c .judged .ensures)
+    let walking = c .before .before .before in
+    let picking = walking .before .before .before .before .before .before .before in
+    let chosen = picking .before .before .before in
+    judged-picked _ _ _ _ _ _ _ _ _ _ (whole-filled (chosen .before .before .fill-rows .ensures) (chosen .f2 .given .1))
+    (picking .pick-edges .ensures) (walking .find-walk .ensures) (c .judged .ensures)
 
 pub verdict-of-spec : {M : Type 1} → statement M
 verdict-of-spec =
@@ -74,8 +81,8 @@ verdict-of-spec =
     array-share-prefix-table
     slice-aggregate-pick-edges
     pick-edges-requires
+    array-share-prefix-table-2
     slice-aggregate-find-walk
-    slice-aggregate-find-walk-2
     find-walk-requires
     judged-requires
     same-length
