@@ -6,6 +6,7 @@ use unfold_laws::UNFOLDINGS;
 ghost use mathlib.Core.Bool.{cond};
 ghost use mathlib.Core.Path.{_≡_};
 ghost use Rattle.pick_laws.specs.Pick.{dangerousPicks};
+ghost use Rattle.pick_laws.specs.Completing.{opensBelow};
 ghost use Rattle.edge_word.specs.Coding.{forwardWord, backWord, forwardEdge, backEdge, forwardPick, backPick};
 
 // The nodes of a table, and the pairs of them: the word for the edge from u to v stands at u * 64 + v.
@@ -66,6 +67,20 @@ pub fn back_edge(y: u64) -> Pick
         enters: y % PLACES,
         loose: true,
     }
+}
+
+// W4: a back edge that leaves at a place below this is dangerous after the forward edge of the word; 0 for no edge.
+pub fn opens_below(word: u64) -> u64
+    ensures { λ r. ⌜ r ≡ opensBelow (forwardPick word) ⌝ }
+{
+    if word == 0 {
+        return 0;
+    }
+    let e = forward_edge(word);
+    if e.loose {
+        return PLACES;
+    }
+    e.enters
 }
 
 // Whether the forward edge of word x and the back edge of word y after it are dangerous (W4): the back edge leaves at an earlier place than the

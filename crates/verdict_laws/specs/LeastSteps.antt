@@ -13,9 +13,9 @@ use Rattle.spec_report.specs.State.{statementsIn}
 use Rattle.place_row.specs.declared.Row.{Row}
 use Rattle.place_row.specs.RowTable.{rowOf, rowsOf, rowStands, tableRows}
 use Rattle.place_row.specs.RowTableLaws.{KeysSmall}
-use Rattle.walk_step.specs.declared.Taken.{Taken}
-use Rattle.walk_step.specs.StepWord.{flowOf, stepWord, stepOf}
-use Rattle.walk_step.specs.StepWordLaws.{word-step, flow-back}
+use Rattle.step_word.specs.declared.Taken.{Taken}
+use Rattle.step_word.specs.StepWord.{flowOf, stepWord, stepOf}
+use Rattle.step_word.specs.StepWordLaws.{word-step, flow-back}
 use Rattle.walk_step.specs.LeastStep.{Counts, leastStep}
 use Rattle.walk_step.specs.Tabled.{FoundStep}
 use Rattle.walk_step.specs.LeastStepLaws.{RowStep, counts-same, least-found, least-least}

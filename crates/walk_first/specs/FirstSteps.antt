@@ -23,8 +23,8 @@ use Rattle.walk_reach.specs.Layers.{joinedRows}
 use Rattle.walk_lead.specs.Leads.{leadRows, returnIn, wrapStart}
 use Rattle.walk_ways.specs.Ways.{filled, waysTo, openings, firstStart, widestTable}
 use Rattle.walk_need.specs.Needs.{needsOf, limitsOf}
-use Rattle.walk_step.specs.declared.Taken.{Taken}
-use Rattle.walk_step.specs.StepWord.{flowOf, stepOf}
+use Rattle.step_word.specs.declared.Taken.{Taken}
+use Rattle.step_word.specs.StepWord.{flowOf, stepOf}
 use Rattle.walk_step.specs.LeastStep.{looseAt, leastStep}
 use Rattle.walk_step.specs.Tabled.{Tabled}
 

@@ -31,9 +31,9 @@ use Rattle.pick_laws.specs.ChoiceLaws.{Chosen, counts-choice, Counted, finish-c
 use Rattle.edge_word.specs.Coding.{backsIn}
 use Rattle.walk_need.specs.Needs.{needsOf, limitsOf}
 use Rattle.walk_need.specs.NeedLaws.{Worked, PlaceKept, needs-at, limits-at}
-use Rattle.walk_step.specs.declared.Taken.{Taken}
-use Rattle.walk_step.specs.StepWord.{flowOf, stepWord, stepOf}
-use Rattle.walk_step.specs.StepWordLaws.{word-small, word-order}
+use Rattle.step_word.specs.declared.Taken.{Taken}
+use Rattle.step_word.specs.StepWord.{flowOf, stepWord, stepOf}
+use Rattle.step_word.specs.StepWordLaws.{word-small, word-order}
 use Rattle.walk_step.specs.LeastStepLaws.{counts-same}
 use Rattle.walk_step.specs.LeastStep.{Counts, leastStep, looseAt}
 use Rattle.walk_step.specs.Tabled.{FoundStep, Tabled}

@@ -14,8 +14,8 @@ use Rattle.walk_need.specs.Needs.{needsOf, limitsOf}
 use Rattle.walk_reach.specs.Layers.{joinedRows}
 use Rattle.walk_lead.specs.Leads.{leadRows, shortestReturn, returnIn, wrapStart}
 use Rattle.walk_ways.specs.Ways.{waysTo, openings, firstStart, widestTable}
-use Rattle.walk_step.specs.declared.Taken.{Taken}
-use Rattle.walk_step.specs.StepWord.{flowOf, stepOf}
+use Rattle.step_word.specs.declared.Taken.{Taken}
+use Rattle.step_word.specs.StepWord.{flowOf, stepOf}
 use Rattle.walk_step.specs.LeastStep.{leastStep}
 use mathlib.Core.Option.{Option, none, some}
 use Rattle.walk_first.specs.FirstSteps.{Prepared, prepared, opensAt, taken, stepTaken, goingOn, stepsFrom, startOf, preparedFor, walkOf}

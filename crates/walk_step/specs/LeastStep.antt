@@ -9,7 +9,7 @@ use Rattle.spec_graph.specs.Graph.{Flow}
 use Rattle.spec_graph.specs.Edge.{loosens}
 use Rattle.place_row.specs.declared.Row.{Row}
 use Rattle.place_row.specs.RowTable.{rowForward, rowBack, tableRows}
-use Rattle.walk_step.specs.StepWord.{stepWord, noStep}
+use Rattle.step_word.specs.StepWord.{stepWord, noStep}
 
 -- how far the forward edge between two rows opens; W4: by its kind the left row may be loose
 unfoldable pub opensTo : Row → Row → ℕ

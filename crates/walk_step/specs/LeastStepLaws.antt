@@ -14,7 +14,7 @@ use Rattle.spec_graph.specs.Graph.{Flow}
 use Rattle.spec_graph.specs.Edge.{loosens}
 use Rattle.place_row.specs.declared.Row.{Row}
 use Rattle.place_row.specs.RowTable.{rowStands, tableRows}
-use Rattle.walk_step.specs.StepWord.{stepWord}
+use Rattle.step_word.specs.StepWord.{stepWord}
 use Rattle.walk_step.specs.LeastStep.{opensTo, forwardCounts, backCounts, flowCounts, Counts, flowStep, countedStep, hasWord, pairStep}
 use Rattle.walk_step.specs.LeastStep.{leavesFrom, stepFrom, least, leastStep}
 

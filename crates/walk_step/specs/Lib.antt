@@ -1,5 +1,3 @@
-pub mod StepWord
-pub mod StepWordLaws
 pub mod LeastStep
 pub mod StepTurns
 pub mod StepTurnLaws

@@ -18,8 +18,8 @@ use Rattle.edge_kinds.specs.KindLaws.{told, answer}
 use Rattle.place_row.specs.declared.Row.{Row}
 use Rattle.place_row.specs.RowTable.{rowAt, rowCount, rowForward, rowBack, tableRows}
 use Rattle.pick_laws.specs.Completing.{leastBelow}
-use Rattle.walk_step.specs.StepWord.{stepWord}
-use Rattle.walk_step.specs.StepWordLaws.{word-small, forward-first, word-leaves}
+use Rattle.step_word.specs.StepWord.{stepWord}
+use Rattle.step_word.specs.StepWordLaws.{word-small, forward-first, word-leaves}
 use Rattle.walk_step.specs.LeastStep.{opensTo, forwardCounts, backCounts, flowCounts, flowStep, countedStep, hasWord, pairStep}
 use Rattle.walk_step.specs.LeastStep.{leavesFrom, stepFrom, least, leastStep}
 use Rattle.walk_step.specs.StepTurns.{rowLeast, fromRow, leastRows}

@@ -6,7 +6,7 @@ use Prim.Native.Nat.{ℕ, zero, suc, _<_}
 use Rattle.place_row.specs.declared.Row.{Row}
 use Rattle.place_row.specs.RowTable.{rowAt}
 use Rattle.pick_laws.specs.Completing.{leastBelow}
-use Rattle.walk_step.specs.StepWord.{noStep}
+use Rattle.step_word.specs.StepWord.{noStep}
 use Rattle.walk_step.specs.LeastStep.{pairStep, leavesFrom, looseRow}
 
 -- the least of the best word so far and those of the steps from a row to the first n rows

@@ -5,8 +5,8 @@ use mathlib.Core.Path.{_≡_}
 use Prim.Native.Nat.{ℕ, _≤_, _<_}
 use lib.ListN.{getD}
 use Rattle.spec_graph.specs.Graph.{Flow, Graph}
-use Rattle.walk_step.specs.declared.Taken.{Taken}
-use Rattle.walk_step.specs.StepWord.{flowOf, stepWord, stepOf}
+use Rattle.step_word.specs.declared.Taken.{Taken}
+use Rattle.step_word.specs.StepWord.{flowOf, stepWord, stepOf}
 use Rattle.walk_step.specs.LeastStep.{Counts, leastStep, looseAt}
 
 -- the step of a word is an edge out of x that counts, and the word is its

@@ -3,7 +3,6 @@
 
 ghost use mathlib.Core.Path.{_≡_};
 ghost use Prim.Native.Nat.{_≤_, min};
-ghost use Rattle.walk_step.specs.StepWord.{flowOf, stepWord, stepOf};
 ghost use Rattle.walk_step.specs.LeastStep.{hasWord, opensTo, forwardCounts, backCounts, countedStep, pairStep, leastStep};
 ghost use Rattle.walk_step.specs.LeastStep.{looseRow, looseAt};
 ghost use Rattle.walk_step.specs.StepTurns.{rowLeast, fromRow};
@@ -16,48 +15,9 @@ use edge_word::PLACES;
 use place_fetch::row_at;
 use place_fetch::row_count;
 use place_row::Row;
-
-// What the place left, the place entered and a back edge count in a step's word.
-const LEAVES: u64 = 131072;
-
-const ENTERS: u64 = 128;
-
-const BACK: u64 = 64;
-
-// Greater than the word of every step: no step.
-pub const NO_STEP: u64 = 134217728;
-
-// A step out of a node: the place left, the place entered, whether it is a back edge, and the node entered.
-pub struct Taken {
-    pub leaves: u64,
-    pub enters: u64,
-    pub back: bool,
-    pub into: usize,
-}
-
-// The word of a step.
-fn step_word(leaves: u64, enters: u64, back: bool, into: u64) -> u64
-    ensures { λ r. ⌜ r ≡ stepWord leaves enters (flowOf back) into ⌝ }
-{
-    let w = leaves % PLACES * LEAVES + enters % PLACES * ENTERS;
-    let y = into % NODES as u64;
-    if back {
-        return w + BACK + y;
-    }
-    w + y
-}
-
-// The step that a word stands for.
-pub fn step_of(word: u64) -> Taken
-    ensures { λ r. ⌜ r ≡ stepOf word ⌝ }
-{
-    Taken {
-        leaves: word / LEAVES % PLACES,
-        enters: word / ENTERS % PLACES,
-        back: word / BACK % 2 == 1,
-        into: (word % NODES as u64) as usize,
-    }
-}
+use step_word::LEAVES;
+use step_word::NO_STEP;
+use step_word::step_word;
 
 // Whether a word has room for a step into row q: its node is below 64 and its place below 1024.
 fn has_word(q: Row) -> bool

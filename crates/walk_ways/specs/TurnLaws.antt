@@ -86,20 +86,6 @@ module _ (rows leads : List ℕ) (steps s : ℕ) where
       (e ∙ ap (λ (l : List ℕ). getD l steps 0) (q ∙ ap (λ (l : List ℕ). openings rows leads l steps) p))
       ∙ rw (ne-eqb (getD rows s 0) 0 d) refl
 
--- ---- how far an edge opens
-
-pub opens-none : (x : ℕ) → x ≡ 0 → 0 ≡ opensBelow (forwardPick x)
-unfolding forwardPick
-opens-none x e = rw (eq-eqb x 0 e) refl
-
-pub opens-loose : (x : ℕ) {e : Pick} → (x ≡ 0 → ⊥) → e ≡ forwardEdge x → e .loose ≡ true → 1024 ≡ opensBelow (forwardPick x)
-unfolding forwardPick
-opens-loose x {e} d p t = rw (ne-eqb x 0 d, ← p, t) refl
-
-pub opens-place : (x : ℕ) {e : Pick} → (x ≡ 0 → ⊥) → e ≡ forwardEdge x → e .loose ≡ false → e .enters ≡ opensBelow (forwardPick x)
-unfolding forwardPick
-opens-place x {e} d p t = rw (ne-eqb x 0 d, ← p, t) refl
-
 -- ---- the greatest
 
 -- a turn of a loop that finds the greatest

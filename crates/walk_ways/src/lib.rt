@@ -4,15 +4,12 @@
 
 use edge_word::NODES;
 use edge_word::PAIRS;
-use edge_word::PLACES;
-use edge_word::forward_edge;
+use edge_word::opens_below;
 use word_list::has_bit;
 use word_list::word_at;
 ghost use mathlib.Core.Bool.{true, cond};
 ghost use mathlib.Core.Path.{_≡_};
 ghost use Prim.Native.Nat.{_+_, _≤_, _<_, min, max};
-ghost use Rattle.pick_laws.specs.Completing.{opensBelow};
-ghost use Rattle.edge_word.specs.Coding.{forwardPick};
 ghost use Rattle.walk_reach.specs.Layers.{withNode};
 ghost use Rattle.walk_ways.specs.Ways.{nodesInto, waysTo, nextOpening, openings, startsAt, firstStart};
 ghost use Rattle.walk_ways.specs.Ways.{greatestIn, widthInto, widestFrom, widestTable};
@@ -138,20 +135,6 @@ pub fn first_start(rows: &[u64; NODES], leads: &[u64; NODES], steps: usize) -> u
         s += 1;
     }
     NODES
-}
-
-// W4: a back edge that leaves at a place below this is dangerous after the forward edge of the word; 0 for no edge.
-pub fn opens_below(word: u64) -> u64
-    ensures { λ r. ⌜ r ≡ opensBelow (forwardPick word) ⌝ }
-{
-    if word == 0 {
-        return 0;
-    }
-    let e = forward_edge(word);
-    if e.loose {
-        return PLACES;
-    }
-    e.enters
 }
 
 // The greater of a number and, where the test passed, another.

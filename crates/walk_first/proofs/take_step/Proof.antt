@@ -16,7 +16,7 @@ use Rattle.walk_first.proofs.put_words.Reads as put-words-reads
 use Rattle.walk_need.proofs.limits_in.Reads as limits-in-reads
 use Rattle.walk_need.proofs.needs_in.Reads as needs-in-reads
 use Rattle.walk_step.proofs.least_step.Reads as least-step-reads
-use Rattle.walk_step.proofs.step_of.Reads as step-of-reads
+use Rattle.step_word.proofs.step_of.Reads as step-of-reads
 
 needs-in-requires : tie.Need-needs-in-requires
 needs-in-requires c κs = search needs

@@ -1,9 +1,9 @@
 -- The four fields are those of `stepOf`, by computation.
 use mathlib.Core.Path.{refl}
 use borrow.Author.Needs.{needs}
-use Rattle.walk_step.proofs.step_of.Statement.{statement}
-use Rattle.walk_step.proofs.step_of.Tie as tie
-use Rattle.walk_step.specs.StepWord.{stepOf}
+use Rattle.step_word.proofs.step_of.Statement.{statement}
+use Rattle.step_word.proofs.step_of.Tie as tie
+use Rattle.step_word.specs.StepWord.{stepOf}
 
 rem-t10 : tie.Need-rem-t10
 rem-t10 c = search needs

@@ -4,7 +4,7 @@ use mathlib.Core.Bool.{Bool, cond}
 use Prim.Native.Nat.{ℕ, _+_, _*_, _/_, _%_}
 use lib.Dec.{eqb}
 use Rattle.spec_graph.specs.Graph.{Flow}
-use Rattle.walk_step.specs.declared.Taken.{Taken}
+use Rattle.step_word.specs.declared.Taken.{Taken}
 use Rattle.spec_graph.specs.Walk.{flowNumber}
 
 -- a flow by whether it is back

@@ -1,9 +1,9 @@
 -- Each return is the sum that `stepWord` is for the flow; remainders keep it within a word.
 use native.Mathlib.Omega.{arith}
 use borrow.Author.Needs.{needs}
-use Rattle.walk_step.proofs.step_word.Statement.{statement}
-use Rattle.walk_step.proofs.step_word.Tie as tie
-use Rattle.walk_step.specs.StepWord.{stepWord}
+use Rattle.step_word.proofs.step_word.Statement.{statement}
+use Rattle.step_word.proofs.step_word.Tie as tie
+use Rattle.step_word.specs.StepWord.{stepWord}
 
 mul-w : tie.Need-mul-w
 mul-w c = search needs

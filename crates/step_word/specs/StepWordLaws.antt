@@ -11,7 +11,7 @@ use borrow.Author.Tests.{eq-eqb, ne-eqb, eqb-true, ltb-true}
 use Rattle.law_base.specs.BoolLaws.{false-of, true-false, or-true, and-true}
 use Rattle.spec_graph.specs.Graph.{Flow, isBack}
 use Rattle.spec_graph.specs.Walk.{flowNumber, smaller}
-use Rattle.walk_step.specs.StepWord.{flowOf, stepWord, stepOf}
+use Rattle.step_word.specs.StepWord.{flowOf, stepWord, stepOf}
 
 flow-few : (flow : Flow) → flowNumber flow ≤ 1
 flow-few Flow.forward = omega arith

@@ -1,0 +1,2 @@
+pub mod StepWord
+pub mod StepWordLaws
