@@ -7,4 +7,3 @@ pub mod ExampleText
 pub mod GraphExamples
 pub mod EdgeExamples
 pub mod FirstWalkExamples
-pub mod SmallestWalk

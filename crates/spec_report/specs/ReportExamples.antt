@@ -24,10 +24,10 @@ use Rattle.spec_graph.specs.Edge.{W, R, T, holds, sameRelation, leads, binds, g
 use Rattle.spec_graph.specs.Edge.{shared, edgeOf, edgesBetween, edgesOf, placeAt, graphOf}
 use Rattle.spec_graph.specs.Walk.{Step, isEdge, dangerousPair, isDangerous}
 use Rattle.spec_graph.specs.FirstWalkExamples.{forth, return}
-use Rattle.spec_graph.specs.SmallestWalk.{smallest-first}
 use Rattle.spec_report.specs.State.{Counts, counted, countsOf, statementsIn, tooMany, summaryGraph, Robust, StateRefusal, refusalOf}
 use Rattle.spec_report.specs.State.{shortForUnfoldings, shortForEdges, shortForWalk}
 use Rattle.spec_report.specs.State.StateRefusal.{not-given, too-many, too-short, taken}
+use Rattle.spec_report.specs.SmallestWalk.{smallest-first}
 use Rattle.spec_report.specs.Report.{verdictNames, robustWord, dangerWord, stepNames, refusedNames, decimal, verdictLine, stepLine, stepLines}
 use Rattle.spec_report.specs.Report.{refusalReport, robustReport, dangerReport, Report}
 use Rattle.spec_report.specs.Report.Report.{refusal, unfolding-refusal, robust, danger}
