@@ -1,5 +1,12 @@
 // The state that words keep, after a line.
 use line_kinds::facts_of;
+use line_state::FIRST_ARM;
+use line_state::LOOP;
+use line_state::OPEN_FIRSTS;
+use line_state::OPEN_LOOPS;
+use line_state::OPEN_PLACES;
+use line_state::OPEN_SECONDS;
+use line_state::SECOND_ARM;
 use spec_text::Line;
 use spec_text::LineKind;
 use spec_text::StatementKind;
@@ -96,7 +103,7 @@ fn take_program(words: &mut [u64])
     requires { ⌜ 424 ≤ length (now words) ⌝ }
     ensures { λ _. ⌜ Took (now (words .entry)) (now (words .exit)) (takenProgram (stateIn (now (words .entry)))) ⌝ }
 {
-    clear(words, line_state::OPEN_PLACES, line_state::LINES);
+    clear(words, OPEN_PLACES, line_state::LINES);
     count_line(words, line_state::PROGRAMS);
 }
 
@@ -120,9 +127,9 @@ fn take_statement(words: &mut [u64], rel: u8, kind: StatementKind)
 {
     let at = word_at(words, line_state::STATEMENTS);
     let depth = word_at(words, line_state::DEPTH);
-    let loops = line_state::cell(words, line_state::OPEN_LOOPS, depth);
-    let firsts = line_state::cell(words, line_state::OPEN_FIRSTS, depth);
-    let seconds = line_state::cell(words, line_state::OPEN_SECONDS, depth);
+    let loops = line_state::cell(words, OPEN_LOOPS, depth);
+    let firsts = line_state::cell(words, OPEN_FIRSTS, depth);
+    let seconds = line_state::cell(words, OPEN_SECONDS, depth);
     let fit = (facts_of(kind) & line_kinds::PARENT) / line_kinds::PARENT;
     put_cells(
         words,
@@ -161,40 +168,10 @@ fn push(words: &mut [u64], below: u64, place: u64, part: u64)
         ⌝ }
 {
     let at = next(below);
-    let loops = marked(
-        words,
-        line_state::OPEN_LOOPS,
-        below,
-        part,
-        line_state::LOOP,
-        place,
-    );
-    let firsts = marked(
-        words,
-        line_state::OPEN_FIRSTS,
-        below,
-        part,
-        line_state::FIRST_ARM,
-        place,
-    );
-    let seconds = marked(
-        words,
-        line_state::OPEN_SECONDS,
-        below,
-        part,
-        line_state::SECOND_ARM,
-        place,
-    );
-    put_cells(
-        words,
-        line_state::OPEN_PLACES,
-        at,
-        place,
-        part,
-        loops,
-        firsts,
-        seconds,
-    );
+    let loops = marked(words, OPEN_LOOPS, below, part, LOOP, place);
+    let firsts = marked(words, OPEN_FIRSTS, below, part, FIRST_ARM, place);
+    let seconds = marked(words, OPEN_SECONDS, below, part, SECOND_ARM, place);
+    put_cells(words, OPEN_PLACES, at, place, part, loops, firsts, seconds);
     count_line(words, line_state::BODY);
     words[line_state::DEPTH] = at;
 }
@@ -207,8 +184,8 @@ fn take_second(words: &mut [u64])
         ⌝ }
 {
     let depth = word_at(words, line_state::DEPTH);
-    let place = line_state::cell(words, line_state::OPEN_PLACES, depth);
-    push(words, previous(depth), place, line_state::SECOND_ARM);
+    let place = line_state::cell(words, OPEN_PLACES, depth);
+    push(words, previous(depth), place, SECOND_ARM);
 }
 
 // The innermost block closed.
@@ -248,8 +225,8 @@ fn take_kind(words: &mut [u64], kind: LineKind, reads: u64, rel: u8, to: u8)
         LineKind::Fk => take_key(words, rel, to),
         LineKind::Pr => take_program(words),
         LineKind::St(j) => take_statement(words, rel, j),
-        LineKind::Lo => take_opening(words, line_state::LOOP),
-        LineKind::Br => take_opening(words, line_state::FIRST_ARM),
+        LineKind::Lo => take_opening(words, LOOP),
+        LineKind::Br => take_opening(words, FIRST_ARM),
         LineKind::El => take_second(words),
         LineKind::En => take_closing(words),
         LineKind::Li => count_line(words, line_state::LINKS),
