@@ -1,15 +1,14 @@
 -- A step that counts is a choice, and where the walk can be completed some step counts.
-use mathlib.Core.Path.{_≡_, refl, sym, ap, subst, _∙_}
-use mathlib.Core.Bool.{Bool, true, false, cond, not, _&&_, _||_, false≢true}
-use mathlib.Core.Logic.{_⊎_, inl, inr}
-use mathlib.Core.Option.{Option, none, some, Option·none-ne-some}
-use Prim.Native.Nat.{ℕ, zero, suc, _+_, _≤_, _<_, min, zero-le}
+use mathlib.Core.Path.{_≡_, refl, sym, ap, _∙_}
+use mathlib.Core.Bool.{Bool, true, false, cond, not, _&&_, false≢true}
+use mathlib.Core.Option.{Option, none, some}
+use Prim.Native.Nat.{ℕ, zero, suc, _≤_, _<_, min}
 use native.Mathlib.Nat.{not-suc-le-zero}
 use native.Mathlib.Omega.{arith}
 use lib.Dec.{eqb, ltb, leb}
-use borrow.Author.Tests.{eqb-true, eq-eqb, ltb-true, lt-ltb, leb-true, le-leb}
+use borrow.Author.Tests.{eq-eqb, ltb-true, lt-ltb, leb-true, le-leb}
 use Rattle.spec_base.specs.Basic.{any, numbers}
-use Rattle.law_base.specs.BoolLaws.{decide, true-false, and-true, and-of, not-of-false}
+use Rattle.law_base.specs.BoolLaws.{and-true, and-of, not-of-false}
 use Rattle.law_base.specs.ListLaws.{any-numbers}
 use Rattle.spec_graph.specs.Graph.{Flow, Graph, isBack}
 use Rattle.spec_graph.specs.Walk.{Step, dangerousPair}
@@ -24,8 +23,8 @@ use Rattle.pick_laws.specs.Completing.{leastBelow, opensBelow, leavesAt,
 use Rattle.pick_laws.specs.Opening.{openBelow, open-most, below-pair}
 use Rattle.pick_laws.specs.LeastLaws.{least-some, greatest-some}
 use Rattle.pick_laws.specs.CompletingLaws.{SmallPlaces}
-use Rattle.pick_laws.specs.Demands.{onlyIf, endingNeeds, needsIn, startingLimit, limitsIn, counts, goingIn, goingAfter, begun, fits, canEnd, canFinish}
-use Rattle.pick_laws.specs.DemandLaws.{only-passed, passed-only, counts-forward, counts-back}
+use Rattle.pick_laws.specs.Demands.{endingNeeds, needsIn, startingLimit, limitsIn, counts, goingIn, goingAfter, begun, fits, canEnd, canFinish}
+use Rattle.pick_laws.specs.DemandLaws.{passed-only, counts-forward, counts-back}
 
 -- a step that counts
 forward-counts : (g : Graph) (needs limits : ℕ → ℕ) (step : Step) (y : ℕ) → step .flow ≡ Flow.forward → counts g needs limits step y ≡ true

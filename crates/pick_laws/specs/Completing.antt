@@ -1,6 +1,5 @@
 -- Which walks can be completed among n nodes, by the edges that stand for all: in how many steps, and how far the edge before must open.
-use mathlib.Core.Bool.{Bool, true, false, cond, _&&_}
-use mathlib.Core.List.{List, [], _∷_}
+use mathlib.Core.Bool.{Bool, cond, _&&_}
 use mathlib.Core.Option.{Option, none, some}
 use Prim.Native.Nat.{ℕ, zero, suc, min, max}
 use lib.Dec.{eqb, leb}

@@ -1,29 +1,27 @@
 -- What the edges that stand for all tell of walks in normal form: whatever steps complete such a walk, the tests of Completing pass.
-use mathlib.Core.Path.{_≡_, refl, sym, ap, subst, _∙_}
-use mathlib.Core.Bool.{Bool, true, false, cond, not, _&&_, _||_, false≢true}
-use mathlib.Core.List.{List, [], _∷_}
+use mathlib.Core.Path.{_≡_, refl, sym, ap, subst}
+use mathlib.Core.Bool.{Bool, true, false, cond, not, false≢true}
+use mathlib.Core.List.{List}
 use mathlib.Core.Logic.{_⊎_, inl, inr}
-use mathlib.Core.Option.{Option, none, some, Option·none-ne-some}
-use Prim.Native.Nat.{ℕ, zero, suc, _+_, _≤_, _<_, min, max, zero-le}
-use native.Mathlib.Nat.{not-suc-le-zero}
+use mathlib.Core.Option.{none, some, Option·none-ne-some}
+use Prim.Native.Nat.{ℕ, zero, suc, _≤_, _<_, min, zero-le}
 use native.Mathlib.Omega.{arith}
-use lib.Dec.{eqb, ltb, leb}
-use borrow.Author.Tests.{eqb-true, eq-eqb, ltb-true, lt-ltb, leb-true, le-leb}
+use borrow.Author.Tests.{eq-eqb, le-leb}
 use Rattle.spec_base.specs.Basic.{any, numbers}
-use Rattle.law_base.specs.BoolLaws.{decide, true-false, and-true, and-of, or-true, or-left, or-right, not-true}
-use Rattle.law_base.specs.ListLaws.{any-numbers, any-numbers-of, some-injective}
+use Rattle.law_base.specs.BoolLaws.{true-false, and-true, and-of}
+use Rattle.law_base.specs.ListLaws.{any-numbers-of, some-injective}
 use Rattle.spec_graph.specs.Graph.{Flow, Graph, isBack}
 use Rattle.spec_graph.specs.Walk.{Step, dangerousPair}
-use Rattle.law_walk.specs.Reach.{Regular, back-of}
+use Rattle.law_walk.specs.Reach.{Regular}
 use Rattle.law_walk.specs.Phases.{Phase, afterStep, ended, Accepted}
-use Rattle.law_walk.specs.Phases.Phase.{starting, opening, closing, ending}
+use Rattle.law_walk.specs.Phases.Phase.{opening, closing, ending}
 use Rattle.law_walk.specs.Phases.Accepted.{stop, go}
 use Rattle.pick_laws.specs.declared.Pick.{Pick}
-use Rattle.pick_laws.specs.Pick.{Picks, picked, dangerousPicks, onwardTo}
+use Rattle.pick_laws.specs.Pick.{Picks, picked, onwardTo}
 use Rattle.pick_laws.specs.PickLaws.{Picked}
 use Rattle.pick_laws.specs.Opening.{openBelow, pair-below, pair-back}
-use Rattle.pick_laws.specs.LeastLaws.{least-at, least-some, greatest-at, greatest-some}
-use Rattle.pick_laws.specs.Completing.{leastBelow, greatestBelow, opensBelow, leavesAt, exactly, leavesFirst, opensInto, needed, widest, leads}
+use Rattle.pick_laws.specs.LeastLaws.{least-at, greatest-at}
+use Rattle.pick_laws.specs.Completing.{leastBelow, opensBelow, leavesAt, exactly, leavesFirst, opensInto, needed, widest}
 
 -- no edge leaves or enters at a place from 1024 on
 abbrev pub SmallPlaces : Graph → Type 0

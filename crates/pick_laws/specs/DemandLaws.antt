@@ -1,16 +1,14 @@
 -- The steps that count are the choices: a step that counts leads on in a phase in which the walk can be completed, and whatever step does so counts.
 use mathlib.Core.Path.{_≡_, refl, sym, ap, subst, _∙_}
-use mathlib.Core.Bool.{Bool, true, false, cond, not, _&&_, _||_, false≢true}
-use mathlib.Core.List.{List, [], _∷_}
-use mathlib.Core.Logic.{_⊎_, inl, inr}
+use mathlib.Core.Bool.{Bool, true, false, cond, not, false≢true}
+use mathlib.Core.List.{List}
 use mathlib.Core.Option.{Option, none, some, Option·none-ne-some}
-use Prim.Native.Nat.{ℕ, zero, suc, _+_, _≤_, _<_, min, zero-le}
+use Prim.Native.Nat.{ℕ, zero, suc, _≤_, _<_, min, zero-le}
 use native.Mathlib.Omega.{arith}
 use lib.Dec.{eqb, ltb, leb}
-use borrow.Author.Tests.{eqb-true, eq-eqb, ltb-true, lt-ltb, leb-true, le-leb}
-use Rattle.spec_base.specs.Basic.{any, numbers}
-use Rattle.law_base.specs.BoolLaws.{decide, true-false, and-true, and-of, not-of-false}
-use Rattle.law_base.specs.ListLaws.{any-numbers, some-injective}
+use borrow.Author.Tests.{eq-eqb, ltb-true, lt-ltb, leb-true, le-leb}
+use Rattle.law_base.specs.BoolLaws.{and-true, and-of}
+use Rattle.law_base.specs.ListLaws.{some-injective}
 use Rattle.spec_graph.specs.Graph.{Flow, Graph, isBack}
 use Rattle.spec_graph.specs.Walk.{Step, dangerousPair}
 use Rattle.law_walk.specs.Reach.{Regular}
@@ -19,12 +17,10 @@ use Rattle.law_walk.specs.Phases.Phase.{starting, opening, closing, ending}
 use Rattle.law_walk.specs.Phases.Accepted.{stop, go}
 use Rattle.law_walk.specs.Greedy.{Complete, Choice}
 use Rattle.pick_laws.specs.declared.Going.{Going}
-use Rattle.pick_laws.specs.declared.Pick.{Pick}
-use Rattle.pick_laws.specs.Pick.{Picks, picked, onwardTo, stepOf}
+use Rattle.pick_laws.specs.Pick.{Picks}
 use Rattle.pick_laws.specs.PickLaws.{Picked}
-use Rattle.pick_laws.specs.Completing.{leastBelow, opensBelow, leavesAt, exactly, leavesFirst, opensInto, needed, widest}
-use Rattle.pick_laws.specs.Opening.{openBelow, open-most, pair-below, pair-back, below-pair}
-use Rattle.pick_laws.specs.LeastLaws.{least-some, greatest-some}
+use Rattle.pick_laws.specs.Completing.{exactly, needed, widest}
+use Rattle.pick_laws.specs.Opening.{openBelow, pair-below}
 use Rattle.pick_laws.specs.CompletingLaws.{SmallPlaces, closing-exactly, opening-needed, ending-widest}
 use Rattle.pick_laws.specs.Demands.{onlyIf, endingNeeds, needsIn, startingLimit, limitsIn, counts, goingIn, canEnd, canFinish}
 

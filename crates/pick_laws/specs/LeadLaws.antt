@@ -1,16 +1,15 @@
 -- Where a walk in normal form leads: its dangerous pair goes from u over v to w, and forward steps go on from w to u, two fewer than the walk has.
-use mathlib.Core.Path.{_≡_, refl, sym, ap, subst, _∙_}
+use mathlib.Core.Path.{_≡_, refl, sym, ap, subst}
 use mathlib.Core.Bool.{Bool, true, false, cond, not, _&&_, _||_, false≢true}
-use mathlib.Core.List.{List, [], _∷_}
+use mathlib.Core.List.{List}
 use mathlib.Core.Logic.{_⊎_, inl, inr}
 use mathlib.Core.Option.{Option, none, some, Option·none-ne-some}
 use Prim.Native.Nat.{ℕ, zero, suc, _+_, _≤_, _<_, min}
 use native.Mathlib.Nat.{not-suc-le-zero}
 use native.Mathlib.Omega.{arith}
-use lib.Dec.{eqb, ltb, leb}
+use lib.Dec.{ltb, leb}
 use borrow.Author.Tests.{eqb-true, eq-eqb, ltb-true, lt-ltb, le-leb}
-use Rattle.spec_base.specs.Basic.{any, numbers}
-use Rattle.law_base.specs.BoolLaws.{decide, true-false, and-true, and-of, or-true, or-left, or-right}
+use Rattle.law_base.specs.BoolLaws.{and-true, and-of, or-true, or-left, or-right}
 use Rattle.law_base.specs.ListLaws.{any-numbers, any-numbers-of, some-injective}
 use Rattle.spec_graph.specs.Graph.{Flow, Graph, isBack}
 use Rattle.spec_graph.specs.Walk.{Step, dangerousPair}

@@ -1,5 +1,5 @@
 -- The edges between nodes of a word stand for all edges of the graph among these nodes.
-use mathlib.Core.Path.{_≡_, refl, sym, ap, ap₂, subst, _∙_}
+use mathlib.Core.Path.{_≡_, refl, sym, ap, ap₂, _∙_}
 use mathlib.Core.Bool.{Bool, true, false, cond, _&&_}
 use mathlib.Core.List.{List}
 use mathlib.Core.Logic.{_⊎_, inl, inr}
@@ -10,7 +10,7 @@ use lib.Dec.{eqb}
 use lib.ListN.{getD}
 use borrow.Author.Tests.{eqb-true}
 use Rattle.spec_base.specs.Basic.{has}
-use Rattle.law_base.specs.BoolLaws.{decide, and-true, and-of}
+use Rattle.law_base.specs.BoolLaws.{decide, and-of}
 use Rattle.law_base.specs.SetLaws.{has-every}
 use Rattle.spec_graph.specs.Graph.{Flow, Graph}
 use Rattle.law_walk.specs.Reach.{Regular}

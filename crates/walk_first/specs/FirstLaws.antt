@@ -1,31 +1,29 @@
 -- The walk of the tables is the first dangerous walk among the nodes of the word, and where there is none there is no dangerous walk.
 use mathlib.Core.Path.{_≡_, refl, sym, ap, subst, _∙_}
-use mathlib.Core.Bool.{Bool, true, false, cond, _&&_, false≢true}
+use mathlib.Core.Bool.{true, false, _&&_, false≢true}
 use mathlib.Core.List.{List, [], _∷_}
 use mathlib.Core.Logic.{_⊎_, inl, inr}
-use mathlib.Core.Option.{Option, none, some}
-use Prim.Native.Nat.{ℕ, zero, suc, _+_, _*_, _≤_, _<_}
-use native.Mathlib.Nat.{not-suc-le-zero}
+use mathlib.Core.Option.{none, some}
+use Prim.Native.Nat.{ℕ, suc, _+_, _≤_, _<_}
 use native.Mathlib.Omega.{arith}
 use lib.Dec.{eqb, ltb}
 use lib.ListN.{length, getD}
 use borrow.Author.Tests.{eqb-true, ltb-true, ltb-false, lt-ltb}
 use Rattle.spec_base.specs.Basic.{any, numbers, has}
-use Rattle.law_base.specs.BoolLaws.{decide, true-false, and-true, and-of, or-right}
+use Rattle.law_base.specs.BoolLaws.{decide, and-true, and-of, or-right}
 use Rattle.law_base.specs.ListLaws.{any-numbers, any-numbers-of}
-use Rattle.spec_graph.specs.Graph.{Flow, Graph}
+use Rattle.spec_graph.specs.Graph.{Graph}
 use Rattle.spec_graph.specs.Walk.{Step, isDangerous, DangerousWalk, FirstWalk}
 use Rattle.law_walk.specs.Reach.{Regular, roundsFor}
 use Rattle.law_walk.specs.Parts.{only, only-edge}
 use Rattle.law_walk.specs.Phases.{Phase, Accepted, normal}
 use Rattle.law_walk.specs.Phases.Phase.{starting}
-use Rattle.law_walk.specs.Phases.Accepted.{stop, go}
+use Rattle.law_walk.specs.Phases.Accepted.{go}
 use Rattle.law_walk.specs.Greedy.{Greedy, greedy-first}
 use Rattle.pick_laws.specs.declared.Going.{Going}
-use Rattle.pick_laws.specs.declared.Pick.{Pick}
-use Rattle.pick_laws.specs.Pick.{Picks, picked, dangerousPicks, onwardTo, reaches, returnsAt, nodeTest}
+use Rattle.pick_laws.specs.Pick.{Picks, dangerousPicks, onwardTo, reaches, returnsAt, nodeTest}
 use Rattle.pick_laws.specs.PickLaws.{Picked, dangerous-some, node-complete}
-use Rattle.pick_laws.specs.Completing.{exactly, needed, widest, leads, leavesAt, opensBelow}
+use Rattle.pick_laws.specs.Completing.{exactly, needed, leads, leavesAt}
 use Rattle.pick_laws.specs.ExactLaws.{exactly-reaches, reaches-exactly}
 use Rattle.pick_laws.specs.NeededLaws.{needed-later}
 use Rattle.pick_laws.specs.CompletingLaws.{SmallPlaces}
@@ -37,12 +35,12 @@ use Rattle.edge_word.specs.Coding.{entry, forwardsIn, backsIn}
 use Rattle.walk_reach.specs.Layers.{joinedRows}
 use Rattle.walk_lead.specs.Leads.{leadRows, returnIn, wrapStart}
 use Rattle.walk_lead.specs.ReturnLaws.{leads-has, return-found, return-least, wrap-found, wrap-least, wrap-bound}
-use Rattle.walk_ways.specs.Ways.{waysTo, openings, firstStart, widestTable}
+use Rattle.walk_ways.specs.Ways.{firstStart}
 use Rattle.walk_ways.specs.WaysLaws.{word-opens, word-leaves, ways-has, openings-has, widest-at, start-found, start-least}
 use Rattle.walk_need.specs.Needs.{wideAt}
 use Rattle.walk_need.specs.NeedLaws.{Worked}
 use Rattle.walk_step.specs.Tabled.{Tabled}
-use Rattle.walk_first.specs.FirstSteps.{Prepared, stepsFrom, startOf, preparedFor, walkOf}
+use Rattle.walk_first.specs.FirstSteps.{stepsFrom, startOf, preparedFor, walkOf}
 use Rattle.walk_first.specs.GreedyLaws.{start-greedy}
 
 -- a walk without a step is not dangerous

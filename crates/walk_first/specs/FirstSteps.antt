@@ -1,5 +1,5 @@
 -- The first walk of a table of places and two tables of edges between 64 nodes, how it is written down, and what the search for it promises.
-use mathlib.Core.Bool.{Bool, true, false, cond, _&&_}
+use mathlib.Core.Bool.{true, false, cond, _&&_}
 use mathlib.Core.List.{List, [], _∷_}
 use mathlib.Core.Option.{Option, none, some}
 use mathlib.Core.Path.{_≡_}

@@ -1,23 +1,21 @@
 -- The least steps that count, one after the other, are the greedy choices of the search.
-use mathlib.Core.Path.{_≡_, refl, sym, ap, ap₂, subst, _∙_}
-use mathlib.Core.Bool.{Bool, true, false, cond, _&&_, _||_, false≢true}
-use mathlib.Core.List.{List, [], _∷_}
-use mathlib.Core.Logic.{_⊎_, inl, inr}
-use Prim.Native.Nat.{ℕ, zero, suc, _+_, _≤_, _<_, min}
+use mathlib.Core.Path.{_≡_, refl, sym, ap, subst, _∙_}
+use mathlib.Core.Bool.{Bool, true, false, cond, _&&_, false≢true}
+use mathlib.Core.List.{List}
+use Prim.Native.Nat.{ℕ, zero, suc, _≤_, _<_, min}
 use native.Mathlib.Nat.{not-suc-le-zero}
 use native.Mathlib.Omega.{arith}
-use lib.Dec.{eqb, ltb, leb}
-use lib.ListN.{getD}
+use lib.Dec.{eqb}
 use borrow.Author.Tests.{eqb-true, ltb-true, lt-ltb, leb-true, le-leb}
 use Rattle.spec_base.specs.Basic.{has}
-use Rattle.law_base.specs.BoolLaws.{and-true, and-of, true-false}
+use Rattle.law_base.specs.BoolLaws.{and-true, and-of}
 use Rattle.spec_graph.specs.Graph.{Flow, Graph, isBack}
-use Rattle.spec_graph.specs.Walk.{Step, smaller}
+use Rattle.spec_graph.specs.Walk.{Step}
 use Rattle.law_walk.specs.Reach.{Regular}
 use Rattle.law_walk.specs.Parts.{only, only-edge}
 use Rattle.law_walk.specs.Phases.{Phase, ended}
 use Rattle.law_walk.specs.Phases.Phase.{starting, opening, closing, ending}
-use Rattle.law_walk.specs.Greedy.{Choice, choiceNumbers, Least, Greedy}
+use Rattle.law_walk.specs.Greedy.{choiceNumbers, Least, Greedy}
 use Rattle.law_walk.specs.Greedy.Greedy.{stop, go}
 use Rattle.pick_laws.specs.declared.Going.{Going}
 use Rattle.pick_laws.specs.Pick.{Picks}

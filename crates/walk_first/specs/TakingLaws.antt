@@ -1,8 +1,8 @@
 -- Step after step: what is taken and written, one law for each path of the code.
 use mathlib.Core.Path.{_≡_, refl, sym, ap, ap₂, subst, _∙_}
 use mathlib.Core.Bool.{Bool, true, false, cond}
-use mathlib.Core.List.{List, [], _∷_}
-use Prim.Native.Nat.{ℕ, zero, suc, _+_, _-_, _*_, _≤_, _<_}
+use mathlib.Core.List.{List}
+use Prim.Native.Nat.{ℕ, zero, suc, _+_, _-_, _≤_, _<_}
 use native.Mathlib.Numerals.{add-one}
 use native.Mathlib.Omega.{arith}
 use lib.ListN.{length, length-set}
@@ -17,7 +17,7 @@ use Rattle.walk_ways.specs.Ways.{waysTo, openings, firstStart, widestTable}
 use Rattle.step_word.specs.declared.Taken.{Taken}
 use Rattle.step_word.specs.StepWord.{flowOf, stepOf}
 use Rattle.walk_step.specs.LeastStep.{leastStep}
-use mathlib.Core.Option.{Option, none, some}
+use mathlib.Core.Option.{none, some}
 use Rattle.walk_first.specs.FirstSteps.{Prepared, prepared, opensAt, taken, stepTaken, goingOn, stepsFrom, startOf, preparedFor, walkOf}
 use Rattle.walk_first.specs.FirstSteps.{putWords, putStep, putSteps, TakenAs, Searched}
 use Rattle.walk_first.specs.FirstSteps.Searched.{nothing, walked}

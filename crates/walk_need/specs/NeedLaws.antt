@@ -2,7 +2,7 @@
 use mathlib.Core.Path.{_≡_, refl, sym, ap, _∙_}
 use mathlib.Core.Bool.{Bool, true, false, cond}
 use mathlib.Core.List.{List}
-use Prim.Native.Nat.{ℕ, zero, suc, _+_, _≤_, _<_, min}
+use Prim.Native.Nat.{ℕ, zero, suc, _≤_, _<_, min}
 use native.Mathlib.Omega.{arith}
 use lib.Dec.{eqb, ltb}
 use lib.ListN.{getD}
@@ -13,7 +13,6 @@ use Rattle.pick_laws.specs.Pick.{Picks}
 use Rattle.pick_laws.specs.Completing.{leastBelow, leavesAt, exactly, leavesFirst, opensInto, needed, widest}
 use Rattle.pick_laws.specs.Demands.{onlyIf, endingNeeds, needsIn, startingLimit, limitsIn}
 use Rattle.edge_word.specs.Coding.{backsIn}
-use Rattle.walk_reach.specs.Layers.{listBelow}
 use Rattle.walk_reach.specs.NodeWordLaws.{list-at}
 use Rattle.walk_need.specs.Needs.{leavesFor, firstLeaving, openingNeed, wideAt, endingNeed, needAt, needAmong, needsOf}
 use Rattle.walk_need.specs.Needs.{startingLimitAt, limitAt, limitAmong, limitsOf}

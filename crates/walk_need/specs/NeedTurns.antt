@@ -1,11 +1,11 @@
 -- What the functions compute, one law for each path of the code.
 use mathlib.Core.Path.{_≡_, refl, sym, ap, ap₂, _∙_}
-use mathlib.Core.Bool.{Bool, true, false, cond}
+use mathlib.Core.Bool.{Bool, true, false}
 use mathlib.Core.List.{List}
 use Prim.Native.Nat.{ℕ, zero, suc, _+_, _-_, _*_, _≤_, _<_, min}
 use native.Mathlib.Numerals.{add-one}
 use native.Mathlib.Omega.{arith}
-use lib.Dec.{eqb, ltb}
+use lib.Dec.{ltb}
 use lib.ListN.{getD}
 use borrow.Author.Tests.{eq-eqb, ne-eqb, lt-ltb, le-ltb}
 use Rattle.spec_base.specs.Basic.{has}
@@ -13,7 +13,7 @@ use Rattle.pick_laws.specs.declared.Going.{Going}
 use Rattle.pick_laws.specs.declared.Pick.{Pick}
 use Rattle.pick_laws.specs.Completing.{leastBelow, leavesAt}
 use Rattle.pick_laws.specs.Demands.{onlyIf}
-use Rattle.edge_word.specs.Coding.{backEdge, backPick, backsIn}
+use Rattle.edge_word.specs.Coding.{backEdge, backPick}
 use Rattle.walk_need.specs.Needs.{leavesFor, firstLeaving, openingNeed, wideAt, endingNeed, needAt, needAmong, startingLimitAt, limitAt, limitAmong}
 
 -- ---- where a back edge leaves

@@ -1,5 +1,5 @@
 -- Which steps count, over words: how far a forward step into a node must opened, and below which place a back step into it must leave.
-use mathlib.Core.Bool.{Bool, cond}
+use mathlib.Core.Bool.{cond}
 use mathlib.Core.List.{List}
 use Prim.Native.Nat.{ℕ, zero, suc, _+_, _*_, min}
 use lib.Dec.{eqb, ltb}

@@ -1,6 +1,6 @@
 -- The tables turn by turn, one law for each path of the code.
 use mathlib.Core.Path.{_≡_, refl, sym, ap, ap₂, _∙_}
-use mathlib.Core.Bool.{Bool, true, false, cond}
+use mathlib.Core.Bool.{Bool, false, cond}
 use mathlib.Core.List.{List}
 use Prim.Native.Nat.{ℕ, suc, _+_, _-_, _*_, _/_, _%_, _≤_, _<_, max}
 use native.Mathlib.Decide.{decLt}
@@ -11,10 +11,9 @@ use lib.Dec.{ltb}
 use lib.ListN.{getD, set, replicate}
 use borrow.Author.Tests.{eq-eqb, ne-eqb, lt-ltb, le-ltb}
 use Rattle.spec_base.specs.Basic.{has}
-use Rattle.pick_laws.specs.declared.Pick.{Pick}
 use Rattle.pick_laws.specs.Completing.{opensBelow, greatestBelow}
 use Rattle.pick_laws.specs.NeededLaws.{greatest-same}
-use Rattle.edge_word.specs.Coding.{forwardPick, forwardEdge}
+use Rattle.edge_word.specs.Coding.{forwardPick}
 use Rattle.walk_reach.specs.Layers.{withNode}
 use Rattle.walk_ways.specs.Ways.{filled, nodesInto, exactWord, waysTo, nextOpening, opening, openings, startsAt}
 use Rattle.walk_ways.specs.Ways.{wordFor, greatestIn, widthInto, widestWord, widestAt, widestFrom}

@@ -1,15 +1,9 @@
 -- The word stands where both nodes are among the nodes, else 0.
 use Rattle.walk_first.specs.FirstSteps.{chosenWord}
-use native.Mathlib.Omega.{arith}
-use mathlib.Core.Path.{_≡_, refl, ap, sym, _∙_}
-use Prim.Native.Nat.{ℕ, _+_, _-_, _*_, _≤_, _<_}
-use lib.ListN.{length, set, getD, length-set, take, drop}
+use Prim.Native.Nat.{_-_}
 use borrow.Author.Needs.{needs}
 use Rattle.walk_first.proofs.chosen_word.Statement.{statement}
 use Rattle.walk_first.proofs.chosen_word.Tie as tie
-use Rattle.walk_first.proofs.chosen_word.Reads as reads
-use Rattle.walk_first.proofs.chosen_word.Lts as lts
-use Rattle.word_list.proofs.has_bit.Reads as has-bit-reads
 
 has-bit-requires : tie.Need-has-bit-requires
 has-bit-requires c κs = search needs

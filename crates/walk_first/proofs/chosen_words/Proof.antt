@@ -5,14 +5,10 @@ use Rattle.walk_ways.specs.FilledLaws.{filled-turn}
 use Rattle.walk_reach.specs.NodeWordLaws.{last-turn}
 use borrow.Author.Needs.{needs}
 use native.Mathlib.Omega.{arith}
-use mathlib.Core.Path.{_≡_, refl, ap, sym, _∙_}
-use Prim.Native.Nat.{ℕ, _+_, _-_, _*_, _≤_, _<_}
-use lib.ListN.{length, set, getD, length-set, take, drop}
+use mathlib.Core.Path.{_≡_, refl}
+use Prim.Native.Nat.{_-_, _≤_}
 use Rattle.walk_first.proofs.chosen_words.Statement.{statement}
 use Rattle.walk_first.proofs.chosen_words.Tie as tie
-use Rattle.walk_first.proofs.chosen_words.Reads as reads
-use Rattle.walk_first.proofs.chosen_words.Lts as lts
-use Rattle.walk_first.proofs.chosen_word.Reads as chosen-word-reads
 
 abbrev Inv-loop : tie.InvT-loop
 Inv-loop table nodes words₀ x₀ words x = (x ≤ 4096) × (words ≡ filled 4096 (chosenWord table nodes) x)

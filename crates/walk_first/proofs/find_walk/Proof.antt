@@ -1,16 +1,9 @@
 -- An area that is too short is refused (answer-short); what is searched, among the nodes of the word, is answered (answer-searched).
 use Rattle.walk_first.specs.AnswerLaws.{answer-short, answer-searched, searched-every, searched-some}
-use native.Mathlib.Omega.{arith}
-use mathlib.Core.Path.{_≡_, refl, ap, sym, _∙_}
-use Prim.Native.Nat.{ℕ, _+_, _-_, _*_, _≤_, _<_}
-use lib.ListN.{length, set, getD, length-set, take, drop}
+use Prim.Native.Nat.{_-_}
 use borrow.Author.Needs.{needs}
 use Rattle.walk_first.proofs.find_walk.Statement.{statement}
 use Rattle.walk_first.proofs.find_walk.Tie as tie
-use Rattle.walk_first.proofs.find_walk.Reads as reads
-use Rattle.walk_first.proofs.find_walk.Lts as lts
-use Rattle.walk_first.proofs.chosen_words.Reads as chosen-words-reads
-use Rattle.walk_first.proofs.search.Reads as search-reads
 
 returns : tie.Need-returns
 returns c = answer-short _ _ _ _ _ (c .if1 .taken)

@@ -1,14 +1,10 @@
 -- Phase by phase the next is that of `goingAfter`.
 use Rattle.pick_laws.specs.Demands.{goingAfter}
-use native.Mathlib.Omega.{arith}
-use mathlib.Core.Path.{_≡_, refl, ap, sym, _∙_}
-use Prim.Native.Nat.{ℕ, _+_, _-_, _*_, _≤_, _<_}
-use lib.ListN.{length, set, getD, length-set, take, drop}
+use mathlib.Core.Path.{refl}
+use Prim.Native.Nat.{_-_}
 use borrow.Author.Needs.{needs}
 use Rattle.walk_first.proofs.going_after.Statement.{statement}
 use Rattle.walk_first.proofs.going_after.Tie as tie
-use Rattle.walk_first.proofs.going_after.Reads as reads
-use Rattle.walk_first.proofs.going_after.Lts as lts
 
 enum-told : tie.Need-enum-told
 enum-told c = search needs

@@ -1,15 +1,9 @@
 -- A loose place opens as far as any; another as far as the place entered.
 use Rattle.walk_first.specs.FirstSteps.{opensAt}
-use native.Mathlib.Omega.{arith}
-use mathlib.Core.Path.{_≡_, refl, ap, sym, _∙_}
-use Prim.Native.Nat.{ℕ, _+_, _-_, _*_, _≤_, _<_}
-use lib.ListN.{length, set, getD, length-set, take, drop}
+use Prim.Native.Nat.{_-_}
 use borrow.Author.Needs.{needs}
 use Rattle.walk_first.proofs.opens_at.Statement.{statement}
 use Rattle.walk_first.proofs.opens_at.Tie as tie
-use Rattle.walk_first.proofs.opens_at.Reads as reads
-use Rattle.walk_first.proofs.opens_at.Lts as lts
-use Rattle.walk_step.proofs.loose_at.Reads as loose-at-reads
 
 loose-at-requires : tie.Need-loose-at-requires
 loose-at-requires c κs = search needs

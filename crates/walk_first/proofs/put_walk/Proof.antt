@@ -2,15 +2,10 @@
 use Rattle.walk_first.specs.TakingLaws.{PutTurn, put-start, put-turn, put-end}
 use Rattle.walk_first.specs.FirstSteps.{prepared}
 use borrow.Author.Needs.{needs}
-use native.Mathlib.Omega.{arith}
-use mathlib.Core.Path.{_≡_, refl, ap, sym, _∙_}
-use Prim.Native.Nat.{ℕ, _+_, _-_, _*_, _≤_, _<_}
-use lib.ListN.{length, set, getD, length-set, take, drop}
+use mathlib.Core.Path.{refl}
+use Prim.Native.Nat.{_-_}
 use Rattle.walk_first.proofs.put_walk.Statement.{statement}
 use Rattle.walk_first.proofs.put_walk.Tie as tie
-use Rattle.walk_first.proofs.put_walk.Reads as reads
-use Rattle.walk_first.proofs.put_walk.Lts as lts
-use Rattle.walk_first.proofs.take_step.Reads as take-step-reads
 
 abbrev Inv-loop : tie.InvT-loop
 Inv-loop table backs ways opened wide s nodes steps out₀ node₀ going₀ k₀ out node going k = PutTurn table backs (prepared nodes s ways opened wide) steps out₀ out node going k

@@ -1,23 +1,10 @@
 -- With no way back there is no walk (search-none); else what is worked out and written is the walk (search-found).
 use Rattle.walk_first.specs.TakingLaws.{search-none, search-found}
 use native.Mathlib.Omega.{arith}
-use mathlib.Core.Path.{_≡_, refl, ap, sym, _∙_}
-use Prim.Native.Nat.{ℕ, _+_, _-_, _*_, _≤_, _<_}
-use lib.ListN.{length, set, getD, length-set, take, drop}
+use Prim.Native.Nat.{_-_}
 use borrow.Author.Needs.{needs}
 use Rattle.walk_first.proofs.search.Statement.{statement}
 use Rattle.walk_first.proofs.search.Tie as tie
-use Rattle.walk_first.proofs.search.Reads as reads
-use Rattle.walk_first.proofs.search.Lts as lts
-use Rattle.walk_first.proofs.put_walk.Reads as put-walk-reads
-use Rattle.walk_lead.proofs.lead_rows.Reads as lead-rows-reads
-use Rattle.walk_lead.proofs.shortest_return.Reads as shortest-return-reads
-use Rattle.walk_lead.proofs.wrap_start.Reads as wrap-start-reads
-use Rattle.walk_reach.proofs.joined_rows.Reads as joined-rows-reads
-use Rattle.walk_ways.proofs.first_start.Reads as first-start-reads
-use Rattle.walk_ways.proofs.openings.Reads as openings-reads
-use Rattle.walk_ways.proofs.ways_to.Reads as ways-to-reads
-use Rattle.walk_ways.proofs.widest_table.Reads as widest-table-reads
 
 joined-rows-requires : tie.Need-joined-rows-requires
 joined-rows-requires c κs = search needs

@@ -1,22 +1,9 @@
 -- The needs, the limits, the least word, its step and the phase after it are those of `taken` and `goingOn` (taking).
 use Rattle.walk_first.specs.TakingLaws.{taking}
-use native.Mathlib.Omega.{arith}
-use mathlib.Core.Path.{_≡_, refl, ap, sym, _∙_}
-use Prim.Native.Nat.{ℕ, _+_, _-_, _*_, _≤_, _<_}
-use lib.ListN.{length, set, getD, length-set, take, drop}
+use Prim.Native.Nat.{_-_}
 use borrow.Author.Needs.{needs}
 use Rattle.walk_first.proofs.take_step.Statement.{statement}
 use Rattle.walk_first.proofs.take_step.Tie as tie
-use Rattle.walk_first.proofs.take_step.Reads as reads
-use Rattle.walk_first.proofs.take_step.Lts as lts
-use Rattle.walk_first.proofs.flow_word.Reads as flow-word-reads
-use Rattle.walk_first.proofs.going_after.Reads as going-after-reads
-use Rattle.walk_first.proofs.opens_at.Reads as opens-at-reads
-use Rattle.walk_first.proofs.put_words.Reads as put-words-reads
-use Rattle.walk_need.proofs.limits_in.Reads as limits-in-reads
-use Rattle.walk_need.proofs.needs_in.Reads as needs-in-reads
-use Rattle.walk_step.proofs.least_step.Reads as least-step-reads
-use Rattle.step_word.proofs.step_of.Reads as step-of-reads
 
 needs-in-requires : tie.Need-needs-in-requires
 needs-in-requires c κs = search needs

@@ -1,16 +1,10 @@
 -- With no step left the walk must end at s and open k (ending-here); else the last step must be able to (ending-later).
 use Rattle.walk_need.specs.NeedTurns.{ending-here, ending-far, ending-elsewhere, ending-later}
-use native.Mathlib.Omega.{arith}
-use mathlib.Core.Path.{_≡_, refl, ap, sym, _∙_}
-use Prim.Native.Nat.{ℕ, _+_, _-_, _*_, _≤_, _<_}
-use lib.ListN.{length, set, getD, length-set, take, drop}
+use mathlib.Core.Path.{refl}
+use Prim.Native.Nat.{_-_}
 use borrow.Author.Needs.{needs}
 use Rattle.walk_need.proofs.ending_need.Statement.{statement}
 use Rattle.walk_need.proofs.ending_need.Tie as tie
-use Rattle.walk_need.proofs.ending_need.Reads as reads
-use Rattle.walk_need.proofs.ending_need.Lts as lts
-use Rattle.walk_need.proofs.only_if.Reads as only-if-reads
-use Rattle.walk_need.proofs.wide_at.Reads as wide-at-reads
 
 add-result : tie.Need-add-result
 add-result c = search needs

@@ -5,15 +5,10 @@ use Rattle.walk_need.specs.Needs.{leavesFor, firstLeaving}
 use Rattle.walk_reach.specs.NodeWordLaws.{last-turn}
 use borrow.Author.Needs.{needs}
 use native.Mathlib.Omega.{arith}
-use mathlib.Core.Path.{_≡_, refl, ap, sym, _∙_}
-use Prim.Native.Nat.{ℕ, _+_, _-_, _*_, _≤_, _<_}
-use lib.ListN.{length, set, getD, length-set, take, drop}
+use mathlib.Core.Path.{_≡_, refl}
+use Prim.Native.Nat.{_-_, _≤_}
 use Rattle.walk_need.proofs.first_leaving.Statement.{statement}
 use Rattle.walk_need.proofs.first_leaving.Tie as tie
-use Rattle.walk_need.proofs.first_leaving.Reads as reads
-use Rattle.walk_need.proofs.first_leaving.Lts as lts
-use Rattle.walk_need.proofs.leaves_for.Reads as leaves-for-reads
-use Rattle.walk_need.proofs.lesser.Reads as lesser-reads
 
 abbrev Inv-loop : tie.InvT-loop
 Inv-loop backs nodes x best₀ y₀ best y = (y ≤ 64) × (best ≡ leastBelow (leavesFor backs nodes x) 1024 y) × (best ≤ 1024)

@@ -1,17 +1,10 @@
 -- A node of the word is left for at the place of its edge (leaves-there); for another 1024 stands (leaves-not).
 use Rattle.walk_need.specs.NeedTurns.{leaves-there, leaves-not}
 use native.Mathlib.Omega.{arith}
-use mathlib.Core.Path.{_≡_, refl, ap, sym, _∙_}
-use Prim.Native.Nat.{ℕ, _+_, _-_, _*_, _≤_, _<_}
-use lib.ListN.{length, set, getD, length-set, take, drop}
+use Prim.Native.Nat.{_-_}
 use borrow.Author.Needs.{needs}
 use Rattle.walk_need.proofs.leaves_for.Statement.{statement}
 use Rattle.walk_need.proofs.leaves_for.Tie as tie
-use Rattle.walk_need.proofs.leaves_for.Reads as reads
-use Rattle.walk_need.proofs.leaves_for.Lts as lts
-use Rattle.walk_need.proofs.leaves_at.Reads as leaves-at-reads
-use Rattle.word_list.proofs.has_bit.Reads as has-bit-reads
-use Rattle.word_list.proofs.word_at.Reads as word-at-reads
 
 has-bit-requires : tie.Need-has-bit-requires
 has-bit-requires c κs = search needs

@@ -1,16 +1,9 @@
 -- A node of the word has the limit of its phase (among-limit); another has none (outside-limit).
 use Rattle.walk_need.specs.NeedTurns.{among-limit, outside-limit}
-use native.Mathlib.Omega.{arith}
-use mathlib.Core.Path.{_≡_, refl, ap, sym, _∙_}
-use Prim.Native.Nat.{ℕ, _+_, _-_, _*_, _≤_, _<_}
-use lib.ListN.{length, set, getD, length-set, take, drop}
+use Prim.Native.Nat.{_-_}
 use borrow.Author.Needs.{needs}
 use Rattle.walk_need.proofs.limit_among.Statement.{statement}
 use Rattle.walk_need.proofs.limit_among.Tie as tie
-use Rattle.walk_need.proofs.limit_among.Reads as reads
-use Rattle.walk_need.proofs.limit_among.Lts as lts
-use Rattle.walk_need.proofs.limit_at.Reads as limit-at-reads
-use Rattle.word_list.proofs.has_bit.Reads as has-bit-reads
 
 has-bit-requires : tie.Need-has-bit-requires
 has-bit-requires c κs = search needs

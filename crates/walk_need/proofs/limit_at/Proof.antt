@@ -1,17 +1,9 @@
 -- Phase by phase: the limit is that of the first step, of the step before, or none.
 use Rattle.walk_need.specs.NeedTurns.{limit-starting, limit-there, limit-elsewhere, limit-closing, limit-ending}
-use native.Mathlib.Omega.{arith}
-use mathlib.Core.Path.{_≡_, refl, ap, sym, _∙_}
-use Prim.Native.Nat.{ℕ, _+_, _-_, _*_, _≤_, _<_}
-use lib.ListN.{length, set, getD, length-set, take, drop}
+use Prim.Native.Nat.{_-_}
 use borrow.Author.Needs.{needs}
 use Rattle.walk_need.proofs.limit_at.Statement.{statement}
 use Rattle.walk_need.proofs.limit_at.Tie as tie
-use Rattle.walk_need.proofs.limit_at.Reads as reads
-use Rattle.walk_need.proofs.limit_at.Lts as lts
-use Rattle.walk_need.proofs.starting_limit.Reads as starting-limit-reads
-use Rattle.word_list.proofs.has_bit.Reads as has-bit-reads
-use Rattle.word_list.proofs.word_at.Reads as word-at-reads
 
 enum-told : tie.Need-enum-told
 enum-told c = search needs

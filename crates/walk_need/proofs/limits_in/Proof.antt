@@ -4,14 +4,10 @@ use Rattle.walk_reach.specs.Layers.{listBelow}
 use Rattle.walk_reach.specs.NodeWordLaws.{list-turn, last-turn}
 use borrow.Author.Needs.{needs}
 use native.Mathlib.Omega.{arith}
-use mathlib.Core.Path.{_≡_, refl, ap, sym, _∙_}
-use Prim.Native.Nat.{ℕ, _+_, _-_, _*_, _≤_, _<_}
-use lib.ListN.{length, set, getD, length-set, take, drop}
+use mathlib.Core.Path.{_≡_, refl}
+use Prim.Native.Nat.{_-_, _≤_}
 use Rattle.walk_need.proofs.limits_in.Statement.{statement}
 use Rattle.walk_need.proofs.limits_in.Tie as tie
-use Rattle.walk_need.proofs.limits_in.Reads as reads
-use Rattle.walk_need.proofs.limits_in.Lts as lts
-use Rattle.walk_need.proofs.limit_among.Reads as limit-among-reads
 
 abbrev Inv-loop : tie.InvT-loop
 Inv-loop ways wide nodes r going limits₀ y₀ limits y = (y ≤ 64) × (limits ≡ listBelow (limitAmong ways wide nodes r going) y)

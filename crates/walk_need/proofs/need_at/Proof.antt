@@ -1,19 +1,9 @@
 -- Phase by phase the need is that of its function.
 use Rattle.walk_need.specs.NeedTurns.{need-starting, need-opening, need-closing, need-ending}
-use native.Mathlib.Omega.{arith}
-use mathlib.Core.Path.{_≡_, refl, ap, sym, _∙_}
-use Prim.Native.Nat.{ℕ, _+_, _-_, _*_, _≤_, _<_}
-use lib.ListN.{length, set, getD, length-set, take, drop}
+use Prim.Native.Nat.{_-_}
 use borrow.Author.Needs.{needs}
 use Rattle.walk_need.proofs.need_at.Statement.{statement}
 use Rattle.walk_need.proofs.need_at.Tie as tie
-use Rattle.walk_need.proofs.need_at.Reads as reads
-use Rattle.walk_need.proofs.need_at.Lts as lts
-use Rattle.walk_need.proofs.ending_need.Reads as ending-need-reads
-use Rattle.walk_need.proofs.only_if.Reads as only-if-reads
-use Rattle.walk_need.proofs.opening_need.Reads as opening-need-reads
-use Rattle.word_list.proofs.has_bit.Reads as has-bit-reads
-use Rattle.word_list.proofs.word_at.Reads as word-at-reads
 
 enum-told : tie.Need-enum-told
 enum-told c = search needs

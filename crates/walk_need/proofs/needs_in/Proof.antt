@@ -4,14 +4,10 @@ use Rattle.walk_reach.specs.Layers.{listBelow}
 use Rattle.walk_reach.specs.NodeWordLaws.{list-turn, last-turn}
 use borrow.Author.Needs.{needs}
 use native.Mathlib.Omega.{arith}
-use mathlib.Core.Path.{_≡_, refl, ap, sym, _∙_}
-use Prim.Native.Nat.{ℕ, _+_, _-_, _*_, _≤_, _<_}
-use lib.ListN.{length, set, getD, length-set, take, drop}
+use mathlib.Core.Path.{_≡_, refl}
+use Prim.Native.Nat.{_-_, _≤_}
 use Rattle.walk_need.proofs.needs_in.Statement.{statement}
 use Rattle.walk_need.proofs.needs_in.Tie as tie
-use Rattle.walk_need.proofs.needs_in.Reads as reads
-use Rattle.walk_need.proofs.needs_in.Lts as lts
-use Rattle.walk_need.proofs.need_among.Reads as need-among-reads
 
 abbrev Inv-loop : tie.InvT-loop
 Inv-loop backs ways opened wide s nodes r going needs₀ y₀ needs y = (y ≤ 64) × (needs ≡ listBelow (needAmong backs ways opened wide s nodes r going) y)

@@ -1,17 +1,9 @@
 -- With no step left nothing opens far enough; else the pair is still to come (opening-later) or its back step is next (opening-next).
 use Rattle.walk_need.specs.NeedTurns.{opening-last, opening-later, opening-next}
-use native.Mathlib.Omega.{arith}
-use mathlib.Core.Path.{_≡_, refl, ap, sym, _∙_}
-use Prim.Native.Nat.{ℕ, _+_, _-_, _*_, _≤_, _<_}
-use lib.ListN.{length, set, getD, length-set, take, drop}
+use Prim.Native.Nat.{_-_}
 use borrow.Author.Needs.{needs}
 use Rattle.walk_need.proofs.opening_need.Statement.{statement}
 use Rattle.walk_need.proofs.opening_need.Tie as tie
-use Rattle.walk_need.proofs.opening_need.Reads as reads
-use Rattle.walk_need.proofs.opening_need.Lts as lts
-use Rattle.walk_need.proofs.first_leaving.Reads as first-leaving-reads
-use Rattle.word_list.proofs.has_bit.Reads as has-bit-reads
-use Rattle.word_list.proofs.word_at.Reads as word-at-reads
 
 returns : tie.Need-returns
 returns c = opening-last _ _ _ _ _ (c .if1 .taken)

@@ -1,15 +1,9 @@
 -- With no step left none may be back (starting-last); else the last step must open the first (starting-later).
 use Rattle.walk_need.specs.NeedTurns.{starting-last, starting-later}
-use native.Mathlib.Omega.{arith}
-use mathlib.Core.Path.{_≡_, refl, ap, sym, _∙_}
-use Prim.Native.Nat.{ℕ, _+_, _-_, _*_, _≤_, _<_}
-use lib.ListN.{length, set, getD, length-set, take, drop}
+use Prim.Native.Nat.{_-_}
 use borrow.Author.Needs.{needs}
 use Rattle.walk_need.proofs.starting_limit.Statement.{statement}
 use Rattle.walk_need.proofs.starting_limit.Tie as tie
-use Rattle.walk_need.proofs.starting_limit.Reads as reads
-use Rattle.walk_need.proofs.starting_limit.Lts as lts
-use Rattle.walk_need.proofs.wide_at.Reads as wide-at-reads
 
 returns : tie.Need-returns
 returns c = starting-last _ _ _ (c .if1 .taken)

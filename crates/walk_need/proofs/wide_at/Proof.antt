@@ -1,15 +1,9 @@
 -- Within the table its word is taken (wide-inside), past it 0 (wide-past).
 use Rattle.walk_need.specs.NeedTurns.{wide-inside, wide-past}
-use native.Mathlib.Omega.{arith}
-use mathlib.Core.Path.{_≡_, refl, ap, sym, _∙_}
-use Prim.Native.Nat.{ℕ, _+_, _-_, _*_, _≤_, _<_}
-use lib.ListN.{length, set, getD, length-set, take, drop}
+use Prim.Native.Nat.{_-_}
 use borrow.Author.Needs.{needs}
 use Rattle.walk_need.proofs.wide_at.Statement.{statement}
 use Rattle.walk_need.proofs.wide_at.Tie as tie
-use Rattle.walk_need.proofs.wide_at.Reads as reads
-use Rattle.walk_need.proofs.wide_at.Lts as lts
-use Rattle.word_list.proofs.word_at.Reads as word-at-reads
 
 mul-word-at : tie.Need-mul-word-at
 mul-word-at c = search needs
