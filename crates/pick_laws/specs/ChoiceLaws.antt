@@ -79,7 +79,8 @@ module _ {g : Graph} {n : ℕ} {forwards backs : Picks} (picks : Picked g n forw
       by-flow : (f : Flow) → step .flow ≡ f → Chosen r starting x step y
       by-flow Flow.forward f =
           chosen r starting (opening step) x step y node edge (rw (ap isBack f) refl)
-          (forward-counts g (needsIn forwards backs n s r Going.Starting) (limitsIn forwards n s r Going.Starting) step y f h) (rw (ap isBack f) refl) refl refl
+          (forward-counts g (needsIn forwards backs n s r Going.Starting) (limitsIn forwards n s r Going.Starting) step y f h)
+          (rw (ap isBack f) refl) refl refl
       by-flow Flow.back f =
           let l = back-counts g (needsIn forwards backs n s r Going.Starting) (limitsIn forwards n s r Going.Starting) step y f h in
           chosen r starting (ending step step) x step y node edge (rw (ap isBack f) refl) (turned r f l)
@@ -98,7 +99,8 @@ module _ {g : Graph} {n : ℕ} {forwards backs : Picks} (picks : Picked g n forw
           chosen r (opening e) (opening step) x step y node edge (rw (ap isBack f) refl)
           (forward-counts g (needsIn forwards backs n s r going) (limitsIn forwards n s r going) step y f h) (rw (ap isBack f) refl) refl refl
       by-flow Flow.back f =
-          let l = limited (exactly forwards n s r y) (back-counts g (needsIn forwards backs n s r going) (limitsIn forwards n s r going) step y f h) in
+          let l = limited (exactly forwards n s r y)
+          (back-counts g (needsIn forwards backs n s r going) (limitsIn forwards n s r going) step y f h) in
           let pair = below-pair g e step (ap isBack f) (l .1) in
           chosen r (opening e) closing x step y node edge (rw (ap isBack f, pair) refl) (l .0) (rw (ap isBack f) refl) refl refl
   counts-choice r closing x y step node edge fit h = by-flow (step .flow) refl

@@ -79,7 +79,8 @@ module _ {g : Graph} {n : ℕ} {forwards backs : Picks} (regular : Regular g) (p
       few : step .leaves < 1024
       few = small x (step .leaves) y (step .enters) (step .flow) (choice .edge) .0
 
-      limited : (k : ℕ) → step .flow ≡ Flow.back → canEnd g forwards n s step step k y ≡ true → ltb (step .leaves) (startingLimit forwards n s k y) ≡ true
+      limited : (k : ℕ) → step .flow ≡ Flow.back → canEnd g forwards n s step step k y ≡ true
+          → ltb (step .leaves) (startingLimit forwards n s k y) ≡ true
       limited zero f h = let forward = and-true (not (isBack (step .flow))) _ (and-true (eqb y s) _ h .1) .0 in absurd (false≢true (rw f at forward))
       limited (suc k) f h =
           let w = ltb-true (min (step .leaves) 1023) (widest forwards n s k y) (and-true (isBack (step .flow)) _ h .1) in

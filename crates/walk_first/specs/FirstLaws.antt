@@ -121,7 +121,9 @@ module _ (table forwards backs : List ℕ) (nodes n : ℕ) (full : n ≡ 64) {wh
       let test = needed-later F B n u (λ a b. word-opens (entry forwards a b)) (λ a b. word-leaves (entry backs a b)) d u in
       rw two
       (eqb-true _ 0
-      (test ∙ or-right (any (onwardTo F (λ y. eqb (needed F B n u (suc d) y) 0) u) (numbers n)) (any-numbers-of (λ z. leads F B n u z && exactly F n u d z) n w in-w (and-of lead way))))
+      (test
+      ∙ or-right (any (onwardTo F (λ y. eqb (needed F B n u (suc d) y) 0) u) (numbers n))
+      (any-numbers-of (λ z. leads F B n u z && exactly F n u d z) n w in-w (and-of lead way))))
 
   module _ (below : d < 64) where
     later-below : later < 64
@@ -182,7 +184,8 @@ module _ (table forwards backs : List ℕ) (nodes n : ℕ) (full : n ≡ 64) {wh
             (subst (λ (k : ℕ). q .leaves < startingLimit F n s k (t .1)) (sym one) wide)
 
     -- the least steps are greedy choices
-    greedy : Greedy g s (canFinish g F B n s) (suc (d + 1)) starting s (stepsFrom table backs (preparedFor forwards backs nodes d s) (suc (d + 1)) Going.Starting s)
+    greedy : Greedy g s (canFinish g F B n s) (suc (d + 1)) starting s
+        (stepsFrom table backs (preparedFor forwards backs nodes d s) (suc (d + 1)) Going.Starting s)
     unfolding preparedFor
     greedy =
         start-greedy tabled n full (preparedFor forwards backs nodes d s) regular inside places picks in-s worked (d + 1) (omega arith) counted
@@ -196,7 +199,8 @@ module _ (table forwards backs : List ℕ) (nodes n : ℕ) (full : n ≡ 64) {wh
         let t = accepted-leads regular picks inside places (first .node) refl (other .1) in
         let in-first = accepted-inside (other .1) in
         let back = t .2 in
-        (in-first, (t .0, t .1, exact-least (back .0) (back .1) (t .0) (back .2) (back .3) (back .4) (back .5) below, λ e. start-told in-first (t .0) e (t .3)))
+        let least = exact-least (back .0) (back .1) (t .0) (back .2) (back .3) (back .4) (back .5) below in
+        (in-first, (t .0, t .1, least, λ e. start-told in-first (t .0) e (t .3)))
       where
         x : ℕ
         x = first .node

@@ -50,7 +50,8 @@ prepared nodes start ways opened wide = record { nodes = nodes; start = start; w
 unfoldable pub taken : List ℕ → List ℕ → Prepared → ℕ → Going → ℕ → Taken
 taken table backs p r going x =
     stepOf
-    (leastStep table x (needsOf backs (p .ways) (p .opened) (p .wide) (p .start) (p .nodes) r going) (limitsOf (p .ways) (p .wide) (p .nodes) r going))
+    (leastStep table x (needsOf backs (p .ways) (p .opened) (p .wide) (p .start) (p .nodes) r going)
+    (limitsOf (p .ways) (p .wide) (p .nodes) r going))
 
 abbrev pub stepTaken : ℕ → Taken → Step
 stepTaken x t = record { node = x; leaves = t .leaves; enters = t .enters; flow = flowOf (t .back) }
@@ -125,7 +126,8 @@ putSteps area k (s ∷ steps) = putSteps (putStep area k s) (suc k) steps
 -- ---- what the parts promise
 
 -- the step taken is written as step k, and the search goes on from the node that it enters
-pub record TakenAs (table backs : List ℕ) (p : Prepared) (r : ℕ) (going : Going) (x k : ℕ) (before after : List ℕ) (node : ℕ) (next : Going) : Type 0 where
+pub record TakenAs (table backs : List ℕ) (p : Prepared) (r : ℕ) (going : Going) (x k : ℕ) (before after : List ℕ) (node : ℕ)
+    (next : Going) : Type 0 where
   pub area : after ≡ putStep before k (stepTaken x (taken table backs p r going x))
   pub entered : node ≡ taken table backs p r going x .into
   pub phase : next ≡ goingOn table going x (taken table backs p r going x)
@@ -159,9 +161,9 @@ stepsIn WalkFound.NoRoom = none
 stepsIn WalkFound.NoWalk = none
 stepsIn (WalkFound.Shown steps) = some steps
 
--- what is answered, the refusal and the steps, and what the area holds afterwards. S20: under 65 steps it is too short, and stays as it was. Else it
--- stays as it was where no graph whose edges the tables hold has a dangerous closed walk among the nodes of the word; or (Req 01) the walk that stands
--- in it is the first of each such graph among these nodes, in the graph's own numbering, and has at most 65 steps.
+-- what is answered, the refusal and the steps, and what the area holds afterwards. S20: under 65 steps it is too short, and stays as it was. Else
+-- it stays as it was where no graph whose edges the tables hold has a dangerous closed walk among the nodes of the word; or (Req 01) the walk that
+-- stands in it is the first of each such graph among these nodes, in the graph's own numbering, and has at most 65 steps.
 pub data WalkAnswered (table forwards backs : List ℕ) (nodes : ℕ) (before : List ℕ) : Option ℕ → Option ℕ → List ℕ → Type 0 where
   no-room : shortForWalk (length before / 4) ≡ true → WalkAnswered table forwards backs nodes before (some 20) none before
   no-walk : shortForWalk (length before / 4) ≡ false → firstAmong table forwards backs nodes ≡ []

@@ -117,7 +117,8 @@ finish-last g forwards backs n s closing x on c = (eqb-true x s c, refl)
 finish-last g forwards backs n s (ending f e) x on c = let both = and-true (eqb x s) _ c in (eqb-true x s (both .0), both .1)
 
 module _ {whole : Graph} {table : List ℕ} (tabled : Tabled table whole) {forwards : Picks} {backs : List ℕ} (n : ℕ) (full : n ≡ 64)
-    (p : Prepared) (regular : Regular (only (has (p .nodes)) whole)) (inside : whole .size ≤ n) (few-places : SmallPlaces (only (has (p .nodes)) whole))
+    (p : Prepared) (regular : Regular (only (has (p .nodes)) whole)) (inside : whole .size ≤ n)
+    (few-places : SmallPlaces (only (has (p .nodes)) whole))
     (picks : Picked (only (has (p .nodes)) whole) n forwards (backsIn backs)) (in-s : p .start < n)
     {most : ℕ} (worked : Worked forwards backs n (p .start) (p .ways) (p .opened) (p .wide) most) where
   abbrev g : Graph
@@ -178,8 +179,10 @@ module _ {whole : Graph} {table : List ℕ} (tabled : Tabled table whole) {forwa
             let few = few-places x (other .leaves) z (other .enters) (other .flow) (c .edge) in
             let into = regular .inNodes x (other .leaves) z (other .enters) (other .flow) (c .edge) .1 in
             word-order (t .leaves) (t .enters) (flowOf (t .back)) (t .into) (other .leaves) (other .enters) (other .flow) z
-            (found .leavesSmall) (found .entersSmall) (found .intoSmall) (few .0) (few .1) (omega (arith, into)) (let same = found .same in omega arith);
-        going = going-same (goingIn g ph) (t .back) (cond (looseAt table x (t .leaves)) 1024 (t .enters)) (openBelow g (stepTaken x t)) (t .leaves) opens
+            (found .leavesSmall) (found .entersSmall) (found .intoSmall) (few .0) (few .1) (omega (arith, into))
+            (let same = found .same in omega arith);
+        going = going-same (goingIn g ph) (t .back) (cond (looseAt table x (t .leaves)) 1024 (t .enters)) (openBelow g (stepTaken x t)) (t .leaves)
+            opens
             ∙ ap (λ (b : Bool). goingAfter (goingIn g ph) b (openBelow g (stepTaken x t)) (t .leaves)) (sym (flow-taken (t .back)))
             ∙ sym (choice .going);
       }

@@ -1,5 +1,5 @@
-// The first dangerous closed walk among at most 64 nodes (Req 01): the fewest steps, then the least list of steps. `table` has the places of the nodes,
-// `forwards` and `backs` the words of the edge that stands for all of its flow between two nodes (edge_word), `nodes` the nodes that count.
+// The first dangerous closed walk among at most 64 nodes (Req 01): the fewest steps, then the least list of steps. `table` has the places of the
+// nodes, `forwards` and `backs` the words of the edge that stands for all of its flow between two nodes (edge_word), `nodes` the nodes that count.
 //
 // How many steps it has is told by the shortest way back from where a dangerous pair leads (walk_lead), where it starts by which nodes are on such a
 // walk (walk_ways, walk_lead). Then the least step that can be completed is taken again and again (walk_need, walk_step).
@@ -180,7 +180,10 @@ fn put_walk(
 // Searches tables that have the edges between nodes of the word alone.
 fn search(table: &[u64], forwards: &[u64], backs: &[u64], nodes: u64, out: &mut [u64]) -> WalkFound
     requires { ⌜ 260 ≤ length (now out) ⌝ }
-    ensures { λ r. ⌜ Searched (now (table .entry)) (now (forwards .entry)) (now (backs .entry)) nodes (now (out .entry)) (stepsIn r) (refusalIn r) (now (out .exit)) ⌝ }
+    ensures { λ r. ⌜
+        Searched (now (table .entry)) (now (forwards .entry)) (now (backs .entry)) nodes (now (out .entry)) (stepsIn r) (refusalIn r)
+        (now (out .exit))
+        ⌝ }
 {
     let rows = joined_rows(forwards);
     let leads = lead_rows(forwards, backs);
@@ -233,7 +236,8 @@ pub fn find_walk(
     out: &mut [u64],
 ) -> WalkFound
     ensures { λ r. ⌜
-        WalkAnswered (now (table .entry)) (now (forwards .entry)) (now (backs .entry)) nodes (now (out .entry)) (refusalIn r) (stepsIn r) (now (out .exit))
+        WalkAnswered (now (table .entry)) (now (forwards .entry)) (now (backs .entry)) nodes (now (out .entry)) (refusalIn r) (stepsIn r)
+        (now (out .exit))
         ⌝ }
 {
     if out.len() < WALK_WORDS {

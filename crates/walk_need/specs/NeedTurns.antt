@@ -14,7 +14,8 @@ use Rattle.pick_laws.specs.declared.Pick.{Pick}
 use Rattle.pick_laws.specs.Completing.{leastBelow, leavesAt}
 use Rattle.pick_laws.specs.Demands.{onlyIf}
 use Rattle.edge_word.specs.Coding.{backEdge, backPick}
-use Rattle.walk_need.specs.Needs.{leavesFor, firstLeaving, openingNeed, wideAt, endingNeed, needAt, needAmong, startingLimitAt, limitAt, limitAmong}
+use Rattle.walk_need.specs.Needs.{leavesFor, firstLeaving, openingNeed, wideAt, endingNeed, needAt, needAmong}
+use Rattle.walk_need.specs.Needs.{startingLimitAt, limitAt, limitAmong}
 
 -- ---- where a back edge leaves
 

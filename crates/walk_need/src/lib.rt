@@ -1,6 +1,7 @@
-// Which steps count at a node in the search for the first walk: for each node entered, how far a forward step into it must open, and below which place
-// a back step into it must leave (pick_laws/Demands). `ways` has for each number of steps the nodes from which exactly so many forward steps end the
-// walk, `opened` those from which so many steps still lead through a dangerous pair, `wide` how far the last of so many steps can open (walk_ways).
+// Which steps count at a node in the search for the first walk: for each node entered, how far a forward step into it must open, and below which
+// place a back step into it must leave (pick_laws/Demands). `ways` has for each number of steps the nodes from which exactly so many forward steps
+// end the walk, `opened` those from which so many steps still lead through a dangerous pair, `wide` how far the last of so many steps can open
+// (walk_ways).
 
 use edge_word::NODES;
 use edge_word::PLACES;

@@ -19,7 +19,9 @@ element-copy-out-result c = search needs
 
 returns : tie.Need-returns
 unfolding chosenWord
-returns c = simp (← c .before .before .before .before .has-bit .ensures, c .before .before .before .if1 .taken, ← c .before .before .has-bit2 .ensures, c .before .if2 .taken)
+returns c =
+    let c3 = c .before .before .before in
+    simp (← c3 .before .has-bit .ensures, c3 .if1 .taken, ← c .before .before .has-bit2 .ensures, c .before .if2 .taken)
 
 returns-2 : tie.Need-returns-2
 unfolding chosenWord

@@ -15,7 +15,10 @@ same-length : tie.Need-same-length
 same-length c = search needs
 
 returns-2 : tie.Need-returns-2
-returns-2 c = let c6 = c .before .before .before .before .before .before in answer-searched _ _ _ _ _ (c6 .before .if1 .left) (searched-every _ _ _ _ _ (c6 .if2 .taken) (c .before .before .search .ensures))
+returns-2 c =
+    let c6 = c .before .before .before .before .before .before in
+    answer-searched _ _ _ _ _ (c6 .before .if1 .left)
+    (searched-every _ _ _ _ _ (c6 .if2 .taken) (c .before .before .search .ensures))
 
 chosen-words-requires : tie.Need-chosen-words-requires
 chosen-words-requires c κs = search needs
@@ -36,9 +39,11 @@ same-length-2 : tie.Need-same-length-2
 same-length-2 c = search needs
 
 returns-3 : tie.Need-returns-3
-returns-3 c = let c7 = c .before .before .before .before .before .before .before in
+returns-3 c =
+    let c6 = c .before .before .before .before .before .before in
+    let c7 = c6 .before in
     answer-searched _ _ _ _ _ (c7 .before .before .if1 .left)
-    (searched-some _ _ _ _ _ (c7 .before .if2 .left) (c7 .chosen-words .ensures) (c .before .before .before .before .before .before .chosen-words2 .ensures) (c .before .before .search2 .ensures))
+    (searched-some _ _ _ _ _ (c7 .before .if2 .left) (c7 .chosen-words .ensures) (c6 .chosen-words2 .ensures) (c .before .before .search2 .ensures))
 
 pub find-walk-spec : {M : Type 1} → statement M
 find-walk-spec =

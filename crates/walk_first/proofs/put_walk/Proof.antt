@@ -8,7 +8,8 @@ use Rattle.walk_first.proofs.put_walk.Statement.{statement}
 use Rattle.walk_first.proofs.put_walk.Tie as tie
 
 abbrev Inv-loop : tie.InvT-loop
-Inv-loop table backs ways opened wide s nodes steps out₀ node₀ going₀ k₀ out node going k = PutTurn table backs (prepared nodes s ways opened wide) steps out₀ out node going k
+Inv-loop table backs ways opened wide s nodes steps out₀ node₀ going₀ k₀ out node going k =
+    PutTurn table backs (prepared nodes s ways opened wide) steps out₀ out node going k
 
 abbrev μ-loop : tie.MeasureT-loop
 μ-loop table backs ways opened wide s nodes steps out₀ node₀ going₀ k₀ out node going k = steps - k

@@ -16,7 +16,9 @@ shortest-return-requires : tie.Need-shortest-return-requires
 shortest-return-requires c κs = search needs
 
 returns : tie.Need-returns
-returns c = let c4 = c .before .before .before .before in search-none _ _ _ _ _ (c4 .before .joined-rows .ensures) (c4 .lead-rows .ensures) (c .before .shortest-return .ensures) (c .if1 .taken)
+returns c =
+    let c4 = c .before .before .before .before in
+    search-none _ _ _ _ _ (c4 .before .joined-rows .ensures) (c4 .lead-rows .ensures) (c .before .shortest-return .ensures) (c .if1 .taken)
 
 add-steps : tie.Need-add-steps
 add-steps c = search needs
@@ -49,7 +51,11 @@ slice-aggregate-put-walk-3 : tie.Need-slice-aggregate-put-walk-3
 slice-aggregate-put-walk-3 c = search needs
 
 put-walk-requires : tie.Need-put-walk-requires
-put-walk-requires c κs = let c17 = c .before .before .before .before .before .before .before .before .before .before .before .before .before .before .before .before .before in let below = c17 .if1 .left in (omega arith, c17 .before .before .before .before .before .before .before .before .before .before .pre)
+put-walk-requires c κs =
+    let c8 = c .before .before .before .before .before .before .before .before in
+    let c17 = c8 .before .before .before .before .before .before .before .before .before in
+    let c27 = c17 .before .before .before .before .before .before .before .before .before .before in
+    let below = c17 .if1 .left in (omega arith, c27 .pre)
 
 same-length : tie.Need-same-length
 same-length c = search needs
@@ -60,7 +66,9 @@ returns-2 c = let c7 = c .before .before .before .before .before .before .before
     let c21 = c15 .before .before .before .before .before .before in
     let c24 = c21 .before .before .before in
     search-found _ _ _ _ _ (c24 .before .joined-rows .ensures) (c24 .lead-rows .ensures) (c21 .shortest-return .ensures)
-    (let below = c15 .before .before .before .before .before .if1 .left in omega arith) (c15 .before .before .first-start .ensures) (c15 .wrap-start .ensures) (c7 .before .before .before .before .before .before .ways-to .ensures)
+    (let below = c15 .before .before .before .before .before .if1 .left in omega arith)
+    (c15 .before .before .first-start .ensures) (c15 .wrap-start .ensures)
+    (c7 .before .before .before .before .before .before .ways-to .ensures)
     (c7 .before .before .openings .ensures) (c7 .widest-table .ensures) (c .before .before .put-walk .ensures)
 
 pub search-spec : {M : Type 1} → statement M

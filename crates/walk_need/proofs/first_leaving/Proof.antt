@@ -38,7 +38,9 @@ loop-again c = let c3 = c .before .before .before in let l = c .lesser .ensures 
 
 returns : tie.Need-returns Inv-loop μ-loop
 unfolding firstLeaving
-returns c = (last-turn (leastBelow (leavesFor _ _ _) 1024) 64 _ (c .before .loop .inv .1) (c .before .loop .inv .0) (c .loop-test .left), c .before .loop .inv .2)
+returns c =
+    let inv = c .before .loop .inv in
+    (last-turn (leastBelow (leavesFor _ _ _) 1024) 64 _ (inv .1) (inv .0) (c .loop-test .left), inv .2)
 
 pub first-leaving-spec : {M : Type 1} → statement M
 first-leaving-spec =

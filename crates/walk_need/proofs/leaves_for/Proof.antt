@@ -22,7 +22,10 @@ leaves-at-requires : tie.Need-leaves-at-requires
 leaves-at-requires c κs = search needs
 
 returns : tie.Need-returns
-returns c = (leaves-there _ _ _ _ (c .before .before .before .has-bit .ensures) (c .before .before .if1 .taken) (c .before .word-at .ensures) (c .leaves-at .ensures .0), c .leaves-at .ensures .1)
+returns c =
+    let c2 = c .before .before in
+    let there = c .leaves-at .ensures in
+    (leaves-there _ _ _ _ (c2 .before .has-bit .ensures) (c2 .if1 .taken) (c .before .word-at .ensures) (there .0), there .1)
 
 returns-2 : tie.Need-returns-2
 returns-2 c = (leaves-not _ _ _ _ (c .before .has-bit .ensures) (c .if1 .left), omega arith)

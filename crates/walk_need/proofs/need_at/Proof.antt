@@ -42,8 +42,9 @@ returns-2 : tie.Need-returns-2
 returns-2 c = need-opening _ _ _ _ _ _ _ (c .before .before .going .given .1) (c .opening-need2 .ensures)
 
 returns-3 : tie.Need-returns-3
-returns-3 c = need-closing _ _ _ _ _ _ _ (c .before .before .before .enum-told2 .given .1) (c .before .before .word-at .ensures) (c .before .has-bit .ensures)
-    (c .only-if .ensures)
+returns-3 c =
+    let c2 = c .before .before in
+    need-closing _ _ _ _ _ _ _ (c2 .before .enum-told2 .given .1) (c2 .word-at .ensures) (c .before .has-bit .ensures) (c .only-if .ensures)
 
 returns-4 : tie.Need-returns-4
 returns-4 c = need-ending _ _ _ _ _ _ _ (c .before .before .going2 .given .1) (c .ending-need .ensures)

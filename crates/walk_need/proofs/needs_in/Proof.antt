@@ -10,7 +10,8 @@ use Rattle.walk_need.proofs.needs_in.Statement.{statement}
 use Rattle.walk_need.proofs.needs_in.Tie as tie
 
 abbrev Inv-loop : tie.InvT-loop
-Inv-loop backs ways opened wide s nodes r going needs₀ y₀ needs y = (y ≤ 64) × (needs ≡ listBelow (needAmong backs ways opened wide s nodes r going) y)
+Inv-loop backs ways opened wide s nodes r going needs₀ y₀ needs y =
+    (y ≤ 64) × (needs ≡ listBelow (needAmong backs ways opened wide s nodes r going) y)
 
 abbrev μ-loop : tie.MeasureT-loop
 μ-loop backs ways opened wide s nodes r going needs₀ y₀ needs y = 64 - y

@@ -32,7 +32,8 @@ add-result c = search needs
 
 returns-3 : tie.Need-returns-3
 returns-3 c = let c2 = c .before .before in
-    opening-next _ _ _ _ _ (c2 .before .before .before .if1 .left) (c2 .before .before .word-at .ensures) (c2 .before .has-bit .ensures) (c2 .if2 .left)
+    opening-next _ _ _ _ _ (c2 .before .before .before .if1 .left)
+    (c2 .before .before .word-at .ensures) (c2 .before .has-bit .ensures) (c2 .if2 .left)
     (c .before .word-at2 .ensures) (c .first-leaving .ensures .0)
 
 pub opening-need-spec : {M : Type 1} → statement M
