@@ -22,30 +22,30 @@ unfolding order
 steps s t = order (s ∷ []) (t ∷ [])
 
 -- Req 01: node, then place left, then place entered, then flow, forward first; a smaller number later on does not count
-R1-numbers : (steps (step 0 9 9 back) (step 1 0 0 forward) ≡ (true, false))
+Req01-numbers : (steps (step 0 9 9 back) (step 1 0 0 forward) ≡ (true, false))
     × (steps (step 5 0 9 back) (step 5 1 0 forward) ≡ (true, false))
     × (steps (step 5 5 0 back) (step 5 5 1 forward) ≡ (true, false))
     × (steps (step 5 5 5 forward) (step 5 5 5 back) ≡ (true, false))
     × (steps (step 5 5 5 back) (step 5 5 5 back) ≡ (false, false))
 unfolding steps
-R1-numbers = (refl, refl, refl, refl, refl)
+Req01-numbers = (refl, refl, refl, refl, refl)
 
 -- Req 01: fewer steps come first, whatever their numbers
-R1-fewest : (order (step 9 9 9 back ∷ []) (step 0 0 0 forward ∷ step 0 0 0 forward ∷ []) ≡ (true, false))
+Req01-fewest : (order (step 9 9 9 back ∷ []) (step 0 0 0 forward ∷ step 0 0 0 forward ∷ []) ≡ (true, false))
     × (order [] (step 0 0 0 forward ∷ []) ≡ (true, false))
 unfolding order
-R1-fewest = (refl, refl)
+Req01-fewest = (refl, refl)
 
 -- Req 01: step by step: an earlier step decides before a later one, by any of its numbers
-R1-steps : (order (step 0 0 0 forward ∷ step 9 9 9 back ∷ []) (step 0 0 0 back ∷ step 0 0 0 forward ∷ []) ≡ (true, false))
+Req01-steps : (order (step 0 0 0 forward ∷ step 9 9 9 back ∷ []) (step 0 0 0 back ∷ step 0 0 0 forward ∷ []) ≡ (true, false))
     × (order (step 0 0 0 forward ∷ step 1 9 9 back ∷ []) (step 0 0 0 forward ∷ step 2 0 0 forward ∷ []) ≡ (true, false))
 unfolding order
-R1-steps = (refl, refl)
+Req01-steps = (refl, refl)
 
 -- Req 01: in document 01's example with `ps` twice the same walk may begin at either node: the lower comes first
-R1-begin : order (step 0 1 1 forward ∷ step 1 0 1 back ∷ []) (step 1 0 1 back ∷ step 0 1 1 forward ∷ []) ≡ (true, false)
+Req01-begin : order (step 0 1 1 forward ∷ step 1 0 1 back ∷ []) (step 1 0 1 back ∷ step 0 1 1 forward ∷ []) ≡ (true, false)
 unfolding order
-R1-begin = refl
+Req01-begin = refl
 
 -- ---- a graph with every edge, each leaving a loose place
 
@@ -59,9 +59,14 @@ abbrev pub return : Step
 return = step 0 0 0 back
 
 -- Req 01: a dangerous walk that another one comes before is not the first
-R1-not-first : FirstWalk every (return ∷ forth ∷ []) → ⊥
+Req01-not-first : FirstWalk every (return ∷ forth ∷ []) → ⊥
 unfolding isDangerous isEdge dangerousPair comesBefore smaller stepNumbers flatMap
-R1-not-first h = true≢false (h .first (forth ∷ return ∷ []) refl)
+Req01-not-first h = true≢false (h .first (forth ∷ return ∷ []) refl)
+
+-- Req 01: nor is a walk that is not dangerous
+Req01-not-dangerous : FirstWalk every [] → ⊥
+unfolding isDangerous
+Req01-not-dangerous h = false≢true (h .dangerous)
 
 -- a list is not smaller than one that begins with 0, if the rest is not
 from-zero : (x : ℕ) (k l : List ℕ) → smaller k l ≡ false → smaller (x ∷ k) (0 ∷ l) ≡ false
@@ -112,9 +117,9 @@ one-flow x y forward = refl
 one-flow x y back = refl
 
 -- Req 01: there is a first walk in it, forward and back
-R1-first : FirstWalk every (forth ∷ return ∷ [])
+Req01-first : FirstWalk every (forth ∷ return ∷ [])
 unfolding isDangerous isEdge dangerousPair
-R1-first = record { dangerous = refl; first = none }
+Req01-first = record { dangerous = refl; first = none }
   where
     none : (other : List Step) → isDangerous every other ≡ true → comesBefore other (forth ∷ return ∷ []) ≡ false
     none [] d = absurd (false≢true d)

@@ -28,6 +28,7 @@ use Rattle.spec_report.specs.State.{Counts, counted, countsOf, statement
 use Rattle.spec_report.specs.State.{shortForUnfoldings, shortForEdges, shortForWalk}
 use Rattle.spec_report.specs.State.StateRefusal.{not-given, too-many, too-short, taken}
 use Rattle.spec_report.specs.SmallestWalk.{smallest-first}
+use Rattle.spec_report.specs.Area.{stepWords, shownIn}
 use Rattle.spec_report.specs.Report.{verdictNames, robustWord, dangerWord, stepNames, refusedNames, decimal, verdictLine, stepLine, stepLines}
 use Rattle.spec_report.specs.Report.{refusalReport, robustReport, dangerReport, Report}
 use Rattle.spec_report.specs.Report.Report.{refusal, unfolding-refusal, robust, danger}
@@ -245,3 +246,10 @@ update-danger = danger update-lines refl refl (forth ∷ return ∷ []) (smalles
 update-not-robust : Robust update-lines → ⊥
 unfolding update-lines edgesShort summaryGraph graphOf placeAt isDangerous isEdge dangerousPair
 update-not-robust none-dangerous = none-dangerous (forth ∷ return ∷ [], refl)
+
+-- W5: in the area the steps stand at the front, four words to a step, and the rest stays as it was
+walk-in-area : shownIn (record { node = 1; leaves = 2; enters = 3; flow = Flow.forward } ∷ record { node = 4; leaves = 5; enters = 6; flow = Flow.back } ∷ [])
+    (10 ∷ 11 ∷ 12 ∷ 13 ∷ 14 ∷ 15 ∷ 16 ∷ 17 ∷ 18 ∷ 19 ∷ [])
+    ≡ 1 ∷ 2 ∷ 3 ∷ 0 ∷ 4 ∷ 5 ∷ 6 ∷ 1 ∷ 18 ∷ 19 ∷ []
+unfolding shownIn stepWords flatMap
+walk-in-area = refl
