@@ -248,7 +248,8 @@ unfolding update-lines edgesShort summaryGraph graphOf placeAt isDangerous isEdg
 update-not-robust none-dangerous = none-dangerous (forth ∷ return ∷ [], refl)
 
 -- W5: in the area the steps stand at the front, four words to a step, and the rest stays as it was
-walk-in-area : shownIn (record { node = 1; leaves = 2; enters = 3; flow = Flow.forward } ∷ record { node = 4; leaves = 5; enters = 6; flow = Flow.back } ∷ [])
+walk-in-area : shownIn
+    (record { node = 1; leaves = 2; enters = 3; flow = Flow.forward } ∷ record { node = 4; leaves = 5; enters = 6; flow = Flow.back } ∷ [])
     (10 ∷ 11 ∷ 12 ∷ 13 ∷ 14 ∷ 15 ∷ 16 ∷ 17 ∷ 18 ∷ 19 ∷ [])
     ≡ 1 ∷ 2 ∷ 3 ∷ 0 ∷ 4 ∷ 5 ∷ 6 ∷ 1 ∷ 18 ∷ 19 ∷ []
 unfolding shownIn stepWords flatMap
