@@ -4,3 +4,4 @@ pub mod StepTurnLaws
 pub mod LeastStepLaws
 pub mod Tabled
 pub mod LooseLaws
+pub mod MayLaws

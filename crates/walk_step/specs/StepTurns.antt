@@ -1,13 +1,19 @@
 -- The least word so far, and that no row so far is loose, row after row.
 use mathlib.Core.Path.{_≡_}
-use mathlib.Core.Bool.{false, cond}
+use mathlib.Core.Bool.{Bool, false, cond, _&&_, _||_}
 use mathlib.Core.List.{List}
 use Prim.Native.Nat.{ℕ, zero, suc, _<_}
+use lib.Dec.{ltb, leb}
+use lib.ListN.{getD}
 use Rattle.place_row.specs.declared.Row.{Row}
 use Rattle.place_row.specs.RowTable.{rowAt}
 use Rattle.pick_laws.specs.Completing.{leastBelow}
 use Rattle.step_word.specs.StepWord.{noStep}
 use Rattle.walk_step.specs.LeastStep.{pairStep, leavesFrom, looseRow}
+
+-- a step from a place into a row of node y can count, by what is asked for y alone
+unfoldable pub mayCount : List ℕ → List ℕ → ℕ → ℕ → Bool
+mayCount needs limits place y = ltb y 64 && (leb (getD needs y 0) 1024 || ltb place (getD limits y 0))
 
 -- the least of the best word so far and those of the steps from a row to the first n rows
 unfoldable pub rowLeast : List ℕ → ℕ → List ℕ → List ℕ → Row → ℕ → ℕ

@@ -4,8 +4,9 @@
 ghost use mathlib.Core.Path.{_≡_};
 ghost use Prim.Native.Nat.{_≤_, min};
 ghost use Rattle.walk_step.specs.LeastStep.{hasWord, opensTo, forwardCounts, backCounts, countedStep, pairStep, leastStep};
+ghost use Rattle.place_row.specs.RowTable.{rowAt};
 ghost use Rattle.walk_step.specs.LeastStep.{looseRow, looseAt};
-ghost use Rattle.walk_step.specs.StepTurns.{rowLeast, fromRow};
+ghost use Rattle.walk_step.specs.StepTurns.{mayCount, rowLeast, fromRow};
 use edge_kinds::LOOSE;
 use edge_kinds::kind_has;
 use edge_test::back_stands;
@@ -14,10 +15,13 @@ use edge_word::NODES;
 use edge_word::PLACES;
 use place_fetch::row_at;
 use place_fetch::row_count;
+use place_row::ROW_WORDS;
+use place_row::ROWS;
 use place_row::Row;
 use step_word::LEAVES;
 use step_word::NO_STEP;
 use step_word::step_word;
+use word_list::word_at;
 
 // Whether a word has room for a step into row q: its node is below 64 and its place below 1024.
 fn has_word(q: Row) -> bool
@@ -91,6 +95,45 @@ fn better_step(p: Row, q: Row, needs: &[u64; NODES], limits: &[u64; NODES], best
     best
 }
 
+// Whether a step from a place into a row of node y can count, by what is asked for y alone. Most rows are passed over by this: it is cheaper than to
+// take the row out of the table.
+fn may_count(needs: &[u64; NODES], limits: &[u64; NODES], place: u64, y: u64) -> bool
+    ensures { λ r. ⌜ r ≡ mayCount (now (needs .entry)) (now (limits .entry)) place y ⌝ }
+{
+    if y < NODES as u64 {
+        let k = y as usize;
+        if needs[k] <= PLACES {
+            return true;
+        }
+        return place < limits[k];
+    }
+    false
+}
+
+// The lesser of the best word so far and that of the least step from row p to row j that counts.
+fn with_row(
+    table: &[u64],
+    j: usize,
+    p: Row,
+    needs: &[u64; NODES],
+    limits: &[u64; NODES],
+    best: u64,
+) -> u64
+    requires { ⌜ best ≤ 134217728 ⌝ }
+    ensures { λ r. ⌜ r ≡ min best (pairStep (now (needs .entry)) (now (limits .entry)) p (rowAt (now (table .entry)) j)) ⌝ }
+{
+    if j < ROWS {
+        let y = word_at(table, j * ROW_WORDS);
+        if may_count(needs, limits, p.place, y) {
+            let q = row_at(table, j);
+            return better_step(p, q, needs, limits, best);
+        }
+        return best;
+    }
+    let q = row_at(table, j);
+    better_step(p, q, needs, limits, best)
+}
+
 // The least of the best word so far and those of the steps from row p to the first n rows.
 fn row_least(
     table: &[u64],
@@ -106,8 +149,7 @@ fn row_least(
     let mut least = best;
     let mut j: usize = 0;
     while j < n {
-        let q = row_at(table, j);
-        least = better_step(p, q, needs, limits, least);
+        least = with_row(table, j, p, needs, limits, least);
         j += 1;
     }
     least

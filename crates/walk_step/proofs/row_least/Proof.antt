@@ -1,6 +1,6 @@
 -- After j rows the least is that of the best word and the steps to each of them (row-turn).
 use Rattle.walk_step.specs.StepTurns.{rowLeast}
-use mathlib.Core.Path.{_≡_}
+use mathlib.Core.Path.{_≡_, refl}
 use native.Mathlib.Omega.{arith}
 use Prim.Native.Nat.{_-_, _≤_}
 use Rattle.walk_step.specs.StepTurnLaws.{row-first, row-turn, row-read}
@@ -17,11 +17,8 @@ abbrev μ-loop : tie.MeasureT-loop
 loop-holds : tie.Need-loop-holds Inv-loop μ-loop
 loop-holds c = (omega arith, c .before .pre, row-first _ _ _ _ _)
 
-row-at-requires : tie.Need-row-at-requires Inv-loop μ-loop
-row-at-requires c κs = search needs
-
-better-step-requires : tie.Need-better-step-requires Inv-loop μ-loop
-better-step-requires c κs = c .before .before .loop .inv .1
+with-row-requires : tie.Need-with-row-requires Inv-loop μ-loop
+with-row-requires c κs = c .before .loop .inv .1
 
 add-j : tie.Need-add-j Inv-loop μ-loop
 add-j c = search needs
@@ -31,9 +28,9 @@ loop-less c = search needs
 
 loop-again : tie.Need-loop-again Inv-loop μ-loop
 loop-again c =
-    let e = c .better-step .ensures in
-    let h = c .before .before .before .loop .inv in
-    (omega arith, omega (arith, e, h .1), row-turn _ _ _ _ _ _ (c .before .row-at .ensures) (h .2) e)
+    let e = c .with-row .ensures in
+    let h = c .before .before .loop .inv in
+    (omega arith, omega (arith, e, h .1), row-turn _ _ _ _ _ _ refl (h .2) e)
 
 returns : tie.Need-returns Inv-loop μ-loop
 returns c = row-read _ _ _ _ _ (c .before .loop .inv .0) (c .loop-test .left) (c .before .loop .inv .2)
@@ -45,8 +42,7 @@ row-least-spec =
     Inv-loop
     μ-loop
     loop-holds
-    row-at-requires
-    better-step-requires
+    with-row-requires
     add-j
     loop-less
     loop-again

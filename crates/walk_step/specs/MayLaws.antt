@@ -1,0 +1,77 @@
+-- Rows that cannot count are passed over: the least step stays what it is.
+use mathlib.Core.Path.{_≡_, refl, sym, ap, _∙_}
+use mathlib.Core.Bool.{Bool, true, false, cond, _&&_, _||_}
+use mathlib.Core.List.{List}
+use mathlib.Core.Logic.{_⊎_, inl, inr}
+use Prim.Native.Nat.{ℕ, _*_, _≤_, _<_, min}
+use native.Mathlib.Omega.{arith}
+use lib.Dec.{ltb, leb}
+use lib.ListN.{getD}
+use borrow.Author.Tests.{ltb-true, lt-ltb, le-ltb, leb-false, le-leb, lt-leb}
+use Rattle.law_base.specs.BoolLaws.{decide, and-true, or-false}
+use Rattle.spec_graph.specs.Edge.{loosens}
+use Rattle.place_row.specs.declared.Row.{Row}
+use Rattle.place_row.specs.RowTable.{rowAt}
+use Rattle.walk_step.specs.LeastStep.{opensTo, forwardCounts, backCounts, flowStep, countedStep, hasWord, pairStep}
+use Rattle.walk_step.specs.StepTurns.{mayCount}
+
+-- one law for each path of the test
+pub may-past : (needs limits : List ℕ) (place y : ℕ) → 64 ≤ y → false ≡ mayCount needs limits place y
+unfolding mayCount
+may-past needs limits place y h = rw (le-ltb y 64 h) refl
+
+pub may-forward : (needs limits : List ℕ) (place y : ℕ) → y < 64 → getD needs y 0 ≤ 1024 → true ≡ mayCount needs limits place y
+unfolding mayCount
+may-forward needs limits place y h l = rw (lt-ltb y 64 h, le-leb (getD needs y 0) 1024 l) refl
+
+pub may-back : (needs limits : List ℕ) (place y : ℕ) → y < 64 → 1024 < getD needs y 0 → ltb place (getD limits y 0) ≡ mayCount needs limits place y
+unfolding mayCount
+may-back needs limits place y h l = rw (lt-ltb y 64 h, lt-leb (getD needs y 0) 1024 l) refl
+
+-- a row for which a word has room
+room-node : (q : Row) → hasWord q ≡ true → ltb (q .node) 64 ≡ true
+unfolding hasWord
+room-node q e = and-true (ltb (q .node) 64) (ltb (q .place) 1024) e .0
+
+room-place : (q : Row) → hasWord q ≡ true → q .place < 1024
+unfolding hasWord
+room-place q e = ltb-true (q .place) 1024 (and-true (ltb (q .node) 64) (ltb (q .place) 1024) e .1)
+
+-- an edge opens no further than 1024
+opens-most : (p q : Row) → q .place < 1024 → opensTo p q ≤ 1024
+unfolding opensTo
+opens-most p q h = by-loose (loosens (p .kind))
+  where
+    by-loose : (b : Bool) → cond b 1024 (q .place) ≤ 1024
+    by-loose true = omega arith
+    by-loose false = omega arith
+
+-- where more is needed than any edge opens, and no back edge leaves below the limit, no step counts
+none-counts : (p q : Row) (need limit : ℕ) → q .place < 1024 → leb need 1024 || ltb (p .place) limit ≡ false
+    → countedStep need limit p q ≡ 134217728
+unfolding countedStep flowStep forwardCounts backCounts
+none-counts p q need limit room h =
+    let both = or-false (leb need 1024) (ltb (p .place) limit) h in
+    let far = leb-false need 1024 (both .0) in
+    let most = opens-most p q room in
+    rw (lt-leb need (opensTo p q) (omega arith), both .1) refl
+
+-- what cannot count has no step
+may-not : (needs limits : List ℕ) (p q : Row) → mayCount needs limits (p .place) (q .node) ≡ false → pairStep needs limits p q ≡ 134217728
+unfolding mayCount pairStep
+may-not needs limits p q h = by-room (decide (hasWord q))
+  where
+    by-room : (hasWord q ≡ true) ⊎ (hasWord q ≡ false)
+        → cond (hasWord q) (countedStep (getD needs (q .node) 0) (getD limits (q .node) 0) p q) 134217728 ≡ 134217728
+    by-room (inr e) = rw e refl
+    by-room (inl e) =
+        rw e
+        (none-counts p q (getD needs (q .node) 0) (getD limits (q .node) 0) (room-place q e)
+        (sym (ap (λ (b : Bool). b && (leb (getD needs (q .node) 0) 1024 || ltb (p .place) (getD limits (q .node) 0))) (room-node q e)) ∙ h))
+
+-- so the best word stays the least
+pub row-passed : (needs limits table : List ℕ) (p : Row) (j : ℕ) {y best : ℕ} {b : Bool} → best ≤ 134217728 → y ≡ getD table (j * 8) 0
+    → b ≡ mayCount needs limits (p .place) y → b ≡ false → best ≡ min best (pairStep needs limits p (rowAt table j))
+unfolding rowAt
+row-passed needs limits table p j h e m f =
+    let none = may-not needs limits p (rowAt table j) (sym (m ∙ ap (mayCount needs limits (p .place)) e) ∙ f) in omega arith
