@@ -126,16 +126,24 @@ unfoldable pub binds : Link → Occurrence → Occurrence → Bool
 binds l child parent =
     eqb (l .child) (child .statement .id) && eqb (l .parent) (parent .statement .id) && leads (parent .path) (child .path)
 
--- E3: by a link of this key the place has a parent before it, of a kind that shields
-unfoldable pub guarded : ℕ → Place → Bool
-guarded key s =
+-- E3: by a link of this key one of these occurrences is the place's parent, of a kind that shields
+unfoldable pub hasParent : ℕ → Place → List Occurrence → Bool
+hasParent key s among =
     any
-    (λ l. eqb (l .key) key && any (λ parent. binds l (s .occurrence) parent && shields (parent .statement .kind)) (take (s .place) (s .node .places)))
+    (λ l. eqb (l .key) key && any (λ parent. binds l (s .occurrence) parent && shields (parent .statement .kind)) among)
     (s .node .links)
+
+-- E3, Req 02: in the near program, which the edge leaves, the parent stands before the child
+unfoldable pub guardedNear : ℕ → Place → Bool
+guardedNear key s = hasParent key s (take (s .place) (s .node .places))
+
+-- E3, Req 02: in the far program, which the edge enters, the parent stands anywhere; the child may be its own
+unfoldable pub guardedFar : ℕ → Place → Bool
+guardedFar key s = hasParent key s (s .node .places)
 
 -- E3: some key shields the pair
 unfoldable pub shielded : Place → Place → Bool
-shielded s t = any (λ l. guarded (l .key) s && guarded (l .key) t) (s .node .links)
+shielded s t = any (λ l. guardedNear (l .key) s && guardedFar (l .key) t) (s .node .links)
 
 -- E1
 unfoldable pub forward : Place → Place → Bool

@@ -376,14 +376,24 @@ E3-far-unlinked : backs (family reader (ku 0 0 0 1 ∷ ku 1 1 0 2 ∷ [])) ≡ (
 unfolding backs
 E3-far-unlinked = refl
 
--- E3: nor where a parent comes after its child
+-- the writer that writes the child first and its parent last
+abbrev lateWriter : List Line
+lateWriter = ku 0 1 0 2 ∷ ku 1 0 0 1 ∷ li 0 0 1 ∷ []
+
+-- E3: nor where the near parent comes after its child
 E3-near-late : backs (family (ks 0 1 2 ∷ ku 1 0 0 1 ∷ li 0 0 1 ∷ []) writer) ≡ (0, 0, 1, 1) ∷ []
 unfolding backs
 E3-near-late = refl
 
-E3-far-late : backs (family reader (ku 0 1 0 2 ∷ ku 1 0 0 1 ∷ li 0 0 1 ∷ [])) ≡ (0, 1, 1, 0) ∷ []
+-- Req 02: the far parent may come after its child
+E3-far-late : backs (family reader lateWriter) ≡ []
 unfolding backs
 E3-far-late = refl
+
+-- Req 02: where both come late, the near one is too late
+E3-both-late : backs (family (ks 0 1 2 ∷ ku 1 0 0 1 ∷ li 0 0 1 ∷ []) lateWriter) ≡ (0, 0, 1, 0) ∷ []
+unfolding backs
+E3-both-late = refl
 
 -- E3: the parent is the link's, and another statement before the child is not
 E3-near-other-parent : backs (family (ku 0 0 0 1 ∷ ks 1 1 2 ∷ ku 2 0 0 1 ∷ li 0 1 2 ∷ []) writer) ≡ (0, 1, 1, 1) ∷ []
@@ -395,16 +405,24 @@ E3-near-other-child : backs (family (ku 0 0 0 1 ∷ ks 1 1 2 ∷ ks 2 1 2 ∷ li
 unfolding backs
 E3-near-other-child = refl
 
--- E3: a statement linked to itself is not before itself
-E3-own-parent : backs (rl 0 3 ∷ fk 0 0 0 ∷ pr 0 ∷ ku 0 0 0 1 ∷ ks 1 0 2 ∷ li 0 1 0 ∷ pr 1 ∷ ku 0 0 0 2 ∷ li 0 0 0 ∷ [])
-    ≡ (0, 1, 1, 0) ∷ []
+-- Req 02: a statement linked to itself is its own far parent
+E3-own-far-parent : backs (rl 0 3 ∷ fk 0 0 0 ∷ pr 0 ∷ ku 0 0 0 1 ∷ ks 1 0 2 ∷ li 0 1 0 ∷ pr 1 ∷ ku 0 0 0 2 ∷ li 0 0 0 ∷ []) ≡ []
 unfolding backs
-E3-own-parent = refl
+E3-own-far-parent = refl
+
+-- E3: and not its own near parent: it is not before itself
+E3-own-near-parent : backs (rl 0 3 ∷ fk 0 0 0 ∷ pr 0 ∷ ks 0 0 2 ∷ li 0 0 0 ∷ pr 1 ∷ ku 0 0 0 2 ∷ li 0 0 0 ∷ []) ≡ (0, 0, 1, 0) ∷ []
+unfolding backs
+E3-own-near-parent = refl
 
 -- E3: one key for both sides
 E3-two-keys : backs (family reader (ku 0 0 0 1 ∷ ku 1 1 0 2 ∷ li 1 1 0 ∷ [])) ≡ (0, 1, 1, 1) ∷ []
 unfolding backs
 E3-two-keys = refl
+
+E3-two-keys-late : backs (family reader (ku 0 1 0 2 ∷ ku 1 0 0 1 ∷ li 1 0 1 ∷ [])) ≡ (0, 1, 1, 0) ∷ []
+unfolding backs
+E3-two-keys-late = refl
 
 -- E3: any key will do
 E3-second-key : backs (family (ks 0 0 2 ∷ ku 1 0 0 1 ∷ ks 2 1 2 ∷ li 0 2 0 ∷ li 1 2 1 ∷ []) (ku 0 0 0 1 ∷ ku 1 1 0 2 ∷ li 1 1 0 ∷ [])) ≡ []
@@ -425,6 +443,21 @@ E3-far-kinds : map (λ parent. isBackEdge (family reader (parent ∷ ku 1 1 0 2 
     ≡ false ∷ true ∷ true ∷ false ∷ true ∷ false ∷ true ∷ []
 unfolding isBackEdge
 E3-far-kinds = refl
+
+-- Req 02: and after the child: a ks, too, shields nowhere (the parents of this list have id 0, so the child has 1)
+E3-far-late-kinds : map (λ parent. isBackEdge (family reader (ku 1 1 0 2 ∷ parent ∷ li 0 1 0 ∷ [])) 0 1 1 0) parents
+    ≡ false ∷ true ∷ true ∷ false ∷ true ∷ false ∷ true ∷ []
+unfolding isBackEdge
+E3-far-late-kinds = refl
+
+-- E3: in the far program, too, parent and child are the link's, and others of their relations are not
+E3-far-other-parent : backs (family reader (ku 0 1 0 2 ∷ ku 1 0 0 1 ∷ ks 2 0 2 ∷ li 0 0 2 ∷ [])) ≡ (0, 1, 1, 0) ∷ []
+unfolding backs
+E3-far-other-parent = refl
+
+E3-far-other-child : backs (family reader (ku 0 1 0 2 ∷ ku 1 1 0 2 ∷ ku 2 0 0 1 ∷ li 0 1 2 ∷ [])) ≡ (0, 1, 1, 0) ∷ []
+unfolding backs
+E3-far-other-child = refl
 
 -- E3: a node shields against itself, too: two runs of one program
 E3-itself : backs (rl 0 3 ∷ rl 1 3 ∷ fk 0 1 0 ∷ pr 0 ∷ ku 0 0 0 1 ∷ ks 1 1 2 ∷ ku 2 1 0 2 ∷ li 0 1 0 ∷ li 0 2 0 ∷ []) ≡ []
@@ -454,8 +487,8 @@ E4-near-turn-before : backs (family (lo ∷ ks 0 1 2 ∷ ku 1 0 0 1 ∷ en ∷ l
 unfolding backs
 E4-near-turn-before = refl
 
-E4-far-turn-before : backs (family reader (lo ∷ ku 0 1 0 2 ∷ ku 1 0 0 1 ∷ en ∷ li 0 0 1 ∷ []))
-    ≡ (0, 1, 2, 0) ∷ (0, 1, 3, 0) ∷ (0, 1, 3, 2) ∷ []
+-- Req 02: in the far program each turn has its own parent, late as it may be
+E4-far-turn-before : backs (family reader (lo ∷ ku 0 1 0 2 ∷ ku 1 0 0 1 ∷ en ∷ li 0 0 1 ∷ [])) ≡ []
 unfolding backs
 E4-far-turn-before = refl
 
@@ -474,6 +507,25 @@ E4-parent-inside : backs (family (lo ∷ ku 0 0 0 1 ∷ en ∷ ks 1 1 2 ∷ li 0
     ≡ (0, 0, 3, 1) ∷ (1, 1, 3, 1) ∷ (2, 2, 3, 1) ∷ []
 unfolding backs
 E4-parent-inside = refl
+
+-- E4: nor in the far program, where the loop turns not at all, once, twice (no text has such a link, nor one into the other arm)
+E4-far-parent-inside : backs (family reader (lo ∷ ku 0 0 0 1 ∷ en ∷ ku 1 1 0 2 ∷ li 0 1 0 ∷ []))
+    ≡ (0, 1, 1, 0) ∷ (0, 1, 2, 1) ∷ (0, 1, 3, 2) ∷ []
+unfolding backs
+E4-far-parent-inside = refl
+
+E4-far-other-arm : backs (family reader (br ∷ ku 0 1 0 2 ∷ el ∷ ku 1 0 0 1 ∷ en ∷ li 0 0 1 ∷ [])) ≡ (0, 1, 1, 0) ∷ []
+unfolding backs
+E4-far-other-arm = refl
+
+-- Req 02: a far parent after its child in the same arm, and after the branch
+E4-far-same-arm : backs (family reader (br ∷ ku 0 1 0 2 ∷ ku 1 0 0 1 ∷ el ∷ en ∷ li 0 0 1 ∷ [])) ≡ []
+unfolding backs
+E4-far-same-arm = refl
+
+E4-far-after-branch : backs (family reader (br ∷ ku 0 1 0 2 ∷ el ∷ ku 1 1 0 2 ∷ en ∷ ku 2 0 0 1 ∷ li 0 0 2 ∷ [])) ≡ (0, 1, 2, 0) ∷ []
+unfolding backs
+E4-far-after-branch = refl
 
 -- E4: a parent in an outer loop's turn, before the inner loop; node 12 turns each loop twice
 E4-outer-turn : let lines = family (lo ∷ ku 0 0 0 1 ∷ lo ∷ ks 1 1 2 ∷ en ∷ en ∷ li 0 1 0 ∷ []) writer in

@@ -11,7 +11,7 @@ use Rattle.spec_text.specs.declared.StatementKind.the-variants.{Is, Ks, Ps, Ku,
 use Rattle.spec_graph.specs.Graph.{Flow, Graph, isBack}
 use Rattle.spec_graph.specs.Program.{statementOf, inFrontOf, runOf, programsOf, linksOf}
 use Rattle.spec_graph.specs.Unfolding.{inside, occurrences, pairs, unfoldings, nodesOfProgram, nodesFrom, nodesOf}
-use Rattle.spec_graph.specs.Edge.{Letter, Edge, W, R, T, holds, sameRelation, leads, binds, guarded, shielded, forward, back}
+use Rattle.spec_graph.specs.Edge.{Letter, Edge, W, R, T, holds, sameRelation, leads, binds, hasParent, guardedNear, guardedFar, shielded, forward, back}
 use Rattle.spec_graph.specs.Edge.{placesFrom, placesOf, letterOf, shared, edgeOf, edgesBetween, edgesOf, placeAt, graphOf}
 use Rattle.spec_graph.specs.Walk.{Step, isEdge, dangerousPair, isDangerous}
 
@@ -80,7 +80,7 @@ ids body = map (λ n. map (λ o. o .statement .id) (n .places)) (nodesOf (rl 0 1
 
 -- the records of its edges; whoever unfolds this can compute edges
 unfoldable pub edges : List Line → List Edge
-unfolding nodes W R T holds sameRelation leads binds guarded shielded forward back placesFrom placesOf
+unfolding nodes W R T holds sameRelation leads binds hasParent guardedNear guardedFar shielded forward back placesFrom placesOf
     letterOf shared edgeOf edgesBetween edgesOf onesIn trailingZeros
 edges lines = edgesOf (nodesOf lines)
 

@@ -17,7 +17,7 @@ use Rattle.spec_text.specs.declared.StatementKind.the-variants.{Is, Ks, Ps, Ku,
 use Rattle.spec_graph.specs.Program.{Program, programsOf}
 use Rattle.spec_graph.specs.Unfolding.{pairs, unfoldings, nodesOfProgram, nodesFrom, nodesOf}
 use Rattle.spec_graph.specs.Graph.Flow.{forward, back}
-use Rattle.spec_graph.specs.Edge.{holds, sameRelation, guarded, shielded, placeAt, graphOf}
+use Rattle.spec_graph.specs.Edge.{holds, sameRelation, hasParent, guardedNear, guardedFar, shielded, placeAt, graphOf}
 use Rattle.spec_graph.specs.Edge
 use Rattle.spec_graph.specs.Walk.{DangerousWalk, isEdge, dangerousPair, isDangerous}
 use Rattle.spec_graph.specs.Program.Item.{statement}
@@ -104,7 +104,7 @@ programs = refl
 
 -- a pd is dangerous by itself: it meets itself by C and by E
 pub dangerous : DangerousWalk (graphOf (nodesOf lines))
-unfolding openWorkload pairs unfoldings nodesOfProgram nodesFrom nodesOf holds sameRelation guarded shielded
+unfolding openWorkload pairs unfoldings nodesOfProgram nodesFrom nodesOf holds sameRelation hasParent guardedNear guardedFar shielded
     Edge.forward Edge.back placeAt graphOf isEdge dangerousPair isDangerous
 dangerous =
     (record { node = 1; leaves = 1; enters = 1; flow = forward } ∷ record { node = 1; leaves = 1; enters = 1; flow = back } ∷ [], refl)

@@ -15,7 +15,7 @@ use Rattle.spec_text.specs.declared.StatementKind.the-variants.{Ks, Ku}
 use Rattle.spec_graph.specs.Program.{Program, programsOf}
 use Rattle.spec_graph.specs.Unfolding.{pairs, unfoldings, nodesOfProgram, nodesFrom, nodesOf}
 use Rattle.spec_graph.specs.Graph.Flow.{forward, back}
-use Rattle.spec_graph.specs.Edge.{holds, sameRelation, guarded, shielded, placeAt, graphOf}
+use Rattle.spec_graph.specs.Edge.{holds, sameRelation, hasParent, guardedNear, guardedFar, shielded, placeAt, graphOf}
 use Rattle.spec_graph.specs.Edge
 use Rattle.spec_graph.specs.Walk.{DangerousWalk, isEdge, dangerousPair, isDangerous}
 use Rattle.spec_graph.specs.Program.Item.{statement}
@@ -41,7 +41,7 @@ program = record { body = next (statement (says Ks 0 0 1 0 0)) (next (statement 
 
 -- the workload is dangerous
 pub dangerous : DangerousWalk (graphOf (nodesOf lines))
-unfolding openWorkload pairs unfoldings nodesOfProgram nodesFrom nodesOf holds sameRelation guarded shielded
+unfolding openWorkload pairs unfoldings nodesOfProgram nodesFrom nodesOf holds sameRelation hasParent guardedNear guardedFar shielded
     Edge.forward Edge.back placeAt graphOf isEdge dangerousPair isDangerous
 dangerous =
     (record { node = 0; leaves = 0; enters = 1; flow = forward } ∷ record { node = 0; leaves = 0; enters = 1; flow = back } ∷ [], refl)
