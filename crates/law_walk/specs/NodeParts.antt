@@ -14,7 +14,7 @@ use Rattle.spec_base.specs.Basic.{any, keep, numbersFrom, numbers}
 use Rattle.law_base.specs.ListLaws.{any-same, getElem?-found, getElem?-lt, some-injective, keep-yes, keep-no, keep-member, numbersFrom-member}
 use Rattle.spec_graph.specs.Graph.{Flow}
 use Rattle.spec_graph.specs.Unfolding.{Node, Occurrence}
-use Rattle.spec_graph.specs.Edge.{Place, Letter, at, holds, selects, sameRelation, guarded, shielded, forward, back, stands, bothPass}
+use Rattle.spec_graph.specs.Edge.{Place, Letter, at, holds, selects, sameRelation, hasParent, guardedNear, guardedFar, shielded, forward, back, stands, bothPass}
 use Rattle.spec_graph.specs.Edge.{loosensAt, placeAt, graphOf}
 use Rattle.spec_graph.specs.Walk.{Step}
 use Rattle.law_walk.specs.Reach.{regular}
@@ -29,18 +29,22 @@ record Alike (s t : Place) : Type 0 where
   links : s .node .links ≡ t .node .links
   places : s .node .places ≡ t .node .places
 
--- they have parents that shield by the same keys
-guarded-alike : (key : ℕ) {s t : Place} → Alike s t → guarded key s ≡ guarded key t
-unfolding guarded
-guarded-alike key a = rw (a .occurrence, a .place, a .links, a .places) refl
+-- they have parents that shield by the same keys, near and far
+near-alike : (key : ℕ) {s t : Place} → Alike s t → guardedNear key s ≡ guardedNear key t
+unfolding guardedNear hasParent
+near-alike key a = rw (a .occurrence, a .place, a .links, a .places) refl
+
+far-alike : (key : ℕ) {s t : Place} → Alike s t → guardedFar key s ≡ guardedFar key t
+unfolding guardedFar hasParent
+far-alike key a = rw (a .occurrence, a .links, a .places) refl
 
 -- so the same pairs are shielded
 shielded-alike : {s s′ t t′ : Place} → Alike s s′ → Alike t t′ → shielded s t ≡ shielded s′ t′
 unfolding shielded
 shielded-alike {s} {s′} {t} {t′} a b =
-    any-same _ (λ l. guarded (l .key) s′ && guarded (l .key) t′) (s .node .links)
-    (λ l m. ap₂ _&&_ (guarded-alike (l .key) a) (guarded-alike (l .key) b))
-    ∙ ap (any (λ l. guarded (l .key) s′ && guarded (l .key) t′)) (a .links)
+    any-same _ (λ l. guardedNear (l .key) s′ && guardedFar (l .key) t′) (s .node .links)
+    (λ l m. ap₂ _&&_ (near-alike (l .key) a) (far-alike (l .key) b))
+    ∙ ap (any (λ l. guardedNear (l .key) s′ && guardedFar (l .key) t′)) (a .links)
 
 -- and the same edges stand
 stands-alike : (flow : Flow) {s s′ t t′ : Place} → Alike s s′ → Alike t t′ → stands flow s t ≡ stands flow s′ t′

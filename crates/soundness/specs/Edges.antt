@@ -15,7 +15,7 @@ use Rattle.spec_text.specs.declared.Line.{Line}
 use Rattle.spec_text.specs.declared.StatementKind.{StatementKind}
 use Rattle.spec_graph.specs.Program.{Statement}
 use Rattle.spec_graph.specs.Unfolding.{Occurrence, occurrences}
-use Rattle.spec_graph.specs.Edge.{Letter, at, holds, sameRelation, guarded, shielded, forward, back, stands, hasReads, hasTests, selects, loosens}
+use Rattle.spec_graph.specs.Edge.{Letter, at, holds, sameRelation, guardedNear, guardedFar, shielded, forward, back, stands, hasReads, hasTests, selects, loosens}
 use Rattle.spec_graph.specs.Edge.Letter.{A, B, C, D, E}
 use Rattle.spec_schedule.specs.Event.{Action, Event, isRead, isWrite, isPredicateRead}
 use Rattle.spec_schedule.specs.Event.Action.{read, write, insert, delete, predicateRead, commit}
@@ -30,7 +30,7 @@ use Rattle.soundness.specs.transactions.Events.{schedule-lawful}
 use Rattle.soundness.specs.transactions.Statements.{Stated, operationOf, update-next, place-order}
 use Rattle.law_walk.specs.EveryKind.{kind-implies}
 use Rattle.soundness.specs.EdgeLetters.{Sets, letter-A, letter-B, letter-C, letter-D, letter-E, does-read-what, does-test-what}
-use Rattle.soundness.specs.Visits.{Visit, At, Spot, Guard, guard-of, performed-occurrence}
+use Rattle.soundness.specs.Visits.{Visit, At, Spot, Guard, guard-near, guard-far, performed-occurrence}
 
 -- ---- what a test of an action says of it
 
@@ -168,17 +168,18 @@ module _ {lines : List Line} (s : Schedule lines) (set : ℕ → ℕ)
     pub early : w .commit < v .commit → m < w .commit
     early h = read-left (schedule-lawful s) atB atA dependency commit-b commit-a h
 
-    -- ---- the shield: two writing parents of one tuple, both before the second commit, cannot be
+    -- ---- the shield: two writing parents of one tuple, both before the second commit, the near one since it stands before b, cannot be
     shield-holds : w .commit < v .commit → SameTuple b a → isPredicateRead (b .action) ≡ false → isPredicateRead (a .action) ≡ false
         → b .transaction ≢ a .transaction → shielded (p .spot) (q .spot) ≡ true → ⊥
     unfolding shielded
     shield-holds h t nb na apart sh =
-        let f = any-true (λ l. guarded (l .key) (p .spot) && guarded (l .key) (q .spot)) (p .spot .node .links) sh in
-        let both = and-true (guarded (f .0 .key) (p .spot)) (guarded (f .0 .key) (q .spot)) (f .2) in
-        meet (f .0 .key) (guard-of s v l (f .0 .key) b p hereB nb (both .0)) (guard-of s w r (f .0 .key) a q hereA na (both .1))
+        let f = any-true (λ l. guardedNear (l .key) (p .spot) && guardedFar (l .key) (q .spot)) (p .spot .node .links) sh in
+        let both = and-true (guardedNear (f .0 .key) (p .spot)) (guardedFar (f .0 .key) (q .spot)) (f .2) in
+        let near = guard-near s v l (f .0 .key) b p hereB nb (both .0) in
+        meet (f .0 .key) (near .0) (near .1) (guard-far s w r (f .0 .key) a q hereA na (both .1))
       where
-        meet : (key : ℕ) → Guard s v key b → Guard s w key a → ⊥
-        meet key g k =
+        meet : (key : ℕ) (g : Guard s v key b) → g .event .place < b .place → Guard s w key a → ⊥
+        meet key g earlier k =
             let same : SameTuple (g .event) (k .event) =
             record {
               relation =
@@ -194,7 +195,7 @@ module _ {lines : List Line} (s : Schedule lines) (set : ℕ → ℕ)
             } in
             shield (schedule-lawful s) (g .position) (k .position) atB atA dependency apart (g .stands) (k .stands) (g .writes) (k .writes) same
             (g .own ∙ sym ofB) (k .own ∙ sym ofA)
-            (place-order s i (v .found) (g .position) m (g .event) b (g .stands) atB (g .own) ofB (g .earlier)) commit-b commit-a h
+            (place-order s i (v .found) (g .position) m (g .event) b (g .stands) atB (g .own) ofB earlier) commit-b commit-a h
 
     -- a dependency whose second transaction commits first has a back edge
     pub back-edge : w .commit < v .commit → back (p .spot) (q .spot) ≡ true

@@ -12,11 +12,11 @@ use lib.ListN.{length, getElem?, take}
 use borrow.Author.Tests.{eqb-true, eq-eqb}
 use Rattle.spec_base.specs.Basic.{any, all}
 use Rattle.law_base.specs.BoolLaws.{and-true, and-of, or-true, true-false, not-true}
-use Rattle.law_base.specs.ListLaws.{any-true, all-true, getElem?-member, getElem?-found, getElem?-of-take, member-getElem?}
+use Rattle.law_base.specs.ListLaws.{any-true, all-true, getElem?-member, getElem?-lt, getElem?-found, getElem?-of-take, member-getElem?}
 use Rattle.spec_text.specs.declared.Line.{Line}
 use Rattle.spec_graph.specs.Program.{Statement, Link}
 use Rattle.spec_graph.specs.Unfolding.{Occurrence, Node, occurrences, nodesOf}
-use Rattle.spec_graph.specs.Edge.{Place, at, placeAt, binds, leads, guarded, shields}
+use Rattle.spec_graph.specs.Edge.{Place, at, placeAt, binds, leads, hasParent, guardedNear, guardedFar, shields}
 use Rattle.spec_schedule.specs.Event.{Event, isWrite, isPredicateRead}
 use Rattle.spec_schedule.specs.Schedule.{Transaction, Performed, Operation, Schedule, performed, linkKept, keysKept}
 use Rattle.soundness.specs.committing.Rules.{CommitsAt}
@@ -101,13 +101,14 @@ module _ {lines : List Line} (s : Schedule lines) where
             (ap (λ (k : ℕ). getElem? (occurrences (v .transaction .execution) 0) k) (a .to) ∙ p .0);
       }
 
-  -- what a guarded place says of its event: its transaction has, before it, written the key's image of each of the event's tuples
+  -- what a guarded place says of its event: its transaction writes the key's image of each of the event's tuples, at the parent's place in the node
   pub record Guard {i : ℕ} (v : Visit i) (key : ℕ) (e : Event) : Type 0 where
     pub position : ℕ
     pub event : Event
     pub stands : getElem? (s .events) position ≡ some event
     pub own : event .transaction ≡ i
-    pub earlier : event .place < e .place
+    pub parent : ℕ
+    pub to : v .folded .to parent ≡ event .place
     pub writes : isWrite (event .action) ≡ true
     pub relation : s .key key (record { relation = e .relation; number = e .tuple }) .relation ≡ event .relation
     pub tuple : s .key key (record { relation = e .relation; number = e .tuple }) .number ≡ event .tuple
@@ -159,11 +160,13 @@ module _ {lines : List Line} (s : Schedule lines) where
           go (inl n) = absurd (true-false b (not-true (binds l (child .occurrence) (parent .occurrence)) n))
           go (inr h) = h
 
-  -- a guarded place has its guard
-  pub guard-of : {i : ℕ} (v : Visit i) (place key : ℕ) (e : Event) (p : Spot v place e) → At v place e → isPredicateRead (e .action) ≡ false
-      → guarded key (p .spot) ≡ true → Guard v key e
-  unfolding guarded
-  guard-of {i} v place key e p a np h = linked (any-true _ (p .spot .node .links) h)
+  -- a place that has a parent among some places of its node has its guard, at one of them: the parent's statement writes what the link says
+  guard-among : {i : ℕ} (v : Visit i) (place key : ℕ) (e : Event) (p : Spot v place e) → At v place e → isPredicateRead (e .action) ≡ false
+      → (Among : ℕ → Type 0) (among : List Occurrence)
+      → ((k : ℕ) (o : Occurrence) → getElem? among k ≡ some o → Among k × (getElem? (p .spot .node .places) k ≡ some o))
+      → hasParent key (p .spot) among ≡ true → (g : Guard v key e) × Among (g .parent)
+  unfolding hasParent
+  guard-among {i} v place key e p a np Among among found h = linked (any-true _ (p .spot .node .links) h)
     where
       x : Transaction
       x = v .transaction
@@ -181,11 +184,11 @@ module _ {lines : List Line} (s : Schedule lines) where
       childAt = ap (λ (k : ℕ). getElem? executed k) (a .to) ∙ performed-occurrence x (e .place) (p .stated .at) .0
 
       -- the parent in the unfolding, at place k, is one in the execution
-      parent : (l : Link) → List·Memᴰ l (x .program .links) → l .key ≡ key → (k : ℕ) (o : Occurrence) → k < place → getElem? unfolded k ≡ some o
-          → binds l (p .spot .occurrence) o ≡ true → shields (o .statement .kind) ≡ true → Guard v key e
-      parent l inLinks sameKey k o before atO b sh =
+      parent : (l : Link) → List·Memᴰ l (x .program .links) → l .key ≡ key → (k : ℕ) (o : Occurrence) → Among k → getElem? unfolded k ≡ some o
+          → binds l (p .spot .occurrence) o ≡ true → shields (o .statement .kind) ≡ true → (g : Guard v key e) × Among (g .parent)
+      parent l inLinks sameKey k o here atO b sh =
           let to = v .folded .to k in
-          let o′ = getElem?-found executed to (v .folded .inside k (omega (arith, a .inside))) in
+          let o′ = getElem?-found executed to (v .folded .inside k (getElem?-lt unfolded k atO)) in
           let q = occurrence-performed x to (o′ .1) in
           let sameParent : o .statement ≡ q .0 .occurrence .statement =
           v .folded .keeps k o (o′ .0) atO (o′ .1) ∙ ap (λ (o : Occurrence). o .statement) (sym (q .2)) in
@@ -202,15 +205,14 @@ module _ {lines : List Line} (s : Schedule lines) where
           link-image x kept l inLinks (e .place) to (p .stated .at) (q .1) bound (e .tuple) (w .1 .tuple)
           (does-tuple (p .stated .belongs .does) np) (w .7) in
           let rel : statementDone child .relation ≡ e .relation = sym (p .stated .belongs .relation) in
+          let guard : Guard v key e =
           record {
             position = w .0;
             event = w .1;
             stands = w .2;
             own = w .3;
-            earlier =
-                let up = v .folded .rising k place before (a .inside) in
-                let here : w .1 .place ≡ to = w .4 in
-                omega (arith, a .to);
+            parent = k;
+            to = sym (w .4);
             writes = w .5;
             relation =
                 subst (λ (r : ℕ). s .key key (record { relation = r; number = e .tuple }) .relation ≡ w .1 .relation) rel
@@ -221,29 +223,41 @@ module _ {lines : List Line} (s : Schedule lines) where
                 subst (λ (r : ℕ). s .key key (record { relation = r; number = e .tuple }) .number ≡ w .1 .tuple) rel
                 (subst (λ (f : ℕ). s .key f (record { relation = statementDone child .relation; number = e .tuple }) .number ≡ w .1 .tuple) sameKey
                 (image .1));
-          }
+          } in
+          (guard, here)
 
       linked : (l : Link) × List·Memᴰ l (p .spot .node .links)
-          × (eqb (l .key) key
-          && any (λ parent. binds l (p .spot .occurrence) parent && shields (parent .statement .kind))
-          (take (p .spot .place) (p .spot .node .places))
-          ≡ true)
-          → Guard v key e
+          × (eqb (l .key) key && any (λ parent. binds l (p .spot .occurrence) parent && shields (parent .statement .kind)) among ≡ true)
+          → (g : Guard v key e) × Among (g .parent)
       linked (l, inLinks, h) =
           let two =
-          and-true (eqb (l .key) key)
-          (any (λ parent. binds l (p .spot .occurrence) parent && shields (parent .statement .kind))
-          (take (p .spot .place) (p .spot .node .places))) h in
-          let found =
-          any-true (λ parent. binds l (p .spot .occurrence) parent && shields (parent .statement .kind))
-          (take (p .spot .place) (p .spot .node .places)) (two .1) in
-          let both = and-true (binds l (p .spot .occurrence) (found .0)) (shields (found .0 .statement .kind)) (found .2) in
-          let position = member-getElem? (found .1) in
+          and-true (eqb (l .key) key) (any (λ parent. binds l (p .spot .occurrence) parent && shields (parent .statement .kind)) among) h in
+          let one = any-true (λ parent. binds l (p .spot .occurrence) parent && shields (parent .statement .kind)) among (two .1) in
+          let both = and-true (binds l (p .spot .occurrence) (one .0)) (shields (one .0 .statement .kind)) (one .2) in
+          let position = member-getElem? (one .1) in
           let k = position .0 in
-          let taken = getElem?-of-take (p .spot .place) (p .spot .node .places) k (position .1) in
-          let atO : getElem? unfolded k ≡ some (found .0) =
+          let taken = found k (one .0) (position .1) in
+          let atO : getElem? unfolded k ≡ some (one .0) =
           ap (λ (l : List Occurrence). getElem? l k) (sym (v .places))
-          ∙ subst (λ (n : Node). getElem? (n .places) k ≡ some (found .0)) (p .node) (taken .1) in
+          ∙ subst (λ (n : Node). getElem? (n .places) k ≡ some (one .0)) (p .node) (taken .1) in
           parent l
           (subst (λ (links : List Link). List·Memᴰ l links) (ap (λ (n : Node). n .links) (p .node) ∙ v .links) inLinks)
-          (eqb-true (l .key) key (two .0)) k (found .0) (subst (λ (n : ℕ). k < n) (p .here) (taken .0)) atO (both .0) (both .1)
+          (eqb-true (l .key) key (two .0)) k (one .0) (taken .0) atO (both .0) (both .1)
+
+  -- E3: a place guarded on the near side has its guard before it: the map of places rises
+  pub guard-near : {i : ℕ} (v : Visit i) (place key : ℕ) (e : Event) (p : Spot v place e) → At v place e → isPredicateRead (e .action) ≡ false
+      → guardedNear key (p .spot) ≡ true → (g : Guard v key e) × (g .event .place < e .place)
+  unfolding guardedNear
+  guard-near v place key e p a np h =
+      let places = p .spot .node .places in
+      let g =
+      guard-among v place key e p a np (λ k. k < place) (take (p .spot .place) places)
+      (λ k o m. let t = getElem?-of-take (p .spot .place) places k m in (subst (λ (n : ℕ). k < n) (p .here) (t .0), t .1)) h in
+      let up = v .folded .rising (g .0 .parent) place (g .1) (a .inside) in
+      (g .0, omega (arith, a .to, g .0 .to))
+
+  -- Req 02: a place guarded on the far side has its guard, wherever it stands
+  pub guard-far : {i : ℕ} (v : Visit i) (place key : ℕ) (e : Event) (p : Spot v place e) → At v place e → isPredicateRead (e .action) ≡ false
+      → guardedFar key (p .spot) ≡ true → Guard v key e
+  unfolding guardedFar
+  guard-far v place key e p a np h = guard-among v place key e p a np (λ k. Unit {0}) (p .spot .node .places) (λ k o m. (tt, m)) h .0
