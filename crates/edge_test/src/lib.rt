@@ -11,6 +11,7 @@ use edge_kinds::INSERT;
 use edge_kinds::SELECT;
 use edge_kinds::TESTS;
 use edge_kinds::kind_has;
+use place_row::FAR;
 use place_row::Row;
 
 // A: neither a delete first nor an insert second, and the writes meet.
@@ -93,14 +94,15 @@ pub fn forward_letter(p: Row, q: Row) -> u8
     0
 }
 
-// The letter of the back edge between two rows: E whatever the keys say, else D for a select that no key shields; 0 where no edge stands.
+// The letter of the back edge between two rows: E whatever the keys say, else D for a select that no key shields; 0 where no edge stands. The
+// first row's keys are asked as those of the place left, the second's as those of the place entered.
 pub fn back_letter(p: Row, q: Row) -> u8
     ensures { λ r. ⌜ r ≡ letterBetween G.Flow.back p q ⌝ }
 {
     if p.relation != q.relation {
         return 0;
     }
-    let free = p.keys & q.keys == 0;
+    let free = p.keys & q.keys / FAR == 0;
     let phantom = changes(q, p);
     // E stands whatever the keys say.
     if phantom {

@@ -1,2 +1,3 @@
+pub mod KeyWord
 pub mod RowTable
 pub mod RowTableLaws

@@ -9,11 +9,12 @@ use lib.ListN.{length, getD}
 use Rattle.spec_base.specs.Basic.{numbers, meets}
 use Rattle.spec_graph.specs.Graph.{Flow}
 use Rattle.spec_graph.specs.Unfolding.{Node}
-use Rattle.spec_graph.specs.Edge.{hasTests, inserts, deletes, selects, R, W, T, Letter, Place, at, guarded, placesOf, Edge}
+use Rattle.spec_graph.specs.Edge.{hasTests, inserts, deletes, selects, R, W, T, Letter, Place, at, guardedNear, guardedFar, placesOf, Edge}
 use Rattle.spec_graph.specs.Edge.Letter.{A, B, C, D, E}
 pub use Rattle.edge_kinds.specs.Kinds.{kindNumber}
 unfoldable pub use Rattle.edge_kinds.specs.Kinds.{kindOf}
 use Rattle.place_row.specs.declared.Row.{Row}
+use Rattle.place_row.specs.KeyWord.{packedKeys, farIn}
 
 -- the word whose bit k is set where the test passes for k, for k below n
 unfoldable pub wordOf : (ℕ → Bool) → ℕ → ℕ
@@ -30,7 +31,7 @@ rowOf s = record {
   reads = R (at s);
   writes = W (at s);
   tests = T (at s);
-  keys = wordOf (λ f. guarded f s) 32;
+  keys = packedKeys (wordOf (λ f. guardedNear f s) 32) (wordOf (λ f. guardedFar f s) 32);
 }
 
 -- the rows of the places of all nodes
@@ -52,11 +53,11 @@ rowForward p q =
     eqb (p .relation) (q .relation)
     && (rowHolds A p q || rowHolds B p q || rowHolds C p q || rowHolds D p q || rowHolds E p q)
 
--- E2 over rows: some key shields the pair where the two words of keys meet
+-- E2 over rows: some key shields the pair where the keys of the first, as it is left, meet those of the second, as it is entered
 unfoldable pub rowBack : Row → Row → Bool
 rowBack p q =
     eqb (p .relation) (q .relation)
-    && (rowHolds E p q || selects (p .kind) && rowHolds D p q && not (meets (p .keys) (q .keys)))
+    && (rowHolds E p q || selects (p .kind) && rowHolds D p q && not (meets (p .keys) (farIn (q .keys))))
 
 -- an edge with this flow stands between the two rows
 abbrev pub rowStands : Flow → Row → Row → Bool

@@ -31,7 +31,9 @@ use Rattle.spec_graph.specs.Edge.{
   at,
   holds,
   sameRelation,
-  guarded,
+  hasParent,
+  guardedNear,
+  guardedFar,
   shielded,
   forward,
   back,
@@ -42,6 +44,7 @@ use Rattle.spec_graph.specs.Edge.{edgeOf, edgesBetween, placesFrom, placesOf, e
 use Rattle.spec_graph.specs.Edge.Letter.{A, B, C, D, E}
 use Rattle.edge_kinds.specs.KindLaws.{kindOf-number}
 use Rattle.place_row.specs.declared.Row.{Row}
+use Rattle.place_row.specs.KeyWord.{farIn, far-packed, near-packed}
 use Rattle.place_row.specs.RowTable.{wordOf, rowOf, rowsOf, rowHolds, rowForward, rowBack, rowLetter, rowShared, rowEdge, rowEdges, edgesOfRows}
 use Rattle.place_row.specs.RowTable.{kindNumber, kindOf, wordsOf, tableOf, rowAt, rowCount, tableRows}
 
@@ -80,41 +83,47 @@ abbrev pub KeysSmall : Node → Type 0
 KeysSmall n = (l : Link) → List·Memᴰ l (n .links) → l .key < 32
 
 -- a key that guards a place is the key of a link of its node
-guarded-link : (s : Place) (f : ℕ) → guarded f s ≡ true → (l : Link) × List·Memᴰ l (s .node .links) × (l .key ≡ f)
-unfolding guarded
-guarded-link s f e =
+near-link : (s : Place) (f : ℕ) → guardedNear f s ≡ true → (l : Link) × List·Memᴰ l (s .node .links) × (l .key ≡ f)
+unfolding guardedNear hasParent
+near-link s f e =
     let found = any-true _ (s .node .links) e in
     (found .0, found .1, eqb-true _ _ (and-true _ _ (found .2) .0))
 
--- the keys of a row are the keys that guard the place
-pub keys-guarded : (s : Place) (f : ℕ) → f < 32 → has (rowOf s .keys) f ≡ guarded f s
+-- the low half of a row's keys are those that guard the place as one that an edge leaves
+pub near-keys : (s : Place) (f : ℕ) → f < 32 → has (rowOf s .keys) f ≡ guardedNear f s
 unfolding rowOf
-keys-guarded s f h = wordOf-has (λ k. guarded k s) 32 f h
+near-keys s f h = near-packed (wordOf (λ k. guardedNear k s) 32) (wordOf (λ k. guardedFar k s) 32) f h ∙ wordOf-has (λ k. guardedNear k s) 32 f h
 
--- the keys of a row are below 32
-pub keys-small : (s : Place) → rowOf s .keys < 2 ^ 32
+-- the high half are those that guard it as one that an edge enters
+far-word : (s : Place) → farIn (rowOf s .keys) ≡ wordOf (λ k. guardedFar k s) 32
 unfolding rowOf
-keys-small s = wordOf-small (λ k. guarded k s) 32
+far-word s = far-packed (wordOf (λ k. guardedNear k s) 32) (wordOf (λ k. guardedFar k s) 32) (wordOf-small (λ k. guardedNear k s) 32)
 
--- a pair of places is shielded where the keys of its rows meet
-pub shielded-rows : (s t : Place) → KeysSmall (s .node) → shielded s t ≡ meets (rowOf s .keys) (rowOf t .keys)
+pub far-keys : (s : Place) (f : ℕ) → f < 32 → has (farIn (rowOf s .keys)) f ≡ guardedFar f s
+far-keys s f h = ap (λ (x : ℕ). has x f) (far-word s) ∙ wordOf-has (λ k. guardedFar k s) 32 f h
+
+far-small : (s : Place) → farIn (rowOf s .keys) < 2 ^ 32
+far-small s = rw (far-word s) (wordOf-small (λ k. guardedFar k s) 32)
+
+-- a pair of places is shielded where the keys of the place left meet those of the place entered: keys that meet are below 32
+pub shielded-rows : (s t : Place) → KeysSmall (s .node) → shielded s t ≡ meets (rowOf s .keys) (farIn (rowOf t .keys))
 unfolding shielded
 shielded-rows s t small = same-test _ _ meeting shielding
   where
-    meeting : shielded s t ≡ true → meets (rowOf s .keys) (rowOf t .keys) ≡ true
+    meeting : shielded s t ≡ true → meets (rowOf s .keys) (farIn (rowOf t .keys)) ≡ true
     meeting e =
         let found = any-true _ (s .node .links) e in
         let both = and-true _ _ (found .2) in
         let h = small (found .0) (found .1) in
-        has-meets _ _ (found .0 .key) (keys-guarded s _ h ∙ both .0) (keys-guarded t _ h ∙ both .1)
+        has-meets _ _ (found .0 .key) (near-keys s _ h ∙ both .0) (far-keys t _ h ∙ both .1)
 
-    shielding : meets (rowOf s .keys) (rowOf t .keys) ≡ true → shielded s t ≡ true
+    shielding : meets (rowOf s .keys) (farIn (rowOf t .keys)) ≡ true → shielded s t ≡ true
     shielding e =
-        let found = meets-has-below 32 (rowOf s .keys) (rowOf t .keys) (keys-small s) e in
-        let one = sym (keys-guarded s _ (found .1)) ∙ found .2 in
-        let two = sym (keys-guarded t _ (found .1)) ∙ found .3 in
-        let link = guarded-link s (found .0) one in
-        any-of _ (link .1) (and-of (ap (λ (f : ℕ). guarded f s) (link .2) ∙ one) (ap (λ (f : ℕ). guarded f t) (link .2) ∙ two))
+        let found = meets-has-below 32 (farIn (rowOf t .keys)) (rowOf s .keys) (far-small t) (meets-comm _ (rowOf s .keys) ∙ e) in
+        let one = sym (near-keys s _ (found .1)) ∙ found .3 in
+        let two = sym (far-keys t _ (found .1)) ∙ found .2 in
+        let link = near-link s (found .0) one in
+        any-of _ (link .1) (and-of (ap (λ (f : ℕ). guardedNear f s) (link .2) ∙ one) (ap (λ (f : ℕ). guardedFar f t) (link .2) ∙ two))
 
 -- a set that the kind lacks meets nothing
 lacking-left : (b : Bool) (rest : Bool) (x y : ℕ) → b && rest && meets (cond b x 0) y ≡ rest && meets (cond b x 0) y

@@ -3,7 +3,7 @@
 use spec_text::StatementKind;
 
 // Node and place count from 0. In the row of a place the sets that the kind lacks hold 0; what a row holds is taken as it stands. Bit f of
-// `keys` is set where key f shields the place.
+// `keys` is set where key f shields the place as one that an edge leaves, bit 32 + f where it shields the place as one that an edge enters.
 pub struct Row {
     pub node: u64,
     pub place: u64,
@@ -14,6 +14,9 @@ pub struct Row {
     pub tests: u64,
     pub keys: u64,
 }
+
+// The keys of the place entered stand this many times higher in the word.
+pub const FAR: u64 = 4294967296;
 
 // A table of places: so many words to a row, so many rows at most, and so many words for them all.
 pub const ROW_WORDS: usize = 8;

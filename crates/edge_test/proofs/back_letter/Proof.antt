@@ -9,6 +9,7 @@ use Rattle.spec_graph.specs.Graph.{Flow}
 use Rattle.spec_graph.specs.Edge.{selects}
 use Rattle.spec_graph.specs.Edge.Letter.{D}
 use Rattle.place_row.specs.declared.Row.{Row}
+use Rattle.place_row.specs.KeyWord.{farIn}
 use Rattle.place_row.specs.RowTable.{rowHolds, rowBack, rowLetter}
 use Rattle.edge_kinds.specs.KindLaws.{told, answer}
 use Rattle.edge_test.specs.Letters.{letterBetween}
@@ -31,7 +32,7 @@ args c =
     (start .p, start .q)
 
 rest : (c : tie.After-kind-has) → letterBetween Flow.back (args c .0) (args c .1)
-    ≡ cond (selects (args c .0 .kind) && rowHolds D (args c .0) (args c .1) && not (meets (args c .0 .keys) (args c .1 .keys))) 0x44 0
+    ≡ cond (selects (args c .0 .kind) && rowHolds D (args c .0) (args c .1) && not (meets (args c .0 .keys) (farIn (args c .1 .keys)))) 0x44 0
 unfolding letterBetween rowBack rowLetter
 rest c =
     let c2 = c .before .before in
