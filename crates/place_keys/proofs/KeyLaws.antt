@@ -14,9 +14,10 @@ use lib.Seq.{set-out}
 use borrow.Author.Tests.{eq-eqb, ne-eqb, lt-ltb, le-ltb}
 use Rattle.spec_base.specs.Basic.{has}
 use Rattle.law_base.specs.BoolLaws.{not-true, not-false}
-use Rattle.place_laws.specs.Keys.{withLink}
+use Rattle.place_laws.specs.Keys.{withLink, withLink-small}
 use Rattle.place_keys.specs.declared.Begun.{Begun}
-use Rattle.place_keys.specs.LineKeys.{begunWith, begunLine, begunBefore, begunIn, linkAt, keyAt, keysFrom}
+use Rattle.place_keys.specs.declared.Links.{Links}
+use Rattle.place_keys.specs.LineKeys.{begunWith, begunLine, begunBefore, begunIn, linkAt, keyAt, keysFrom, linksFrom, placeKeys}
 
 -- ---- the programs
 
@@ -124,3 +125,46 @@ module _ (lines : List ℕ) (child seen : ℕ) where
   pub keys-end : (n i word : ℕ) → n ≤ i → word ≡ keysFrom (n - i) lines i child seen word
   unfolding keysFrom
   keys-end n i word h = let s : n - i ≡ 0 = omega arith in rw s refl
+
+  -- each key stays below 32
+  pub key-small : (i word r : ℕ) → r ≡ keyAt lines i child seen word → word < 4294967296 → r < 4294967296
+  unfolding keyAt
+  key-small i word r e h = rw e (go (eqb (getD lines (i * 8) 0) 8))
+    where
+      go : (b : Bool) → cond b (withLink child seen (linkAt lines i) word) word < 4294967296
+      go true = withLink-small child seen (linkAt lines i) word h
+      go false = h
+
+-- the word of a row from its two halves
+pub keys-packed : (lines : List ℕ) (first child seen marks near far : ℕ) → near ≡ keysFrom (length lines / 8 - first) lines first child seen 0
+    → far ≡ keysFrom (length lines / 8 - first) lines first child marks 0 → near + far * 4294967296 ≡ placeKeys lines first child seen marks
+unfolding placeKeys
+keys-packed lines first child seen marks near far a b = rw (a, b) refl
+
+-- ---- the links
+
+module _ (lines : List ℕ) where
+  pub links-next : (n i marks : ℕ) → i < n → (m : ℕ) → m ≡ getD lines (i * 8) 0 → (m ≡ 7 → ⊥) → (m ≡ 8 → ⊥) → (w : ℕ)
+      → w ≡ getD lines (i * 8 + 7) 0 → linksFrom (n - (i + 1)) lines (i + 1) (bitOr marks w) ≡ linksFrom (n - i) lines i marks
+  unfolding linksFrom
+  links-next n i marks h m e a b w k =
+      let s : n - i ≡ suc (n - (i + 1)) = omega arith in
+      rw (s, k, ne-eqb (getD lines (i * 8) 0) 7 (λ x. a (e ∙ x)), ne-eqb (getD lines (i * 8) 0) 8 (λ x. b (e ∙ x))) refl
+
+  pub links-program : (n i marks : ℕ) → i < n → (m : ℕ) → m ≡ getD lines (i * 8) 0 → m ≡ 7
+      → record { first = i; marks = marks } ≡ linksFrom (n - i) lines i marks
+  unfolding linksFrom
+  links-program n i marks h m e d =
+      let s : n - i ≡ suc (n - (i + 1)) = omega arith in
+      rw (s, eq-eqb (getD lines (i * 8) 0) 7 (sym e ∙ d)) refl
+
+  pub links-link : (n i marks : ℕ) → i < n → (m : ℕ) → m ≡ getD lines (i * 8) 0 → m ≡ 8
+      → record { first = i; marks = marks } ≡ linksFrom (n - i) lines i marks
+  unfolding linksFrom
+  links-link n i marks h m e d =
+      let s : n - i ≡ suc (n - (i + 1)) = omega arith in
+      rw (s, ne-eqb (getD lines (i * 8) 0) 7 (λ x. let z : 8 ≡ 7 = sym d ∙ e ∙ x in omega arith), eq-eqb (getD lines (i * 8) 0) 8 (sym e ∙ d)) refl
+
+  pub links-end : (n i marks : ℕ) → n ≤ i → record { first = i; marks = marks } ≡ linksFrom (n - i) lines i marks
+  unfolding linksFrom
+  links-end n i marks h = let s : n - i ≡ 0 = omega arith in rw s refl

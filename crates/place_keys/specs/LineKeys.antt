@@ -1,12 +1,15 @@
 -- What the table of lines says, word by word: the programs of its lines, and the keys that their links give a place.
 use mathlib.Core.Bool.{cond}
 use mathlib.Core.List.{List}
-use Prim.Native.Nat.{ℕ, zero, suc, _+_, _*_, _/_}
+use Prim.Native.Nat.{ℕ, zero, suc, _+_, _*_, _-_, _/_}
+use lib.Bits.{bitOr}
 use lib.Dec.{eqb}
 use lib.ListN.{length, getD, set, replicate}
 use Rattle.spec_graph.specs.Program.{Link}
 use Rattle.place_laws.specs.Keys.{withLink}
+use Rattle.place_row.specs.KeyWord.{packedKeys}
 use Rattle.place_keys.specs.declared.Begun.{Begun}
+use Rattle.place_keys.specs.declared.Links.{Links}
 
 -- ---- the programs: how many, and the line after each one's `pr`
 
@@ -22,6 +25,16 @@ begunBefore lines (suc i) = begunLine lines i (begunBefore lines i)
 
 unfoldable pub begunIn : List ℕ → Begun
 begunIn lines = begunBefore lines (length lines / 8)
+
+-- ---- the links of a program
+
+-- from line i on, at most n lines, up to the first `li` or `pr`: where that stands, and the marks of the lines before it beside these
+unfoldable pub linksFrom : ℕ → List ℕ → ℕ → ℕ → Links
+linksFrom zero lines i marks = record { first = i; marks = marks }
+linksFrom (suc n) lines i marks =
+    cond (eqb (getD lines (i * 8) 0) 7) (record { first = i; marks = marks })
+    (cond (eqb (getD lines (i * 8) 0) 8) (record { first = i; marks = marks })
+    (linksFrom n lines (i + 1) (bitOr marks (getD lines (i * 8 + 7) 0))))
 
 -- ---- the keys that shield a place
 
@@ -41,3 +54,9 @@ unfoldable pub keysFrom : ℕ → List ℕ → ℕ → ℕ → ℕ → ℕ → �
 keysFrom zero lines i child seen word = word
 keysFrom (suc n) lines i child seen word =
     cond (eqb (getD lines (i * 8) 0) 7) word (keysFrom n lines (i + 1) child seen (keyAt lines i child seen word))
+
+-- E3: the keys of a place whose program's links begin at a line, by what is seen and by what is marked, as the word of a row
+unfoldable pub placeKeys : List ℕ → ℕ → ℕ → ℕ → ℕ → ℕ
+placeKeys lines first child seen marks =
+    let n = length lines / 8 - first in
+    packedKeys (keysFrom n lines first child seen 0) (keysFrom n lines first child marks 0)

@@ -1,8 +1,10 @@
-// What the table of lines says beside its rows: where each program's lines begin, and which keys shield a place.
+// What the table of lines says beside its rows: where each program's lines and links begin, and which keys shield a place.
 
+use place_row::FAR;
 use value_tables::ID;
 use value_tables::LI;
 use value_tables::LINE_WORDS;
+use value_tables::MARK;
 use value_tables::PR;
 use value_tables::REL;
 use value_tables::TO;
@@ -11,7 +13,7 @@ use word_list::word_at;
 ghost use mathlib.Core.Path.{_≡_};
 ghost use Prim.Native.Nat.{_-_, _/_, _≤_, _<_};
 ghost use lib.ListN.{length};
-ghost use Rattle.place_keys.specs.LineKeys.{begunLine, begunIn, keyAt, keysFrom};
+ghost use Rattle.place_keys.specs.LineKeys.{begunLine, begunIn, keyAt, linksFrom, placeKeys};
 
 // The programs so far, and the line after the `pr` of each.
 pub struct Begun {
@@ -76,19 +78,58 @@ fn key_at(lines: &[u64], i: usize, child: u64, seen: u64, word: u64) -> u64
     word | 1u64 << key
 }
 
-// The keys that shield a place, from the links of its program, which stand from line `first` up to the next `pr`.
-pub fn keys_from(lines: &[u64], first: usize, child: u64, seen: u64) -> u64
-    ensures { λ r. ⌜ r ≡ keysFrom (length (now (lines .entry)) / 8 - first) (now (lines .entry)) first child seen 0 ⌝ }
+// Where the links of a program begin, and the marks of its statements: the bits of those that shield.
+pub struct Links {
+    pub first: usize,
+    pub marks: u64,
+}
+
+// The links of the program whose lines begin at `first`: its statements and flow stand before them, and they stand before the next `pr`.
+pub fn links_from(lines: &[u64], first: usize) -> Links
+    ensures { λ r. ⌜ r ≡ linksFrom (length (now (lines .entry)) / 8 - first) (now (lines .entry)) first 0 ⌝ }
 {
     let n = lines.len() / LINE_WORDS;
-    let mut word: u64 = 0;
+    let mut marks: u64 = 0;
+    let mut i = first;
+    while i < n {
+        let kind = word_at(lines, i * LINE_WORDS);
+        if kind == PR {
+            return Links {
+                first: i,
+                marks: marks,
+            };
+        }
+        if kind == LI {
+            return Links {
+                first: i,
+                marks: marks,
+            };
+        }
+        marks = marks | word_at(lines, i * LINE_WORDS + MARK);
+        i += 1;
+    }
+    Links {
+        first: i,
+        marks: marks,
+    }
+}
+
+// The keys that shield a place, as the word of a row, from the links of its program, which stand from line `first` up to the next `pr`. An edge that
+// leaves the place is shielded by a parent that is seen there, one that enters it by a parent anywhere: by any that is marked.
+pub fn keys_from(lines: &[u64], first: usize, child: u64, seen: u64, marks: u64) -> u64
+    ensures { λ r. ⌜ r ≡ placeKeys (now (lines .entry)) first child seen marks ⌝ }
+{
+    let n = lines.len() / LINE_WORDS;
+    let mut near: u64 = 0;
+    let mut far: u64 = 0;
     let mut i = first;
     while i < n {
         if word_at(lines, i * LINE_WORDS) == PR {
-            return word;
+            return near + far * FAR;
         }
-        word = key_at(lines, i, child, seen, word);
+        near = key_at(lines, i, child, seen, near);
+        far = key_at(lines, i, child, marks, far);
         i += 1;
     }
-    word
+    near + far * FAR
 }

@@ -1,7 +1,7 @@
 -- The word of the keys that shield a place, gathered link by link.
 use mathlib.Core.Path.{_≡_, refl, sym, ap, _∙_}
 use mathlib.Core.Bool.{Bool, true, false, cond, _&&_, _||_}
-use mathlib.Core.List.{List, [], _∷_}
+use mathlib.Core.List.{List, [], _∷_, List·Memᴰ}
 use Prim.Native.Nat.{ℕ, _^_, _<_}
 use native.Mathlib.Decide.{ℕ-discrete}
 use native.Mathlib.Omega.{arith}
@@ -13,11 +13,11 @@ use borrow.Author.Tests.{eq-eqb, ne-eqb, ltb-true, ltb-false}
 use Rattle.spec_base.specs.Basic.{any, has}
 use Rattle.law_base.specs.SetLaws.{has-empty, has-bitOr, has-bit, words-equal}
 use Rattle.spec_graph.specs.Program.{Link}
-use Rattle.spec_graph.specs.Edge.{guarded, Place, at}
+use Rattle.spec_graph.specs.Edge.{guardedNear, guardedFar, Place, at}
 use Rattle.unfold_laws.specs.Seen.{seenAt}
 use Rattle.place_row.specs.RowTable.{wordOf}
 use Rattle.place_row.specs.RowTableLaws.{wordOf-small, wordOf-has}
-use Rattle.place_laws.specs.Guarded.{IdsSmall, guarded-seen}
+use Rattle.place_laws.specs.Guarded.{IdsSmall, Marked, near-seen, far-marked}
 
 -- E3: a link of this child whose parent is seen adds its key
 unfoldable pub withLink : ℕ → ℕ → Link → ℕ → ℕ
@@ -29,7 +29,7 @@ unfoldable pub keysOf : ℕ → ℕ → List Link → ℕ → ℕ
 keysOf child seen [] word = word
 keysOf child seen (l ∷ links) word = keysOf child seen links (withLink child seen l word)
 
-withLink-small : (child seen : ℕ) (l : Link) (word : ℕ) → word < 2 ^ 32 → withLink child seen l word < 2 ^ 32
+pub withLink-small : (child seen : ℕ) (l : Link) (word : ℕ) → word < 2 ^ 32 → withLink child seen l word < 2 ^ 32
 unfolding withLink
 withLink-small child seen l word h = go (eqb (l .child) child) (has seen (l .parent)) (ltb (l .key) 32) refl
   where
@@ -39,7 +39,7 @@ withLink-small child seen l word h = go (eqb (l .child) child) (has seen (l .par
     go true false c e = h
     go false b c e = h
 
-keysOf-small : (child seen : ℕ) (links : List Link) (word : ℕ) → word < 2 ^ 32 → keysOf child seen links word < 2 ^ 32
+pub keysOf-small : (child seen : ℕ) (links : List Link) (word : ℕ) → word < 2 ^ 32 → keysOf child seen links word < 2 ^ 32
 unfolding keysOf
 keysOf-small child seen [] word h = h
 keysOf-small child seen (l ∷ links) word h = keysOf-small child seen links (withLink child seen l word) (withLink-small child seen l word h)
@@ -96,14 +96,24 @@ keysOf-has child seen (l ∷ links) word f h =
     regroup true b c = refl
     regroup false b c = refl
 
--- E3: the keys gathered from the links of a place's node are those that guard the place
-pub keys-of-place : (s : Place) → IdsSmall (take (s .place) (s .node .places))
-    → keysOf (at s .id) (seenAt (take (s .place) (s .node .places)) (s .occurrence)) (s .node .links) 0 ≡ wordOf (λ f. guarded f s) 32
-keys-of-place s small =
-    let seen = seenAt (take (s .place) (s .node .places)) (s .occurrence) in
-    words-equal 32 _ _ (keysOf-small (at s .id) seen (s .node .links) 0 (omega arith)) (wordOf-small (λ f. guarded f s) 32)
+-- the keys gathered from links are those that pass a test, where the test asks the links for them
+keys-word : (child seen : ℕ) (links : List Link) (test : ℕ → Bool)
+    → ((f : ℕ) → test f ≡ any (λ l. eqb (l .key) f && (eqb (l .child) child && has seen (l .parent))) links)
+    → keysOf child seen links 0 ≡ wordOf test 32
+keys-word child seen links test same =
+    words-equal 32 _ _ (keysOf-small child seen links 0 (omega arith)) (wordOf-small test 32)
     (λ f h.
-    keysOf-has (at s .id) seen (s .node .links) 0 f h
-    ∙ ap (λ (b : Bool). b || any (λ l. eqb (l .key) f && (eqb (l .child) (at s .id) && has seen (l .parent))) (s .node .links)) (has-empty f)
-    ∙ sym (guarded-seen f s small)
-    ∙ sym (wordOf-has (λ f. guarded f s) 32 f h))
+    keysOf-has child seen links 0 f h
+    ∙ ap (λ (b : Bool). b || any (λ l. eqb (l .key) f && (eqb (l .child) child && has seen (l .parent))) links) (has-empty f)
+    ∙ sym (same f)
+    ∙ sym (wordOf-has test 32 f h))
+
+-- E3, near: the keys gathered from the links of a place's node by what is seen are those that guard the place as one that an edge leaves
+pub near-keys : (s : Place) → IdsSmall (take (s .place) (s .node .places))
+    → keysOf (at s .id) (seenAt (take (s .place) (s .node .places)) (s .occurrence)) (s .node .links) 0 ≡ wordOf (λ f. guardedNear f s) 32
+near-keys s small = keys-word _ _ (s .node .links) (λ f. guardedNear f s) (λ f. near-seen f s small)
+
+-- E3, far: those gathered by the marks are those that guard it as one that an edge enters
+pub far-keys : (s : Place) (marks : ℕ) → List·Memᴰ (s .occurrence) (s .node .places) → Marked (s .node) marks
+    → keysOf (at s .id) marks (s .node .links) 0 ≡ wordOf (λ f. guardedFar f s) 32
+far-keys s marks m marked = keys-word _ _ (s .node .links) (λ f. guardedFar f s) (λ f. far-marked f s marks m marked)

@@ -114,10 +114,10 @@ lineTable-more (x ∷ lines) l =
 
 -- the words of a line from its parts
 pub line-words : (l : Line) (n facts : ℕ) → n ≡ lineNumber (l .kind) → facts ≡ lineFacts (l .kind)
-    → (a b c : ℕ) → a ≡ setIn facts hasReads (l .reads) → b ≡ setIn facts hasWrites (l .writes) → c ≡ setIn facts hasTests (l .tests)
-    → n ∷ l .id ∷ l .rel ∷ l .to ∷ a ∷ b ∷ c ∷ 0 ∷ [] ≡ lineWords l
+    → (a b c m : ℕ) → a ≡ setIn facts hasReads (l .reads) → b ≡ setIn facts hasWrites (l .writes) → c ≡ setIn facts hasTests (l .tests)
+    → m ≡ markBy n (l .id) → n ∷ l .id ∷ l .rel ∷ l .to ∷ a ∷ b ∷ c ∷ m ∷ [] ≡ lineWords l
 unfolding lineWords
-line-words l n facts en ef a b c ea eb ec = rw (ea, eb, ec, en, ef) refl
+line-words l n facts en ef a b c m ea eb ec em = rw (ea, eb, ec, em, en, ef) refl
 
 -- an area of zeros
 pub all-zeros : (n : ℕ) → Zeros 0 (replicate n 0)

@@ -36,7 +36,7 @@ markBy n id = cond (ltb n 7) (bitIn (kindOf n) id) 0
 unfoldable pub setIn : ℕ → ℕ → ℕ → ℕ
 setIn facts fact x = cond (lacksFact facts fact) 0 x
 
--- number, id, relation or child, parent, reads, writes, tests; the last word is 0
+-- number, id, relation or child, parent, reads, writes, tests, mark
 unfoldable pub lineWords : Line → List ℕ
 lineWords l =
     lineNumber (l .kind)
@@ -45,7 +45,8 @@ lineWords l =
     ∷ l .to
     ∷ setIn (lineFacts (l .kind)) hasReads (l .reads)
     ∷ setIn (lineFacts (l .kind)) hasWrites (l .writes)
-    ∷ setIn (lineFacts (l .kind)) hasTests (l .tests) ∷ 0 ∷ []
+    ∷ setIn (lineFacts (l .kind)) hasTests (l .tests)
+    ∷ markBy (lineNumber (l .kind)) (l .id) ∷ []
 
 unfoldable pub lineTable : List Line → List ℕ
 lineTable lines = flatMap lineWords lines

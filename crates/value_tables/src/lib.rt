@@ -29,8 +29,8 @@ const BR: u64 = 10;
 
 const NO_ITEM: u64 = 11;
 
-// The words of a line: so many, the first the number of its kind, then in this order at these places, and a last one, 0. A link's child is its
-// `rel`, its parent its `to`.
+// The words of a line: so many, the first the number of its kind, then in this order at these places. A link's child is its `rel`, its parent
+// its `to`.
 pub const LINE_WORDS: usize = 8;
 
 pub const ID: usize = 1;
@@ -44,6 +44,8 @@ pub const READS: usize = 4;
 pub const WRITES: usize = 5;
 
 pub const TESTS: usize = 6;
+
+pub const MARK: usize = 7;
 
 // The words of all lines.
 pub const LINE_TABLE: usize = 12928;
@@ -168,17 +170,18 @@ pub fn line_table(w: Workload) -> [u64; LINE_TABLE]
         let l = w.lines[i];
         let kind = l.kind;
         let facts = line_facts(kind);
+        let number = line_number(kind);
         put_row(
             &mut words,
             i * LINE_WORDS,
-            line_number(kind),
+            number,
             l.id as u64,
             l.rel as u64,
             l.to as u64,
             set_in(facts, line_kinds::READS, l.reads),
             set_in(facts, line_kinds::WRITES, l.writes),
             set_in(facts, line_kinds::TESTS, l.tests),
-            0,
+            mark_by(number, l.id) as u64,
         );
         i += 1;
     }

@@ -34,18 +34,19 @@ returns c =
 
 loop-again : tie.Need-loop-again Inv-loop μ-loop
 loop-again c =
-    let tests = c .before .before in
+    let mark = c .before .before in
+    let tests = mark .before in
     let writes = tests .before in
     let reads = writes .before in
-    let number = reads .before .before .before .before in
-    let facts = number .before .before in
+    let number = reads .before .before .before .before .before in
+    let facts = number .before in
     let stay = facts .before .before in
     let turn = stay .before .before in
     let w = turn .before .args .t1 in
     let i = turn .loop .i in
     let most = cells-known w (turn .before .good .0 .1 .1 .1 .0 .1 .0 .1) in
-    let words = line-words _ _ _ (number .line-number .ensures) (facts .line-facts .ensures) _ _ _ (reads .set-in .ensures)
-    (writes .set-in2 .ensures) (tests .set-in3 .ensures) in
+    let words = line-words _ _ _ (number .line-number .ensures) (facts .line-facts .ensures) _ _ _ _ (reads .set-in .ensures)
+    (writes .set-in2 .ensures) (tests .set-in3 .ensures) (mark .mark-by .ensures) in
     let next = line-next (w .lines) (turn .loop .words) i _ (omega (arith, most, stay .if1 .left)) (turn .loop .inv .1) most _ _ words
     (c .before .put-row .ensures) (turn .loop .inv .2) (turn .loop .inv .3) in
     (search needs, next .0, next .1, next .2)
@@ -69,15 +70,17 @@ line-table-spec =
     (λ c. search needs)
     (λ c. search needs)
     (λ c κs. search needs)
-    (λ c. search needs)
-    (λ c. search needs)
     (λ c κs. search needs)
     (λ c. search needs)
     (λ c. search needs)
     (λ c. search needs)
+    (λ c. search needs)
+    (λ c. search needs)
     (λ c κs. search needs)
     (λ c κs. search needs)
     (λ c κs. search needs)
+    (λ c κs. search needs)
+    (λ c. search needs)
     (λ c κs. search needs)
     (λ c. search needs)
     (λ c. search needs)
