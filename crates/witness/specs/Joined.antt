@@ -34,7 +34,7 @@ pub robust : Robust lines
 robust = robust-of lines tested
 
 -- demand 3 of a workload's lines
-demand : (l : List Line) → Given (valueOf l) → Robust l → (s : Schedule l) → Serialisable s
+pub demand : (l : List Line) → Given (valueOf l) → Robust l → (s : Schedule l) → Serialisable s
 demand l g = subst (λ (m : List Line). Robust m → (s : Schedule m) → Serialisable s) (lines-of-value l) (demand-3 (valueOf l) g)
 
 -- demand 3 of the rich schedule

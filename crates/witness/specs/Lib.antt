@@ -1,2 +1,5 @@
 pub mod Rich
 pub mod Joined
+pub mod Shields
+pub mod LateParent
+pub mod LateNear
