@@ -36,6 +36,10 @@ linksFrom (suc n) lines i marks =
     (cond (eqb (getD lines (i * 8) 0) 8) (record { first = i; marks = marks })
     (linksFrom n lines (i + 1) (bitOr marks (getD lines (i * 8 + 7) 0))))
 
+-- those of the program whose lines begin at a line
+unfoldable pub linksIn : List ℕ → ℕ → Links
+linksIn lines first = linksFrom (length lines / 8 - first) lines first 0
+
 -- ---- the keys that shield a place
 
 abbrev pub linkOf : ℕ → ℕ → ℕ → Link

@@ -13,7 +13,7 @@ use word_list::word_at;
 ghost use mathlib.Core.Path.{_≡_};
 ghost use Prim.Native.Nat.{_-_, _/_, _≤_, _<_};
 ghost use lib.ListN.{length};
-ghost use Rattle.place_keys.specs.LineKeys.{begunLine, begunIn, keyAt, linksFrom, placeKeys};
+ghost use Rattle.place_keys.specs.LineKeys.{begunLine, begunIn, keyAt, linksIn, placeKeys};
 
 // The programs so far, and the line after the `pr` of each.
 pub struct Begun {
@@ -86,7 +86,7 @@ pub struct Links {
 
 // The links of the program whose lines begin at `first`: its statements and flow stand before them, and they stand before the next `pr`.
 pub fn links_from(lines: &[u64], first: usize) -> Links
-    ensures { λ r. ⌜ r ≡ linksFrom (length (now (lines .entry)) / 8 - first) (now (lines .entry)) first 0 ⌝ }
+    ensures { λ r. ⌜ r ≡ linksIn (now (lines .entry)) first ⌝ }
 {
     let n = lines.len() / LINE_WORDS;
     let mut marks: u64 = 0;

@@ -10,7 +10,8 @@ use lib.ListN.{length, getD, take, drop, length-append, take-append-drop}
 use lib.Seq.{drop-append-add, drop-drop, length-take-le}
 use Rattle.unfold_laws.specs.WordCode.{lineIn, seenIn}
 use Rattle.word_rows.specs.Put.{putAt, putAt-length, putAt-take}
-use Rattle.place_keys.specs.LineKeys.{keysFrom}
+use Rattle.place_keys.specs.declared.Links.{Links}
+use Rattle.place_keys.specs.LineKeys.{linksIn, placeKeys}
 use Rattle.place_table.specs.RowWords.{rowWords, nodeRows, totalOf, allRows}
 
 -- no words put
@@ -42,57 +43,57 @@ put-more area at xs ys k e h =
     ∙ ap (λ (m : ℕ). take at area ++ (xs ++ ys ++ drop m area)) size
 
 -- the row of a place from its words
-pub row-words : (lines : List ℕ) (first node place word : ℕ) (child keys n r a b c : ℕ) → child ≡ getD lines (lineIn word * 8 + 1) 0
-    → keys ≡ keysFrom (length lines / 8 - first) lines first child (seenIn word) 0 → n ≡ getD lines (lineIn word * 8) 0
+pub row-words : (lines : List ℕ) (links : Links) (node place word : ℕ) (child keys n r a b c : ℕ) → child ≡ getD lines (lineIn word * 8 + 1) 0
+    → keys ≡ placeKeys lines (links .first) child (seenIn word) (links .marks) → n ≡ getD lines (lineIn word * 8) 0
     → r ≡ getD lines (lineIn word * 8 + 2) 0 → a ≡ getD lines (lineIn word * 8 + 4) 0 → b ≡ getD lines (lineIn word * 8 + 5) 0
     → c ≡ getD lines (lineIn word * 8 + 6) 0
-    → node ∷ place ∷ n ∷ r ∷ a ∷ b ∷ c ∷ keys ∷ [] ≡ rowWords lines first node place word
+    → node ∷ place ∷ n ∷ r ∷ a ∷ b ∷ c ∷ keys ∷ [] ≡ rowWords lines links node place word
 unfolding rowWords
-row-words lines first node place word child keys n r a b c e1 e2 e3 e4 e5 e6 e7 = rw (e2, e1, e3, e4, e5, e6, e7) refl
+row-words lines links node place word child keys n r a b c e1 e2 e3 e4 e5 e6 e7 = rw (e2, e1, e3, e4, e5, e6, e7) refl
 
 -- ---- the rows of a node
 
-module _ (lines : List ℕ) (first node : ℕ) (words : List ℕ) (start : ℕ) where
-  row-length : (place word : ℕ) → length (rowWords lines first node place word) ≡ 8
+module _ (lines : List ℕ) (links : Links) (node : ℕ) (words : List ℕ) (start : ℕ) where
+  row-length : (place word : ℕ) → length (rowWords lines links node place word) ≡ 8
   unfolding rowWords
   row-length place word = refl
 
-  pub rows-length : (n : ℕ) → length (nodeRows lines first node words start n) ≡ n * 8
+  pub rows-length : (n : ℕ) → length (nodeRows lines links node words start n) ≡ n * 8
   unfolding nodeRows
   rows-length zero = refl
   rows-length (suc i) =
       let a = rows-length i in
       let b = row-length i (getD words (start + i) 0) in
-      length-append (nodeRows lines first node words start i) (rowWords lines first node i (getD words (start + i) 0)) ∙ omega arith
+      length-append (nodeRows lines links node words start i) (rowWords lines links node i (getD words (start + i) 0)) ∙ omega arith
 
   module _ (n : ℕ) (before : List ℕ) (room : (start + n) * 8 ≤ length before) where
-    pub rows-start : before ≡ putAt before (start * 8) (nodeRows lines first node words start 0)
+    pub rows-start : before ≡ putAt before (start * 8) (nodeRows lines links node words start 0)
     unfolding nodeRows
     rows-start = put-none before (start * 8)
 
-    pub rows-same : (i : ℕ) (table : List ℕ) → i ≤ n → table ≡ putAt before (start * 8) (nodeRows lines first node words start i)
+    pub rows-same : (i : ℕ) (table : List ℕ) → i ≤ n → table ≡ putAt before (start * 8) (nodeRows lines links node words start i)
         → length table ≡ length before
     rows-same i table h e =
         let a = rows-length i in
-        ap length e ∙ putAt-length before (start * 8) (nodeRows lines first node words start i) (omega arith)
+        ap length e ∙ putAt-length before (start * 8) (nodeRows lines links node words start i) (omega arith)
 
-    pub rows-room : (i : ℕ) (table : List ℕ) → i < n → table ≡ putAt before (start * 8) (nodeRows lines first node words start i)
+    pub rows-room : (i : ℕ) (table : List ℕ) → i < n → table ≡ putAt before (start * 8) (nodeRows lines links node words start i)
         → (start + i) * 8 + 8 ≤ length table
     rows-room i table h e = let s = rows-same i table (omega arith) e in omega arith
 
-    pub rows-next : (i : ℕ) (table : List ℕ) → i < n → table ≡ putAt before (start * 8) (nodeRows lines first node words start i)
+    pub rows-next : (i : ℕ) (table : List ℕ) → i < n → table ≡ putAt before (start * 8) (nodeRows lines links node words start i)
         → (word : ℕ) → word ≡ getD words (start + i) 0 → (after : List ℕ)
-        → after ≡ putAt table ((start + i) * 8) (rowWords lines first node i word)
-        → after ≡ putAt before (start * 8) (nodeRows lines first node words start (i + 1))
+        → after ≡ putAt table ((start + i) * 8) (rowWords lines links node i word)
+        → after ≡ putAt before (start * 8) (nodeRows lines links node words start (i + 1))
     unfolding nodeRows
     rows-next i table h e word w after s =
         let a = rows-length i in
         let b = row-length i (getD words (start + i) 0) in
-        s ∙ rw (e, w, add-one) (put-more before (start * 8) (nodeRows lines first node words start i)
-        (rowWords lines first node i (getD words (start + i) 0)) ((start + i) * 8) (omega arith) (omega arith))
+        s ∙ rw (e, w, add-one) (put-more before (start * 8) (nodeRows lines links node words start i)
+        (rowWords lines links node i (getD words (start + i) 0)) ((start + i) * 8) (omega arith) (omega arith))
 
-    pub rows-end : (i : ℕ) (table : List ℕ) → i ≤ n → n ≤ i → table ≡ putAt before (start * 8) (nodeRows lines first node words start i)
-        → table ≡ putAt before (start * 8) (nodeRows lines first node words start n)
+    pub rows-end : (i : ℕ) (table : List ℕ) → i ≤ n → n ≤ i → table ≡ putAt before (start * 8) (nodeRows lines links node words start i)
+        → table ≡ putAt before (start * 8) (nodeRows lines links node words start n)
     rows-end i table p q e = let d : n ≡ i = omega arith in rw d e
 
 -- ---- the rows of all nodes
@@ -128,9 +129,9 @@ module _ (lines firsts programs lengths words : List ℕ) where
   all-length zero = refl
   all-length (suc j) =
       let a = all-length j in
-      let first = getD firsts (getD programs j 0) 0 in
-      let b = rows-length lines first j words (totalOf lengths j) (getD lengths j 0) in
-      length-append (rows j) (nodeRows lines first j words (totalOf lengths j) (getD lengths j 0)) ∙ omega arith
+      let links = linksIn lines (getD firsts (getD programs j 0) 0) in
+      let b = rows-length lines links j words (totalOf lengths j) (getD lengths j 0) in
+      length-append (rows j) (nodeRows lines links j words (totalOf lengths j) (getD lengths j 0)) ∙ omega arith
 
   module _ (n : ℕ) (before : List ℕ) (room : totalOf lengths n * 8 ≤ length before) where
     pub all-start : before ≡ putAt before 0 (rows 0)
@@ -158,16 +159,16 @@ module _ (lines firsts programs lengths words : List ℕ) where
         omega arith
 
     pub all-next : (j at : ℕ) (table : List ℕ) → j < n → at ≡ totalOf lengths j → table ≡ putAt before 0 (rows j)
-        → (program first places : ℕ) → program ≡ getD programs j 0 → first ≡ getD firsts program 0 → places ≡ getD lengths j 0
-        → (after : List ℕ) → after ≡ putAt table (at * 8) (nodeRows lines first j words at places)
+        → (program first : ℕ) (links : Links) (places : ℕ) → program ≡ getD programs j 0 → first ≡ getD firsts program 0 → links ≡ linksIn lines first
+        → places ≡ getD lengths j 0 → (after : List ℕ) → after ≡ putAt table (at * 8) (nodeRows lines links j words at places)
         → after ≡ putAt before 0 (rows (j + 1))
     unfolding allRows
-    all-next j at table h a e program first places p f q after s =
+    all-next j at table h a e program first links places p f g q after s =
         let m = total-most lengths n j h in
         let l = all-length j in
-        let k = rows-length lines (getD firsts (getD programs j 0) 0) j words (totalOf lengths j) (getD lengths j 0) in
-        s ∙ rw (e, f, p, q, a, add-one) (put-more before 0 (rows j)
-        (nodeRows lines (getD firsts (getD programs j 0) 0) j words (totalOf lengths j) (getD lengths j 0))
+        let k = rows-length lines (linksIn lines (getD firsts (getD programs j 0) 0)) j words (totalOf lengths j) (getD lengths j 0) in
+        s ∙ rw (e, g, f, p, q, a, add-one) (put-more before 0 (rows j)
+        (nodeRows lines (linksIn lines (getD firsts (getD programs j 0) 0)) j words (totalOf lengths j) (getD lengths j 0))
         (totalOf lengths j * 8) (omega arith) (omega arith))
 
     pub all-end : (j at : ℕ) (table : List ℕ) → j ≤ n → n ≤ j → at ≡ totalOf lengths j → table ≡ putAt before 0 (rows j)

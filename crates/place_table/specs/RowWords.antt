@@ -1,19 +1,20 @@
 -- The table of rows as the code makes it, word by word: steps towards the promise of specs/Rows.
 use mathlib.Core.List.{List, [], _∷_, _++_}
 use mathlib.Core.Path.{_≡_}
-use Prim.Native.Nat.{ℕ, zero, suc, _+_, _*_, _-_, _/_}
-use lib.ListN.{length, getD}
+use Prim.Native.Nat.{ℕ, zero, suc, _+_, _*_}
+use lib.ListN.{getD}
 use Rattle.unfold_laws.specs.WordCode.{lineIn, seenIn}
 use Rattle.word_rows.specs.Put.{putAt}
-use Rattle.place_keys.specs.LineKeys.{begunIn, keysFrom}
+use Rattle.place_keys.specs.declared.Links.{Links}
+use Rattle.place_keys.specs.LineKeys.{begunIn, linksIn, placeKeys}
 use Rattle.place_table.specs.declared.Rows.{Rows}
 use Rattle.place_table.specs.declared.Rows.the-variants.{Filled}
 
 -- ---- rows
 
--- the row of a place from its word
-unfoldable pub rowWords : List ℕ → ℕ → ℕ → ℕ → ℕ → List ℕ
-rowWords lines first node place word =
+-- the row of a place from its word, and from where its program's links begin and which statements are marked
+unfoldable pub rowWords : List ℕ → Links → ℕ → ℕ → ℕ → List ℕ
+rowWords lines links node place word =
     let at = lineIn word * 8 in
     node
     ∷ place
@@ -22,13 +23,13 @@ rowWords lines first node place word =
     ∷ getD lines (at + 4) 0
     ∷ getD lines (at + 5) 0
     ∷ getD lines (at + 6) 0
-    ∷ keysFrom (length lines / 8 - first) lines first (getD lines (at + 1) 0) (seenIn word) 0 ∷ []
+    ∷ placeKeys lines (links .first) (getD lines (at + 1) 0) (seenIn word) (links .marks) ∷ []
 
 -- the rows of the first places of a node, whose words stand from `start` on
-unfoldable pub nodeRows : List ℕ → ℕ → ℕ → List ℕ → ℕ → ℕ → List ℕ
-nodeRows lines first node words start zero = []
-nodeRows lines first node words start (suc i) =
-    nodeRows lines first node words start i ++ rowWords lines first node i (getD words (start + i) 0)
+unfoldable pub nodeRows : List ℕ → Links → ℕ → List ℕ → ℕ → ℕ → List ℕ
+nodeRows lines links node words start zero = []
+nodeRows lines links node words start (suc i) =
+    nodeRows lines links node words start i ++ rowWords lines links node i (getD words (start + i) 0)
 
 -- the places of the first nodes
 unfoldable pub totalOf : List ℕ → ℕ → ℕ
@@ -40,7 +41,7 @@ unfoldable pub allRows : List ℕ → List ℕ → List ℕ → List ℕ → Lis
 allRows lines firsts programs lengths words zero = []
 allRows lines firsts programs lengths words (suc j) =
     allRows lines firsts programs lengths words j
-    ++ nodeRows lines (getD firsts (getD programs j 0) 0) j words (totalOf lengths j) (getD lengths j 0)
+    ++ nodeRows lines (linksIn lines (getD firsts (getD programs j 0) 0)) j words (totalOf lengths j) (getD lengths j 0)
 
 -- ---- all of it
 

@@ -1,6 +1,8 @@
 // The table of the places of a workload: one row of eight words for each place of each node.
 
+use place_keys::Links;
 use place_keys::keys_from;
+use place_keys::links_from;
 use place_keys::programs_in;
 use place_row::ROW_WORDS;
 use place_row::ROWS;
@@ -47,7 +49,7 @@ fn byte_at(bytes: &[u8], i: usize) -> u8
 // The row of a place from its word, into the table at a place.
 fn put_place(
     lines: &[u64],
-    first: usize,
+    links: Links,
     node: u64,
     place: u64,
     word: u64,
@@ -55,11 +57,17 @@ fn put_place(
     at: usize,
 )
     requires { ⌜ at + 8 ≤ length (now table) ⌝ }
-    ensures { λ _. ⌜ now (table .exit) ≡ putAt (now (table .entry)) at (rowWords (now (lines .entry)) first node place word) ⌝ }
+    ensures { λ _. ⌜ now (table .exit) ≡ putAt (now (table .entry)) at (rowWords (now (lines .entry)) links node place word) ⌝ }
 {
     let line = (word % WORD_LINES) as usize;
     let l = line * LINE_WORDS;
-    let keys = keys_from(lines, first, word_at(lines, l + ID), word / WORD_LINES);
+    let keys = keys_from(
+        lines,
+        links.first,
+        word_at(lines, l + ID),
+        word / WORD_LINES,
+        links.marks,
+    );
     put_row(
         table,
         at,
@@ -77,7 +85,7 @@ fn put_place(
 // The rows of a node, whose places' words stand from `start` on, into the table after those of the nodes before.
 fn put_places(
     lines: &[u64],
-    first: usize,
+    links: Links,
     node: u64,
     words: &[u64],
     start: usize,
@@ -86,14 +94,14 @@ fn put_places(
 ) -> usize
     requires { ⌜ (start + n) * 8 ≤ length (now table) ⌝ }
     ensures { λ r. ⌜ (now (table .exit)
-        ≡ putAt (now (table .entry)) (start * 8) (nodeRows (now (lines .entry)) first node (now (words .entry)) start n)) × (r ≡ start + n) ⌝ }
+        ≡ putAt (now (table .entry)) (start * 8) (nodeRows (now (lines .entry)) links node (now (words .entry)) start n)) × (r ≡ start + n) ⌝ }
 {
     let mut i: usize = 0;
     while i < n {
         let word = word_at(words, start + i);
         put_place(
             lines,
-            first,
+            links,
             node,
             i as u64,
             word,
@@ -124,16 +132,9 @@ fn put_nodes(
     while j < n {
         let p = byte_at(programs, j);
         let first = word_at(firsts, p as usize);
+        let links = links_from(lines, first as usize);
         let places = word_at(lengths, j);
-        at = put_places(
-            lines,
-            first as usize,
-            j as u64,
-            words,
-            at,
-            places as usize,
-            table,
-        );
+        at = put_places(lines, links, j as u64, words, at, places as usize, table);
         j += 1;
     }
     at

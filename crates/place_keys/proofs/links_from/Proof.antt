@@ -1,7 +1,7 @@
 -- What the lines from i on give beside the marks so far is what those from `first` on give: each line that is no `pr` and no `li` keeps this
 -- (links-next), and at one of these or at the end the links begin (links-program, links-link, links-end).
 use Rattle.place_keys.proofs.KeyLaws.{links-next, links-program, links-link, links-end}
-use Rattle.place_keys.specs.LineKeys.{linksFrom}
+use Rattle.place_keys.specs.LineKeys.{linksFrom, linksIn}
 use borrow.Author.Needs.{needs}
 use mathlib.Core.Path.{_≡_, refl, _∙_}
 use Prim.Native.Nat.{_-_, _/_}
@@ -11,12 +11,13 @@ use Rattle.place_keys.proofs.links_from.Tie as tie
 
 abbrev Inv-loop : tie.InvT-loop
 Inv-loop lines first n marks₀ i₀ marks i =
-    linksFrom (length lines / 8 - i) lines i marks ≡ linksFrom (length lines / 8 - first) lines first 0
+    linksFrom (length lines / 8 - i) lines i marks ≡ linksIn lines first
 
 abbrev μ-loop : tie.MeasureT-loop
 μ-loop lines first n marks₀ i₀ marks i = length lines / 8 - i
 
 loop-holds : tie.Need-loop-holds Inv-loop μ-loop
+unfolding linksIn
 loop-holds c = refl
 
 returns : tie.Need-returns Inv-loop μ-loop

@@ -14,6 +14,7 @@ use Rattle.place_table.proofs.put_nodes.Reads as reads
 use Rattle.place_table.proofs.put_nodes.Lts as lts
 use Rattle.place_table.proofs.byte_at.Reads as byte-at-reads
 use Rattle.place_table.proofs.put_places.Reads as put-places-reads
+use Rattle.place_keys.proofs.links_from.Reads as links-from-reads
 use Rattle.word_list.proofs.word_at.Reads as word-at-reads
 
 abbrev Inv-loop : tie.InvT-loop
@@ -28,10 +29,10 @@ loop-holds c = (search needs, total-none _, all-start _ _ _ _ _ _ _ (c .before .
 
 put-places-requires : tie.Need-put-places-requires Inv-loop μ-loop
 put-places-requires c κs =
-    let c4 = c .before .before .before .before in
-    let c5 = c4 .before in
-    let c12 = c5 .before .before .before .before .before .before .before in
-    all-room _ _ _ _ _ _ _ (c12 .pre) _ _ _ (c4 .loop-test .taken) (c5 .loop .inv .1) (c5 .loop .inv .2) _ (c .before .word-at2 .ensures)
+    let c5 = c .before .before .before .before .before in
+    let c6 = c5 .before in
+    let c13 = c6 .before .before .before .before .before .before .before in
+    all-room _ _ _ _ _ _ _ (c13 .pre) _ _ _ (c5 .loop-test .taken) (c6 .loop .inv .1) (c6 .loop .inv .2) _ (c .before .word-at2 .ensures)
 
 loop-again : tie.Need-loop-again Inv-loop μ-loop
 loop-again c =
@@ -40,12 +41,13 @@ loop-again c =
     let c6 = c5 .before in
     let c7 = c6 .before in
     let c8 = c7 .before in
-    let c15 = c8 .before .before .before .before .before .before .before in (
+    let c9 = c8 .before in
+    let c16 = c9 .before .before .before .before .before .before .before in (
       search needs,
-      c .before .before .put-places .ensures .1 ∙ total-next _ _ _ _ (c8 .loop .inv .1) (c4 .word-at2 .ensures),
+      c .before .before .put-places .ensures .1 ∙ total-next _ _ _ _ (c9 .loop .inv .1) (c4 .word-at2 .ensures),
       all-next _ _ _
-          _ _ _ _ (c15 .pre) _ _ _ (c7 .loop-test .taken) (c8 .loop .inv .1) (c8 .loop .inv .2) _ _ _ (c6 .byte-at .ensures)
-          (c5 .word-at .ensures) (c4 .word-at2 .ensures) _ (c .before .before .put-places .ensures .0),
+          _ _ _ _ (c16 .pre) _ _ _ (c8 .loop-test .taken) (c9 .loop .inv .1) (c9 .loop .inv .2) _ _ _ _ (c7 .byte-at .ensures)
+          (c6 .word-at .ensures) (c5 .links-from .ensures) (c4 .word-at2 .ensures) _ (c .before .before .put-places .ensures .0),
     )
 
 same-length : tie.Need-same-length Inv-loop μ-loop
@@ -67,6 +69,7 @@ put-nodes-spec =
     loop-holds
     (λ c κs. search needs)
     (λ c. search needs)
+    (λ c κs. search needs)
     (λ c κs. search needs)
     (λ c κs. search needs)
     put-places-requires

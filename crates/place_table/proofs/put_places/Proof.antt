@@ -16,10 +16,10 @@ use Rattle.place_table.proofs.put_place.Reads as put-place-reads
 use Rattle.word_list.proofs.word_at.Reads as word-at-reads
 
 abbrev Inv-loop : tie.InvT-loop
-Inv-loop lines first node words start n table₀ i₀ table i = (i ≤ n) × (table ≡ putAt table₀ (start * 8) (nodeRows lines first node words start i))
+Inv-loop lines links node words start n table₀ i₀ table i = (i ≤ n) × (table ≡ putAt table₀ (start * 8) (nodeRows lines links node words start i))
 
 abbrev μ-loop : tie.MeasureT-loop
-μ-loop lines first node words start n table₀ i₀ table i = n - i
+μ-loop lines links node words start n table₀ i₀ table i = n - i
 
 loop-holds : tie.Need-loop-holds Inv-loop μ-loop
 loop-holds c = (search needs, rows-start _ _ _ _ _ _ _ (c .before .before .before .pre))
