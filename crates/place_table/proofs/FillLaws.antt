@@ -103,8 +103,7 @@ module _ (w : Workload) (zeros : List ℕ) (size : length zeros ≡ 512) (told :
         record {
           program = ap (λ (u : Unfolded). getD (u .program) j 0) is-told ∙ cell-of (λ x. x .program) j n e;
           places = ap (λ (u : Unfolded). getD (u .length) j 0) is-told ∙ cell-of (λ x. length (x .places)) j n e;
-          inside = begins .inside;
-          links = begins .links;
+          begins = begins;
         }
 
     count-told : told .count ≡ length nodes

@@ -7,11 +7,10 @@ use native.Mathlib.Nat.{add-zero, zero-add}
 use native.Mathlib.Omega.{arith}
 use lib.ListN.{length, getD, getElem?, take, drop, length-take, length-drop, List·getD-append}
 use lib.Seq.{append-snoc, take-all, drop-drop, getD-take, getD-drop}
-use Rattle.law_base.specs.ListLaws.{some-injective, getElem?-found, getElem?-lt, member-getElem?, take-member}
+use Rattle.law_base.specs.ListLaws.{some-injective, getElem?-found, getElem?-lt, getElem?-member, member-getElem?, take-member}
 use Rattle.spec_text.specs.declared.Line.{Line}
 use Rattle.spec_text.specs.Reading.{read}
 use Rattle.spec_text.specs.Reading.Outcome.{accepted}
-use Rattle.spec_graph.specs.Program.{linksOf}
 use Rattle.spec_graph.specs.Unfolding.{Node, Occurrence}
 use Rattle.spec_graph.specs.Edge.{Place, placesFrom, placesOf}
 use Rattle.spec_report.specs.State.{statementsIn}
@@ -22,8 +21,10 @@ use Rattle.place_laws.specs.Placed.{placesFrom-length}
 use Rattle.place_laws.specs.Ids.{on-line-id}
 use Rattle.place_laws.specs.Guarded.{IdsSmall}
 use Rattle.value_tables.specs.Lines.{lineTable}
+use Rattle.place_keys.specs.declared.Links.{Links}
+use Rattle.place_keys.specs.LineKeys.{linksIn}
 use Rattle.place_table.specs.RowWords.{rowWords, nodeRows, totalOf, allRows}
-use Rattle.place_table.proofs.PlaceRowLaws.{row-of-place}
+use Rattle.place_table.proofs.PlaceRowLaws.{NodeBegins, row-of-place}
 
 -- ---- lists
 
@@ -80,18 +81,18 @@ module _ (text : List ℕ) (lines : List Line) (taken : read text ≡ accepted l
       let stands = words-at lines [] places words h (found .0) (found .1) in
       on-line-id text lines taken _ (o .statement) (stands .line)
 
-  module _ (first m : ℕ) (n : Node) (inside : first ≤ length lines) (links : n .links ≡ linksOf (drop first lines)) (words : List ℕ)
+  module _ (links : Links) (m : ℕ) (n : Node) (begins : NodeBegins lines n links) (words : List ℕ)
       (stand : NodeWords lines [] (n .places) words) (area : List ℕ) (start : ℕ)
       (same : (i : ℕ) → i < length (n .places) → getD area (start + i) 0 ≡ getD words i 0) where
     row-at : (k : ℕ) (o : Occurrence) → getElem? (n .places) k ≡ some o
-        → rowWords (lineTable lines) first m k (getD area (start + k) 0) ≡ wordsOf (rowOf (placeOf m n k o))
+        → rowWords (lineTable lines) links m k (getD area (start + k) 0) ≡ wordsOf (rowOf (placeOf m n k o))
     row-at k o e =
-        ap (rowWords (lineTable lines) first m k) (same k (getElem?-lt (n .places) k e))
-        ∙ row-of-place lines first (placeOf m n k o) (getD words k 0) (words-at lines [] (n .places) words stand k e)
-        (λ p q. ids-small (n .places) words stand p (take-member k (n .places) q)) inside links
+        ap (rowWords (lineTable lines) links m k) (same k (getElem?-lt (n .places) k e))
+        ∙ row-of-place lines links (placeOf m n k o) (getD words k 0) (words-at lines [] (n .places) words stand k e)
+        (λ p q. ids-small (n .places) words stand p (take-member k (n .places) q)) (getElem?-member (n .places) k e) begins
 
     part-rows : (k : ℕ) → k ≤ length (n .places)
-        → nodeRows (lineTable lines) first m area start k ≡ flatMap wordsOf (map rowOf (take k (placesFrom m n 0 (n .places))))
+        → nodeRows (lineTable lines) links m area start k ≡ flatMap wordsOf (map rowOf (take k (placesFrom m n 0 (n .places))))
     unfolding nodeRows flatMap
     part-rows zero h = refl
     part-rows (suc k) h =
@@ -102,7 +103,7 @@ module _ (text : List ℕ) (lines : List Line) (taken : read text ≡ accepted l
         ∙ ap (λ (l : List Place). flatMap wordsOf (map rowOf l)) (sym (take-more (placesFrom m n 0 (n .places)) k here))
 
     -- the rows of a node
-    pub node-rows : nodeRows (lineTable lines) first m area start (length (n .places)) ≡ flatMap wordsOf (map rowOf (placesFrom m n 0 (n .places)))
+    pub node-rows : nodeRows (lineTable lines) links m area start (length (n .places)) ≡ flatMap wordsOf (map rowOf (placesFrom m n 0 (n .places)))
     node-rows =
         let many = placesFrom-length m n 0 (n .places) in
         part-rows (length (n .places)) (omega arith)
@@ -140,8 +141,7 @@ node-words lines (x ∷ nodes) words h (suc j) {n} e =
 pub record Told (lines : List Line) (nodes : List Node) (firsts programs lengths : List ℕ) (j : ℕ) (n : Node) : Type 0 where
   pub program : getD programs j 0 ≡ n .program
   pub places : getD lengths j 0 ≡ length (n .places)
-  pub inside : getD firsts (n .program) 0 ≤ length lines
-  pub links : n .links ≡ linksOf (drop (getD firsts (n .program) 0) lines)
+  pub begins : NodeBegins lines n (linksIn (lineTable lines) (getD firsts (n .program) 0))
 
 module _ (text : List ℕ) (lines : List Line) (taken : read text ≡ accepted lines) (nodes : List Node) (words rest firsts programs lengths : List ℕ)
     (stand : WordsFor lines nodes words) (told : (j : ℕ) (n : Node) → getElem? nodes j ≡ some n → Told lines nodes firsts programs lengths j n) where
@@ -181,10 +181,10 @@ module _ (text : List ℕ) (lines : List Line) (taken : read text ≡ accepted l
       let found = getElem?-found nodes j h in
       let n = found .0 in
       let t = told j n (found .1) in
-      let first = getD firsts (n .program) 0 in
+      let links = linksIn (lineTable lines) (getD firsts (n .program) 0) in
       let here =
-      ap₂ (λ (p k : ℕ). nodeRows (lineTable lines) (getD firsts p 0) j area (totalOf lengths j) k) (t .program) (t .places)
-      ∙ node-rows text lines taken first j n (t .inside) (t .links) (take (length (n .places)) (drop (statementsIn (take j nodes)) words))
+      ap₂ (λ (p k : ℕ). nodeRows (lineTable lines) (linksIn (lineTable lines) (getD firsts p 0)) j area (totalOf lengths j) k) (t .program) (t .places)
+      ∙ node-rows text lines taken links j n (t .begins) (take (length (n .places)) (drop (statementsIn (take j nodes)) words))
       (node-words lines nodes words stand j (found .1)) area (totalOf lengths j) (area-words j n (found .1)) in
       let many : 0 + length (take j nodes) ≡ j = omega (arith, length-take j nodes) in
       ap₂ (λ (a b : List ℕ). a ++ b) (part-all j (omega arith)) here

@@ -1,5 +1,5 @@
 -- The row made of a place's word is the row of the place.
-use mathlib.Core.List.{List, [], _∷_, _++_, flatMap}
+use mathlib.Core.List.{List, [], _∷_, _++_, flatMap, List·Memᴰ}
 use mathlib.Core.Option.{some}
 use mathlib.Core.Path.{_≡_, refl, sym, ap, _∙_}
 use Prim.Native.Nat.{ℕ, zero, suc, _+_, _*_, _-_, _/_, _%_, _≤_, _<_}
@@ -13,17 +13,18 @@ use Rattle.spec_text.specs.declared.Line.{Line}
 use Rattle.spec_text.specs.declared.LineKind.{LineKind}
 use Rattle.spec_text.specs.declared.LineKind.the-variants.{Rl, Fk, Pr, St, Lo, Br, El, En, Li}
 use Rattle.spec_graph.specs.Program.{Statement, Link, statementOf, linksOf}
-use Rattle.spec_graph.specs.Unfolding.{Occurrence}
+use Rattle.spec_graph.specs.Unfolding.{Occurrence, Node}
 use Rattle.spec_graph.specs.Edge.{R, W, T, Place, at}
 use Rattle.place_row.specs.RowTable.{kindNumber, rowOf, wordsOf}
 use Rattle.unfold_laws.specs.Seen.{StandsFor, seenAt}
 use Rattle.place_laws.specs.Ids.{FromLine, statement-line}
-use Rattle.place_laws.specs.Guarded.{IdsSmall}
-use Rattle.place_laws.specs.Keys.{withLink, keysOf, keys-of-place}
+use Rattle.place_laws.specs.Guarded.{IdsSmall, Marked}
+use Rattle.place_laws.specs.Keys.{withLink, keysOf, near-keys, far-keys}
 use Rattle.unfold_laws.specs.WordCode.{lineIn}
 use Rattle.value_tables.specs.Lines.{lineNumber, lineWords, lineTable}
 use Rattle.value_tables.specs.LineLaws.{lineTable-length, cell-at, number-at, kind-not, sets-told}
-use Rattle.place_keys.specs.LineKeys.{linkOf, linkAt, keyAt, keysFrom}
+use Rattle.place_keys.specs.declared.Links.{Links}
+use Rattle.place_keys.specs.LineKeys.{linkOf, linkAt, keyAt, keysFrom, placeKeys}
 use Rattle.place_table.specs.RowWords.{rowWords}
 
 -- ---- the keys from the lines
@@ -102,7 +103,13 @@ element-default (y ∷ l) (suc i) e d = element-default l i e d
 
 -- ---- the row of a place
 
-module _ (lines : List Line) (first : ℕ) (s : Place) (word : ℕ) where
+-- where the links of a node's program begin, and which of its statements are marked
+pub record NodeBegins (lines : List Line) (n : Node) (links : Links) : Type 0 where
+  pub inside : links .first ≤ length lines
+  pub same : n .links ≡ linksOf (drop (links .first) lines)
+  pub marked : Marked n (links .marks)
+
+module _ (lines : List Line) (links : Links) (s : Place) (word : ℕ) where
   abbrev before : List Occurrence
   before = take (s .place) (s .node .places)
 
@@ -130,12 +137,14 @@ module _ (lines : List Line) (first : ℕ) (s : Place) (word : ℕ) where
       })
 
   -- E0, E3: the row made of the word that stands for a place
-  pub row-of-place : StandsFor lines before (s .occurrence) word → IdsSmall before → first ≤ length lines
-      → s .node .links ≡ linksOf (drop first lines)
-      → rowWords (lineTable lines) first (s .number) (s .place) word ≡ wordsOf (rowOf s)
-  unfolding rowWords wordsOf rowOf
-  row-of-place w small inside links =
+  pub row-of-place : StandsFor lines before (s .occurrence) word → IdsSmall before → List·Memᴰ (s .occurrence) (s .node .places)
+      → NodeBegins lines (s .node) links → rowWords (lineTable lines) links (s .number) (s .place) word ≡ wordsOf (rowOf s)
+  unfolding rowWords wordsOf rowOf placeKeys
+  row-of-place w small here begins =
+      let first = links .first in
       let c = cells (at s) (lineIn word) (statement-line lines (lineIn word) (at s) (w .line)) in
-      let fuel : length (lineTable lines) / 8 - first + first ≡ length lines = omega (arith, lineTable-length lines) in
-      let keys = keys-lines lines (at s .id) (seenAt before (s .occurrence)) (length (lineTable lines) / 8 - first) first fuel 0 in
-      rw (c .number, c .id, c .relation, c .reads, c .writes, c .tests, w .seen, keys, ← links, keys-of-place s small) refl
+      let fuel : length (lineTable lines) / 8 - first + first ≡ length lines = omega (arith, lineTable-length lines, begins .inside) in
+      let near = keys-lines lines (at s .id) (seenAt before (s .occurrence)) (length (lineTable lines) / 8 - first) first fuel 0 in
+      let far = keys-lines lines (at s .id) (links .marks) (length (lineTable lines) / 8 - first) first fuel 0 in
+      rw (c .number, c .id, c .relation, c .reads, c .writes, c .tests, w .seen, near, far, ← begins .same, near-keys s small,
+      far-keys s (links .marks) here (begins .marked)) refl
