@@ -1,3 +1,5 @@
 pub mod FromLines
 pub mod FromLinks
 pub mod GivenNodes
+pub mod Bodies
+pub mod Sites
