@@ -1,9 +1,9 @@
 -- What the lines of a program of an accepted text are: statements and flow with every block closed, then links; and the run that is read off them.
-use mathlib.Core.Bool.{Bool, true, false, _&&_, _||_, not, false≢true, true≢false}
+use mathlib.Core.Bool.{Bool, true, false, _||_, false≢true}
 use mathlib.Core.List.{List, [], _∷_, _++_, map, tail, append-assoc, append-nil}
 use mathlib.Core.Logic.{_⊎_, inl, inr, ⊎-elim}
 use mathlib.Core.Path.{_≡_, refl, sym, ap, subst, _∙_}
-use Prim.Native.Nat.{ℕ, zero, suc, _+_, _≤_, _<_}
+use Prim.Native.Nat.{ℕ, suc, _+_}
 use native.Mathlib.Nat.{zero-add, add-zero}
 use native.Mathlib.Numerals.{add-one}
 use native.Mathlib.Omega.{arith}
@@ -153,11 +153,17 @@ module _ (parts : List ℕ) (count : ℕ) (l : Line) (lines : List Line) where
 some-open : {part : ℕ} {parts : List ℕ} → _≡_ {A = List ℕ} (part ∷ parts) [] → ⊥
 some-open e = let z = ap length e in omega arith
 
-same-part : {a b : ℕ} {l r : List ℕ} → _≡_ {A = List ℕ} (a ∷ l) (b ∷ r) → a ≡ b
-same-part e = cc
+-- what `Body` says of an `el` and of an `en` in a block
+else-ends : (part : ℕ) (parts around : List ℕ) (count : ℕ) (lines : List Line) → _≡_ {A = List ℕ} (part ∷ parts) (firstArm ∷ around)
+    → Body (secondArm ∷ around) count lines → (part ≡ firstArm) × Body (secondArm ∷ parts) count lines
+else-ends part parts around count lines e h = let same : parts ≡ around = cc in (cc, rw same h)
 
-same-around : {a b : ℕ} {l r : List ℕ} → _≡_ {A = List ℕ} (a ∷ l) (b ∷ r) → l ≡ r
-same-around e = cc
+end-ends : (part other : ℕ) (parts around : List ℕ) (count : ℕ) (lines : List Line) → _≡_ {A = List ℕ} (part ∷ parts) (other ∷ around)
+    → (other ≡ firstArm → ⊥) → Body around count lines → (part ≡ firstArm → ⊥) × Body parts count lines
+end-ends part other parts around count lines e f h =
+    let same : part ≡ other = cc in
+    let rest : parts ≡ around = cc in
+    (λ z. f (sym same ∙ z), rw rest h)
 
 -- a run in a block ends at the first arm's `el`, or at the `en` of a loop or a second arm: `Body` has no other line there
 abbrev Closed : ℕ → List ℕ → ℕ → List Line → Type 0
@@ -175,10 +181,12 @@ block-ends part parts count (l ∷ lines) e h = go (l .kind) refl
     go : (c : LineKind) → l .kind ≡ c → Closed part parts count (l ∷ lines)
     go El d =
         let t : (around : List ℕ) × (part ∷ parts ≡ firstArm ∷ around) × Body (secondArm ∷ around) count lines = rw (d, Body) at h in
-        (l, refl, inl (d, same-part (t .1), rw (same-around (t .1)) (t .2)))
+        let both = else-ends part parts (t .0) count lines (t .1) (t .2) in
+        (l, refl, inl (d, both .0, both .1))
     go En d =
         let t : (p : ℕ) × (around : List ℕ) × (part ∷ parts ≡ p ∷ around) × (p ≡ firstArm → ⊥) × Body around count lines = rw (d, Body) at h in
-        (l, refl, inr (d, (λ z. t .3 (sym (same-part (t .2)) ∙ z)), rw (same-around (t .2)) (t .4)))
+        let both = end-ends part (t .0) parts (t .1) count lines (t .2) (t .3) (t .4) in
+        (l, refl, inr (d, both .0, both .1))
     go Li d = let t : (part ∷ parts ≡ []) × LinksOnly lines = rw (d, Body) at h in absurd (some-open (t .0))
     go Pr d = absurd (some-open (rw (d, Body) at h))
     go Rl d = absurd (body-relation (part ∷ parts) count l lines d h)

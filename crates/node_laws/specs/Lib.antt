@@ -3,3 +3,4 @@ pub mod FromLinks
 pub mod GivenNodes
 pub mod Bodies
 pub mod Sites
+pub mod LineSites

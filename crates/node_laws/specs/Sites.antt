@@ -8,7 +8,6 @@ use mathlib.Core.Logic.{_⊎_, inl, inr, ⊎-elim}
 use mathlib.Core.Path.{_≡_, refl, sym, ap, subst, _∙_}
 use Prim.Native.Nat.{ℕ, suc, _+_, _≤_, _<_}
 use native.Mathlib.Omega.{arith}
-use lib.Dec.{eqb}
 use lib.ListN.{length}
 use borrow.Author.Tests.{eq-eqb}
 use Rattle.law_base.specs.BoolLaws.{and-of}
@@ -18,7 +17,7 @@ use Rattle.spec_text.specs.Reading.{Block, firstArm, secondArm}
 use Rattle.spec_graph.specs.Program.{Statement, Item, Run}
 use Rattle.spec_graph.specs.Program.Item.{statement, loop, branch}
 use Rattle.spec_graph.specs.Program.Run.{done, next}
-use Rattle.spec_graph.specs.Unfolding.{Execution, ItemExecution, Turns, Around, Occurrence, inside, occurrences, itemOccurrences, turnOccurrences}
+use Rattle.spec_graph.specs.Unfolding.{Execution, ItemExecution, Turns, Occurrence, inside, occurrences, itemOccurrences, turnOccurrences}
 use Rattle.spec_graph.specs.Unfolding.Execution.{end, step}
 use Rattle.spec_graph.specs.Unfolding.ItemExecution.{perform, turns, arm-one, arm-two}
 use Rattle.spec_graph.specs.Unfolding.Turns.{stop, turn}
