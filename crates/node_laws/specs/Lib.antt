@@ -4,3 +4,4 @@ pub mod GivenNodes
 pub mod Bodies
 pub mod Sites
 pub mod LineSites
+pub mod BoundParents

@@ -592,3 +592,36 @@ read-run (suc n) parts place blocks m (l ∷ lines) less h =
     go Li e again = stop Li e _
     go Rl e again = stop Rl e _
     go Fk e again = stop Fk e _
+
+-- where a program's run has ended no block is open, so its statements and flow have ended
+ended-sites : (place : ℕ) (blocks : List Block) (n : ℕ) (lines : List Line) → Ended lines → Body [] n lines → lineSites place blocks lines ≡ []
+unfolding lineSites Stops Body
+ended-sites place blocks n [] e h = refl
+ended-sites place blocks n (l ∷ lines) e h = go (l .kind) refl
+  where
+    none : (part : ℕ) (around : List ℕ) → _≡_ {A = List ℕ} [] (part ∷ around) → ⊥
+    none part around z = let y = ap length z in omega arith
+
+    go : (c : LineKind) → l .kind ≡ c → lineSites place blocks (l ∷ lines) ≡ []
+    go Li d = link-sites place blocks l lines d
+    go Pr d = program-sites place blocks l lines d
+    go El d =
+        let t : (around : List ℕ) × ([] ≡ firstArm ∷ around) × Body (secondArm ∷ around) n lines = rw (d, Body) at h in
+        absurd (none firstArm (t .0) (t .1))
+    go En d =
+        let t : (p : ℕ) × (around : List ℕ) × ([] ≡ p ∷ around) × (p ≡ firstArm → ⊥) × Body around n lines = rw (d, Body) at h in
+        absurd (none (t .0) (t .1) (t .2))
+    go Rl d = absurd (body-relation [] n l lines d h)
+    go Fk d = absurd (body-key [] n l lines d h)
+    go (St k) d = let z : ⊥ = rw d at e in absurd z
+    go Lo d = let z : ⊥ = rw d at e in absurd z
+    go Br d = let z : ⊥ = rw d at e in absurd z
+
+-- T8: a program's run has the sites of the program's lines
+pub run-sites : (n : ℕ) (own : List Line) → length own ≤ n → Body [] 0 own → lineSites 0 [] own ≡ map (seen []) (sites (runOf n own .run) 0)
+run-sites n own less h =
+    let r = read-run n [] 0 [] 0 own less h in
+    r .same
+    ∙ ap (λ (t : List (Statement × List Block)). map (seen []) (sites (runOf n own .run) 0) ++ t)
+    (ended-sites (0 + runLines (runOf n own .run)) [] (r .number) (runOf n own .rest) (r .ended) (r .onward))
+    ∙ append-nil (map (seen []) (sites (runOf n own .run) 0))
