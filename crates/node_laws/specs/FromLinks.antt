@@ -1,71 +1,48 @@
 -- The links of a node stand on `li` lines of the workload.
 use mathlib.Core.Path.{_≡_, refl, sym, ap, subst}
 use mathlib.Core.Logic.{⊎-elim}
-use mathlib.Core.List.{List, [], _∷_, _++_, List·Memᴰ}
+use mathlib.Core.Bool.{false}
+use mathlib.Core.List.{List, [], _∷_, _++_, List·Memᴰ, Memᴰ·append-right}
 use mathlib.Core.List.List·Memᴰ.{List·Memᴰ·head, List·Memᴰ·tail}
 use mathlib.Core.List.{List·Memᴰ·not-nil, List·Memᴰ·cases-cons, List·Memᴰ·append-cases}
 use Prim.Native.Nat.{ℕ, suc}
 use lib.ListN.{length}
+use Rattle.spec_base.specs.Basic.{any}
+use Rattle.law_base.specs.BoolLaws.{or-of}
 use Rattle.law_base.specs.ListLaws.{map-member}
 use Rattle.spec_text.specs.declared.Line.{Line}
 use Rattle.spec_text.specs.declared.LineKind.{LineKind}
 use Rattle.spec_text.specs.declared.LineKind.the-variants.{Rl, Fk, Pr, St, Lo, Br, El, En, Li}
+use Rattle.spec_text.specs.Reading.{sort, isProgram}
 use Rattle.spec_graph.specs.Program.{Link, Program, runOf, linksOf, programsOf}
 use Rattle.spec_graph.specs.Unfolding.{Node, Occurrence, Execution, occurrences, unfoldings, nodesOfProgram, nodesFrom}
 
--- a link comes from an `li` line, whose id is the link's key
-pub record FromLink (lines : List Line) (link : Link) : Type 0 where
+-- a program stands after a `pr` line: the lines after it up to the end of the text are what it is read off
+pub record OwnProgram (lines : List Line) (p : Program) : Type 0 where
+  pub front : List Line
   pub line : Line
-  pub member : List·Memᴰ line lines
-  pub kind : line .kind ≡ Li
-  pub key : line .id ≡ link .key
+  pub own : List Line
+  pub joined : lines ≡ front ++ (line ∷ own)
+  pub kind : line .kind ≡ Pr
+  pub same : p ≡ record { body = runOf (length own) own .run; links = linksOf own }
 
--- one line more in front
-further : (l : Line) {lines : List Line} {link : Link} → FromLink lines link → FromLink (l ∷ lines) link
-further l f = record { line = f .line; member = List·Memᴰ·tail (f .member); kind = f .kind; key = f .key }
-
-link-line : (lines : List Line) (link : Link) → List·Memᴰ link (linksOf lines) → FromLink lines link
-unfolding linksOf
-link-line [] link m = absurd (List·Memᴰ·not-nil m)
-link-line (l ∷ lines) link m = go (l .kind) refl (λ r. further l (link-line lines link r)) m
-  where
-    found : LineKind → List Link
-    found c =
-        elim c [
-          | Li ↦ record { key = l .id; child = l .rel; parent = l .to } ∷ linksOf lines
-          | Pr ↦ []
-          | Rl ↦ linksOf lines
-          | Fk ↦ linksOf lines
-          | St k ↦ linksOf lines
-          | Lo ↦ linksOf lines
-          | Br ↦ linksOf lines
-          | El ↦ linksOf lines
-          | En ↦ linksOf lines
-        ]
-
-    go : (c : LineKind) → l .kind ≡ c → (List·Memᴰ link (linksOf lines) → FromLink (l ∷ lines) link) → List·Memᴰ link (found c)
-        → FromLink (l ∷ lines) link
-    go Li e rest h =
-        ⊎-elim
-        (λ s. record { line = l; member = List·Memᴰ·head refl; kind = e; key = ap (λ (k : Link). k .key) (sym s) })
-        rest
-        (List·Memᴰ·cases-cons h)
-    go Pr e rest h = absurd (List·Memᴰ·not-nil h)
-    go Rl e rest h = rest h
-    go Fk e rest h = rest h
-    go (St k) e rest h = rest h
-    go Lo e rest h = rest h
-    go Br e rest h = rest h
-    go El e rest h = rest h
-    go En e rest h = rest h
-
--- a program's links come from lines
-pub program-link : (lines : List Line) (p : Program) → List·Memᴰ p (programsOf lines) → (link : Link) → List·Memᴰ link (p .links)
-    → FromLink lines link
+-- T6: each program has its `pr` line, for `programsOf` reads one off the lines after each
+pub own-program : (lines : List Line) (p : Program) → List·Memᴰ p (programsOf lines) → OwnProgram lines p
 unfolding programsOf
-program-link [] p m link h = absurd (List·Memᴰ·not-nil m)
-program-link (l ∷ lines) p m link h = go (l .kind) (λ r. further l (program-link lines p r link h)) m
+own-program [] p m = absurd (List·Memᴰ·not-nil m)
+own-program (l ∷ lines) p m = go (l .kind) refl (λ r. later (own-program lines p r)) m
   where
+    later : OwnProgram lines p → OwnProgram (l ∷ lines) p
+    later o =
+        record {
+          front = l ∷ o .front;
+          line = o .line;
+          own = o .own;
+          joined = ap {B = List Line} (λ x. l ∷ x) (o .joined);
+          kind = o .kind;
+          same = o .same;
+        }
+
     found : LineKind → List Program
     found c =
         elim c [
@@ -80,20 +57,105 @@ program-link (l ∷ lines) p m link h = go (l .kind) (λ r. further l (program-l
           | Li ↦ programsOf lines
         ]
 
-    go : (c : LineKind) → (List·Memᴰ p (programsOf lines) → FromLink (l ∷ lines) link) → List·Memᴰ p (found c) → FromLink (l ∷ lines) link
-    go Pr rest r =
+    go : (c : LineKind) → l .kind ≡ c → (List·Memᴰ p (programsOf lines) → OwnProgram (l ∷ lines) p) → List·Memᴰ p (found c)
+        → OwnProgram (l ∷ lines) p
+    go Pr e rest r =
         ⊎-elim
-        (λ s. further l (link-line lines link (subst (λ (x : Program). List·Memᴰ link (x .links)) s h)))
+        (λ s. record { front = []; line = l; own = lines; joined = refl; kind = e; same = s })
         rest
         (List·Memᴰ·cases-cons r)
-    go Rl rest r = rest r
-    go Fk rest r = rest r
-    go (St k) rest r = rest r
-    go Lo rest r = rest r
-    go Br rest r = rest r
-    go El rest r = rest r
-    go En rest r = rest r
-    go Li rest r = rest r
+    go Rl e rest r = rest r
+    go Fk e rest r = rest r
+    go (St k) e rest r = rest r
+    go Lo e rest r = rest r
+    go Br e rest r = rest r
+    go El e rest r = rest r
+    go En e rest r = rest r
+    go Li e rest r = rest r
+
+-- a link of a program stands on an `li` line of its own, with no `pr` before it
+pub record OwnLink (own : List Line) (link : Link) : Type 0 where
+  pub passed : List Line
+  pub line : Line
+  pub after : List Line
+  pub joined : own ≡ passed ++ (line ∷ after)
+  pub none : any isProgram passed ≡ false
+  pub kind : line .kind ≡ Li
+  pub same : link ≡ record { key = line .id; child = line .rel; parent = line .to }
+
+-- T6: each link has its `li` line, for `linksOf` reads one off each up to the next `pr`
+pub own-link : (own : List Line) (link : Link) → List·Memᴰ link (linksOf own) → OwnLink own link
+unfolding linksOf isProgram sort
+own-link [] link m = absurd (List·Memᴰ·not-nil m)
+own-link (l ∷ lines) link m = go (l .kind) refl (λ e r. later e (own-link lines link r)) m
+  where
+    later : isProgram l ≡ false → OwnLink lines link → OwnLink (l ∷ lines) link
+    later e o =
+        record {
+          passed = l ∷ o .passed;
+          line = o .line;
+          after = o .after;
+          joined = ap {B = List Line} (λ x. l ∷ x) (o .joined);
+          none = or-of e (o .none);
+          kind = o .kind;
+          same = o .same;
+        }
+
+    found : LineKind → List Link
+    found c =
+        elim c [
+          | Li ↦ record { key = l .id; child = l .rel; parent = l .to } ∷ linksOf lines
+          | Pr ↦ []
+          | Rl ↦ linksOf lines
+          | Fk ↦ linksOf lines
+          | St k ↦ linksOf lines
+          | Lo ↦ linksOf lines
+          | Br ↦ linksOf lines
+          | El ↦ linksOf lines
+          | En ↦ linksOf lines
+        ]
+
+    go : (c : LineKind) → l .kind ≡ c → (isProgram l ≡ false → List·Memᴰ link (linksOf lines) → OwnLink (l ∷ lines) link)
+        → List·Memᴰ link (found c) → OwnLink (l ∷ lines) link
+    go Li e rest h =
+        ⊎-elim
+        (λ s. record { passed = []; line = l; after = lines; joined = refl; none = refl; kind = e; same = s })
+        (rest (rw e refl))
+        (List·Memᴰ·cases-cons h)
+    go Pr e rest h = absurd (List·Memᴰ·not-nil h)
+    go Rl e rest h = rest (rw e refl) h
+    go Fk e rest h = rest (rw e refl) h
+    go (St k) e rest h = rest (rw e refl) h
+    go Lo e rest h = rest (rw e refl) h
+    go Br e rest h = rest (rw e refl) h
+    go El e rest h = rest (rw e refl) h
+    go En e rest h = rest (rw e refl) h
+
+-- a link comes from an `li` line, whose id is the link's key
+pub record FromLink (lines : List Line) (link : Link) : Type 0 where
+  pub line : Line
+  pub member : List·Memᴰ line lines
+  pub kind : line .kind ≡ Li
+  pub key : line .id ≡ link .key
+
+-- a line in a join is a line of it
+joined-member : (lines front : List Line) (l : Line) (after : List Line) → lines ≡ front ++ (l ∷ after) → List·Memᴰ l lines
+joined-member lines front l after e = rw e (Memᴰ·append-right front (List·Memᴰ·head refl))
+
+-- a program's links come from lines: each from an `li` line of the program's own
+pub program-link : (lines : List Line) (p : Program) → List·Memᴰ p (programsOf lines) → (link : Link) → List·Memᴰ link (p .links)
+    → FromLink lines link
+program-link lines p m link h =
+    let o = own-program lines p m in
+    let k = own-link (o .own) link (subst (λ (x : Program). List·Memᴰ link (x .links)) (o .same) h) in
+    record {
+      line = k .line;
+      member =
+          subst (λ (x : List Line). List·Memᴰ (k .line) x) (sym (o .joined))
+          (Memᴰ·append-right (o .front) (List·Memᴰ·tail (joined-member (o .own) (k .passed) (k .line) (k .after) (k .joined))));
+      kind = k .kind;
+      key = ap (λ (x : Link). x .key) (sym (k .same));
+    }
 
 -- a node is an unfolding of a program
 pub record FromProgram (programs : List Program) (n : Node) : Type 0 where

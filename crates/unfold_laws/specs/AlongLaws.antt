@@ -1,9 +1,8 @@
 -- What holds along a run, and that the run of a program is read off the program's lines alone.
 use mathlib.Core.List.{List, [], _∷_, _++_, tail, append-assoc}
 use mathlib.Core.Bool.{true, false, false≢true}
-use mathlib.Core.Logic.{_⊎_, inl, inr, ⊎-elim}
 use mathlib.Core.Path.{_≡_, refl, sym, ap, subst, _∙_}
-use Prim.Native.Nat.{ℕ, zero, suc, _+_, _≤_, _<_}
+use Prim.Native.Nat.{ℕ, zero, suc, _≤_, _<_}
 use native.Mathlib.Omega.{arith}
 use lib.ListN.{length}
 use Rattle.spec_text.specs.declared.Line.{Line}
@@ -12,9 +11,9 @@ use Rattle.spec_text.specs.declared.LineKind.the-variants.{Rl, Fk, Pr, St, Lo, 
 use Rattle.spec_text.specs.declared.StatementKind.{StatementKind}
 use Rattle.spec_text.specs.Reading.{isStatement, isStatementOf, loop, firstArm, secondArm}
 use Rattle.spec_graph.specs.Program.{Parsed, runOf, inFrontOf}
+use Rattle.node_laws.specs.Bodies.{Body, Stops, Ended, run-stops, run-statement, run-loop, run-branch}
+use Rattle.node_laws.specs.Bodies.{body-statement, body-loop, body-branch, body-closed, body-second}
 use Rattle.unfold_laws.specs.Along.{asks, Along}
-use Rattle.unfold_laws.specs.Codes.{codeOf}
-use Rattle.unfold_laws.specs.CodesLaws.{run-ends, run-statement, run-loop, run-branch}
 
 module _ (P : List Line → Type 0) where
   abbrev Asked : ℕ → Line → List Line → LineKind → Type 0
@@ -62,23 +61,6 @@ module _ (P : List Line → Type 0) where
       let more = tail (runOf n lines .rest) in
       asked (l .kind) _ _ _ _ (h (l ∷ lines)) (along-all h n lines) (along-all h n more) (along-all h n (tail (runOf n more .rest)))
 
--- T7, T8: the lines of a program from a place on, where blocks of these parts are open, innermost first, and so many statements stand before:
--- ids count on, `el` ends a first arm, `en` a loop or a second arm, and where the statements and flow end no block is open
-unfoldable pub Body : List ℕ → ℕ → List Line → Type 0
-Body parts count [] = parts ≡ []
-Body parts count (l ∷ lines) =
-    elim (l .kind) [
-      | St k ↦ (l .id ≡ count) × Body parts (suc count) lines
-      | Lo ↦ Body (loop ∷ parts) count lines
-      | Br ↦ Body (firstArm ∷ parts) count lines
-      | El ↦ (around : List ℕ) × (parts ≡ firstArm ∷ around) × Body (secondArm ∷ around) count lines
-      | En ↦ (part : ℕ) × (around : List ℕ) × (parts ≡ part ∷ around) × (part ≡ firstArm → ⊥) × Body around count lines
-      | Rl ↦ parts ≡ []
-      | Fk ↦ parts ≡ []
-      | Pr ↦ parts ≡ []
-      | Li ↦ parts ≡ []
-    ]
-
 -- every statement among these lines has an id below the number
 unfoldable pub Below : ℕ → List Line → Type 0
 Below count [] = Unit {0}
@@ -101,11 +83,6 @@ record Inside (body : List Line) (parts : List ℕ) (lines : List Line) : Type 0
   joined : body ≡ passed ++ lines
   below : Below count passed
   onward : Body parts count lines
-
--- the run has ended before these lines
-abbrev Ended : List Line → Type 0
-Ended [] = Unit {0}
-Ended (l ∷ lines) = 2 < codeOf (l .kind)
 
 -- no statement
 abbrev NoStatement : LineKind → Type 0
@@ -131,68 +108,38 @@ module _ (body : List Line) where
 
   statement-passed : (parts : List ℕ) (l : Line) (lines : List Line) (k : StatementKind) → l .kind ≡ St k → (h : Inside body parts (l ∷ lines))
       → (l .id ≡ h .count) × Inside body parts lines
-  unfolding Body
   statement-passed parts l lines k e h =
-      let at-once : (l .id ≡ h .count) × Body parts (suc (h .count)) lines = rw (e, Body) at (h .onward) in
+      let at-once = body-statement parts (h .count) l lines k e (h .onward) in
       (at-once .0, passed-on parts parts l lines h (suc (h .count)) (omega arith) (λ q. omega (arith, at-once .0)) (at-once .1))
 
   loop-passed : (parts : List ℕ) (l : Line) (lines : List Line) → l .kind ≡ Lo → Inside body parts (l ∷ lines) → Inside body (loop ∷ parts) lines
-  unfolding Body isStatementOf
+  unfolding isStatementOf
   loop-passed parts l lines e h =
-      other-passed parts (loop ∷ parts) l lines h (λ q. let z : false ≡ true = rw e at q in absurd (false≢true z)) (rw (e, Body) at (h .onward))
+      other-passed parts (loop ∷ parts) l lines h (λ q. let z : false ≡ true = rw e at q in absurd (false≢true z))
+      (body-loop parts (h .count) l lines e (h .onward))
 
   branch-passed : (parts : List ℕ) (l : Line) (lines : List Line) → l .kind ≡ Br → Inside body parts (l ∷ lines)
       → Inside body (firstArm ∷ parts) lines
-  unfolding Body isStatementOf
+  unfolding isStatementOf
   branch-passed parts l lines e h =
-      other-passed parts (firstArm ∷ parts) l lines h (λ q. let z : false ≡ true = rw e at q in absurd (false≢true z)) (rw (e, Body) at (h .onward))
+      other-passed parts (firstArm ∷ parts) l lines h (λ q. let z : false ≡ true = rw e at q in absurd (false≢true z))
+      (body-branch parts (h .count) l lines e (h .onward))
 
-  -- no block is open where the lines of a body end
-  none-open : {part : ℕ} {parts : List ℕ} → _≡_ {A = List ℕ} (part ∷ parts) [] → ⊥
-  none-open e = let z = ap length e in omega arith
-
-  same-part : {a b : ℕ} {l r : List ℕ} → _≡_ {A = List ℕ} (a ∷ l) (b ∷ r) → a ≡ b
-  same-part e = cc
-
-  same-around : {a b : ℕ} {l r : List ℕ} → _≡_ {A = List ℕ} (a ∷ l) (b ∷ r) → l ≡ r
-  same-around e = cc
-
-  -- where a run in a block ends, the first arm's `el` stands, or the `en` of a loop or a second arm
-  block-ends : (part : ℕ) (parts : List ℕ) (lines : List Line) → Ended lines → Inside body (part ∷ parts) lines
-      → ((part ≡ firstArm) × Inside body (secondArm ∷ parts) (tail lines)) ⊎ ((part ≡ firstArm → ⊥) × Inside body parts (tail lines))
-  unfolding Body codeOf isStatementOf
-  block-ends part parts [] e h = absurd (none-open (h .onward))
-  block-ends part parts (l ∷ lines) e h = go (l .kind) refl
-    where
-      go : (c : LineKind) → l .kind ≡ c
-          → ((part ≡ firstArm) × Inside body (secondArm ∷ parts) lines) ⊎ ((part ≡ firstArm → ⊥) × Inside body parts lines)
-      go El d =
-          let t : (around : List ℕ) × (part ∷ parts ≡ firstArm ∷ around) × Body (secondArm ∷ around) (h .count) lines =
-          rw (d, Body) at (h .onward) in
-          let onward : Body (secondArm ∷ parts) (h .count) lines = rw (same-around (t .1)) (t .2) in
-          inl (same-part (t .1), other-passed (part ∷ parts) (secondArm ∷ parts) l lines h (λ q. absurd (false≢true (rw d at q))) onward)
-      go En d =
-          let t : (p : ℕ) × (around : List ℕ) × (part ∷ parts ≡ p ∷ around) × (p ≡ firstArm → ⊥) × Body around (h .count) lines =
-          rw (d, Body) at (h .onward) in
-          let onward : Body parts (h .count) lines = rw (same-around (t .2)) (t .4) in
-          inr (
-            (λ z. t .3 (sym (same-part (t .2)) ∙ z)),
-            other-passed (part ∷ parts) parts l lines h (λ q. absurd (false≢true (rw d at q))) onward,
-          )
-      go Rl d = absurd (none-open (rw (d, Body) at (h .onward)))
-      go Fk d = absurd (none-open (rw (d, Body) at (h .onward)))
-      go Pr d = absurd (none-open (rw (d, Body) at (h .onward)))
-      go Li d = absurd (none-open (rw (d, Body) at (h .onward)))
-      go (St k) d = let z : 2 < 0 = rw d at e in absurd (omega arith)
-      go Lo d = let z : 2 < 1 = rw d at e in absurd (omega arith)
-      go Br d = let z : 2 < 2 = rw d at e in absurd (omega arith)
-
+  -- a run in a loop or a second arm ends at its `en`, one in a first arm at its `el`, and that line is passed
   closed : (part : ℕ) (parts : List ℕ) (lines : List Line) → (part ≡ firstArm → ⊥) → Ended lines → Inside body (part ∷ parts) lines
       → Inside body parts (tail lines)
-  closed part parts lines f e h = ⊎-elim (λ t. absurd (f (t .0))) (λ t. t .1) (block-ends part parts lines e h)
+  unfolding isStatementOf
+  closed part parts lines f e h =
+      let c = body-closed part parts (h .count) lines f e (h .onward) in
+      other-passed (part ∷ parts) parts (c .0) (tail lines) (subst (λ (x : List Line). Inside body (part ∷ parts) x) (c .1) h)
+      (λ q. let z : false ≡ true = rw (c .2) at q in absurd (false≢true z)) (c .3)
 
   second : (parts : List ℕ) (lines : List Line) → Ended lines → Inside body (firstArm ∷ parts) lines → Inside body (secondArm ∷ parts) (tail lines)
-  second parts lines e h = ⊎-elim (λ t. t .1) (λ t. absurd (t .0 refl)) (block-ends firstArm parts lines e h)
+  unfolding isStatementOf
+  second parts lines e h =
+      let c = body-second parts (h .count) lines e (h .onward) in
+      other-passed (firstArm ∷ parts) (secondArm ∷ parts) (c .0) (tail lines) (subst (λ (x : List Line). Inside body (firstArm ∷ parts) x) (c .1) h)
+      (λ q. let z : false ≡ true = rw (c .2) at q in absurd (false≢true z)) (c .3)
 
   module _ (P : List Line → Type 0)
       (here : (passed : List Line) (l : Line) (lines : List Line) (k : StatementKind) → body ≡ passed ++ (l ∷ lines) → Below (l .id) passed
@@ -209,10 +156,10 @@ module _ (body : List Line) where
     stays-on n parts l lines more same along less s =
         record { along = along; inside = rw same (s .inside); ended = rw same (s .ended); fewer = rw same (omega (arith, s .fewer)) }
 
-    stays-here : (n : ℕ) (parts : List ℕ) (l : Line) (lines : List Line) → 2 < codeOf (l .kind) → Inside body parts (l ∷ lines)
+    stays-here : (n : ℕ) (parts : List ℕ) (l : Line) (lines : List Line) → Stops (l .kind) → Inside body parts (l ∷ lines)
         → Along P (suc n) (l ∷ lines) → Stays (suc n) parts (l ∷ lines)
     stays-here n parts l lines stop h along =
-        let same : runOf (suc n) (l ∷ lines) .rest ≡ l ∷ lines = ap (λ (p : Parsed). p .rest) (run-ends n l lines (l .kind) refl stop) in
+        let same : runOf (suc n) (l ∷ lines) .rest ≡ l ∷ lines = ap (λ (p : Parsed). p .rest) (run-stops n l lines (l .kind) refl stop) in
         record { along = along; inside = rw same h; ended = rw same stop; fewer = rw same (omega arith) }
 
     tail-fewer : (lines : List Line) → length (tail lines) ≤ length lines
@@ -220,7 +167,7 @@ module _ (body : List Line) where
     tail-fewer (l ∷ lines) = omega arith
 
     run-stays : (n : ℕ) (parts : List ℕ) (lines : List Line) → length lines ≤ n → Inside body parts lines → Stays n parts lines
-    unfolding runOf Along asks codeOf inFrontOf
+    unfolding runOf Along asks Stops inFrontOf
     run-stays zero parts [] m h = record { along = _; inside = h; ended = _; fewer = omega arith }
     run-stays zero parts (l ∷ lines) m h = absurd (omega arith)
     run-stays (suc n) parts [] m h = record { along = _; inside = h; ended = _; fewer = omega arith }
@@ -251,12 +198,12 @@ module _ (body : List Line) where
             let then = again parts more (omega arith) (closed secondArm parts (runOf n other .rest) (λ z. omega arith) (two .ended) (two .inside)) in
             stays-on n parts l lines more (ap (λ (p : Parsed). p .rest) (run-branch n l lines e))
             (asked-along P n l lines Br e (one .along, two .along, then .along)) (omega arith) then
-        go Rl e again = stays-here n parts l lines (let z = ap codeOf e in omega arith) h (asked-along P n l lines Rl e _)
-        go Fk e again = stays-here n parts l lines (let z = ap codeOf e in omega arith) h (asked-along P n l lines Fk e _)
-        go Pr e again = stays-here n parts l lines (let z = ap codeOf e in omega arith) h (asked-along P n l lines Pr e _)
-        go El e again = stays-here n parts l lines (let z = ap codeOf e in omega arith) h (asked-along P n l lines El e _)
-        go En e again = stays-here n parts l lines (let z = ap codeOf e in omega arith) h (asked-along P n l lines En e _)
-        go Li e again = stays-here n parts l lines (let z = ap codeOf e in omega arith) h (asked-along P n l lines Li e _)
+        go Rl e again = stays-here n parts l lines (rw e _) h (asked-along P n l lines Rl e _)
+        go Fk e again = stays-here n parts l lines (rw e _) h (asked-along P n l lines Fk e _)
+        go Pr e again = stays-here n parts l lines (rw e _) h (asked-along P n l lines Pr e _)
+        go El e again = stays-here n parts l lines (rw e _) h (asked-along P n l lines El e _)
+        go En e again = stays-here n parts l lines (rw e _) h (asked-along P n l lines En e _)
+        go Li e again = stays-here n parts l lines (rw e _) h (asked-along P n l lines Li e _)
 
     -- it holds along the run of the whole body
     pub body-along : (n : ℕ) → length body ≤ n → Body [] 0 body → Along P n body

@@ -18,6 +18,7 @@ use Rattle.spec_text.specs.declared.StatementKind.the-variants.{Is}
 use Rattle.spec_graph.specs.Program.{Item, Run, Parsed, runOf, inFrontOf, statementOf}
 use Rattle.spec_graph.specs.Program.Item.{statement, loop, branch}
 use Rattle.spec_graph.specs.Program.Run.{done, next}
+use Rattle.node_laws.specs.Bodies.{Stops, run-stops, run-statement, run-loop, run-branch}
 use Rattle.unfold_laws.specs.declared.Counted.{Counted}
 use Rattle.unfold_laws.specs.Cap.{cap, cap-over, stopped, alike-refl, plus-alike, times-alike, plus-same, times-same}
 use Rattle.unfold_laws.specs.Choosing.{countRun, countItem, statementsRun, statementsItem}
@@ -117,36 +118,22 @@ pub counts-statement : (lines : List Line) (k : StatementKind) (l : Line) (at : 
 unfolding statementAt countRun statementsRun cap
 counts-statement lines k l at = record { counts = refl; states = refl; leaves = refl }
 
--- a run ends before a line that is no item's
+-- a run ends before a line that is no item's: the items' lines have the numbers 0, 1 and 2
+stops : (k : LineKind) → 2 < codeOf k → Stops k
+unfolding codeOf Stops
+stops (St k) h = omega arith
+stops Lo h = omega arith
+stops Br h = omega arith
+stops Pr h = _
+stops Rl h = _
+stops Fk h = _
+stops El h = _
+stops En h = _
+stops Li h = _
+
 pub run-ends : (n : ℕ) (l : Line) (lines : List Line) (k : LineKind) → l .kind ≡ k → 2 < codeOf k
     → runOf (suc n) (l ∷ lines) ≡ record { run = done; rest = l ∷ lines }
-unfolding runOf codeOf
-run-ends n l lines (St k) e h = absurd (omega arith)
-run-ends n l lines Lo e h = absurd (omega arith)
-run-ends n l lines Br e h = absurd (omega arith)
-run-ends n l lines Pr e h = rw (e, runOf) (rw (← e) refl)
-run-ends n l lines Rl e h = rw (e, runOf) (rw (← e) refl)
-run-ends n l lines Fk e h = rw (e, runOf) (rw (← e) refl)
-run-ends n l lines El e h = rw (e, runOf) (rw (← e) refl)
-run-ends n l lines En e h = rw (e, runOf) (rw (← e) refl)
-run-ends n l lines Li e h = rw (e, runOf) (rw (← e) refl)
-
-pub run-statement : (n : ℕ) (l : Line) (lines : List Line) (k : StatementKind) → l .kind ≡ St k
-    → runOf (suc n) (l ∷ lines) ≡ inFrontOf (statement (statementOf k l)) (runOf n lines)
-unfolding runOf
-run-statement n l lines k e = rw (e, runOf) (rw (← e) refl)
-
-pub run-loop : (n : ℕ) (l : Line) (lines : List Line) → l .kind ≡ Lo
-    → runOf (suc n) (l ∷ lines) ≡ inFrontOf (loop (runOf n lines .run)) (runOf n (tail (runOf n lines .rest)))
-unfolding runOf
-run-loop n l lines e = rw (e, runOf)
-
-pub run-branch : (n : ℕ) (l : Line) (lines : List Line) → l .kind ≡ Br
-    → runOf (suc n) (l ∷ lines)
-    ≡ inFrontOf (branch (runOf n lines .run) (runOf n (tail (runOf n lines .rest)) .run))
-    (runOf n (tail (runOf n (tail (runOf n lines .rest)) .rest)))
-unfolding runOf
-run-branch n l lines e = rw (e, runOf)
+run-ends n l lines k e h = run-stops n l lines k e (stops k h)
 
 -- the paths through the counting of a run and of an item
 module _ (codes : List ℕ) (at : ℕ) where

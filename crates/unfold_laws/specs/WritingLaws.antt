@@ -36,7 +36,8 @@ use Rattle.unfold_laws.specs.CodesLaws.{
   counts-loop,
   counts-branch,
 }
-use Rattle.unfold_laws.specs.CodesLaws.{run-ends, run-statement, run-loop, run-branch}
+use Rattle.node_laws.specs.Bodies.{run-statement, run-loop, run-branch}
+use Rattle.unfold_laws.specs.CodesLaws.{run-ends}
 use Rattle.unfold_laws.specs.PlaceWords.{shown, PlaceWords, Later}
 use Rattle.unfold_laws.specs.PlaceWordsLaws.{
   or-assoc,
