@@ -140,7 +140,7 @@ module _ (text : List ℕ) (lines : List Line) (taken : read text ≡ accepted l
       }
 
   -- each node
-  accepted-nodes : (n : Node) → List·Memᴰ n (nodesOf lines) → LawfulNode lines n
+  pub accepted-nodes : (n : Node) → List·Memᴰ n (nodesOf lines) → LawfulNode lines n
   unfolding nodesOf
   accepted-nodes n m =
       let f = node-program 0 (programsOf lines) n m in

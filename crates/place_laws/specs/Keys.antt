@@ -19,6 +19,14 @@ use Rattle.place_row.specs.RowTable.{wordOf}
 use Rattle.place_row.specs.RowTableLaws.{wordOf-small, wordOf-has}
 use Rattle.place_laws.specs.Guarded.{IdsSmall, Marked, near-seen, far-marked}
 
+-- a test of equality may be turned round
+pub eqb-comm : (a b : ℕ) → eqb a b ≡ eqb b a
+eqb-comm a b = flip (ℕ-discrete a b)
+  where
+    flip : Dec (a ≡ b) → eqb a b ≡ eqb b a
+    flip (yes e) = eq-eqb a b e ∙ sym (eq-eqb b a (sym e))
+    flip (no d) = ne-eqb a b d ∙ sym (ne-eqb b a (λ e. d (sym e)))
+
 -- E3: a link of this child whose parent is seen adds its key
 unfoldable pub withLink : ℕ → ℕ → Link → ℕ → ℕ
 withLink child seen l word =
@@ -60,13 +68,6 @@ withLink-has child seen l word f h = go (eqb (l .child) child) (has seen (l .par
     whole : (b : Bool) → b ≡ b && true
     whole true = refl
     whole false = refl
-
-    eqb-comm : (a b : ℕ) → eqb a b ≡ eqb b a
-    eqb-comm a b = flip (ℕ-discrete a b)
-      where
-        flip : Dec (a ≡ b) → eqb a b ≡ eqb b a
-        flip (yes e) = eq-eqb a b e ∙ sym (eq-eqb b a (sym e))
-        flip (no d) = ne-eqb a b d ∙ sym (ne-eqb b a (λ e. d (sym e)))
 
     go : (a b c : Bool) → ltb (l .key) 32 ≡ c
         → has (cond (a && b && c) (bitOr word (2 ^ (l .key))) word) f ≡ has word f || (eqb (l .key) f && (a && b))

@@ -1,5 +1,5 @@
--- The programs of the lines: how many, and where the lines of each begin.
-use mathlib.Core.Bool.{Bool, true, false, cond}
+-- The programs of the lines: how many, where the lines and links of each begin, and which of its statements are marked.
+use mathlib.Core.Bool.{Bool, true, false, cond, _&&_, _||_}
 use mathlib.Core.List.{List, [], _∷_, _++_, append-nil, List·Memᴰ}
 use mathlib.Core.List.{List·Memᴰ·not-nil, List·Memᴰ·append-cases}
 use mathlib.Core.Logic.{_⊎_, inl, inr, ⊎-elim}
@@ -14,22 +14,28 @@ use lib.Dec.{eqb}
 use lib.ListN.{length, getD, getElem?, set, take, drop, length-append, length-set, length-take, List·getD-append}
 use lib.Seq.{take-all, append-snoc, getD-append-seam, getD-set-same, getD-set-other, drop-at}
 use borrow.Author.Tests.{ne-eqb}
-use Rattle.spec_base.specs.Basic.{count}
+use Rattle.spec_base.specs.Basic.{any, count, has}
 use Rattle.law_base.specs.ListLaws.{some-injective, getElem?-found, getElem?-lt, map-member}
 use Rattle.spec_text.specs.declared.Line.{Line}
 use Rattle.spec_text.specs.declared.LineKind.{LineKind}
 use Rattle.spec_text.specs.declared.LineKind.the-variants.{Rl, Fk, Pr, St, Lo, Br, El, En, Li}
-use Rattle.spec_text.specs.Reading.{sort, isProgram, withinBounds, read}
+use Rattle.law_base.specs.SetLaws.{has-empty}
+use Rattle.spec_text.specs.Reading.{sort, isProgram, isStatementOf, withinBounds, read}
 use Rattle.spec_text.specs.Reading.Outcome.{accepted}
 use Rattle.law_text.specs.ReadingLaws.{line-passes}
 use Rattle.law_text.specs.LineCountLaws.{bounded-true}
-use Rattle.spec_graph.specs.Program.{Program, runOf, linksOf, programsOf}
-use Rattle.spec_graph.specs.Unfolding.{Node, unfoldings, nodesOfProgram, nodesFrom, nodesOf}
+use Rattle.spec_graph.specs.Program.{Program, Link, runOf, linksOf, programsOf}
+use Rattle.spec_graph.specs.Unfolding.{Node, Occurrence, Execution, occurrences, unfoldings, nodesOfProgram, nodesFrom, nodesOf}
+use Rattle.spec_graph.specs.Edge.{shields}
+use Rattle.node_laws.specs.Bodies.{bodyOf}
+use Rattle.node_laws.specs.GivenNodes.{accepted-nodes}
+use Rattle.node_laws.specs.BoundParents.{own-bound, own-kinds}
 use Rattle.value_tables.specs.Lines.{lineNumber, lineTable}
 use Rattle.value_tables.specs.LineLaws.{lineTable-length, number-at, kind-not}
 use Rattle.place_keys.specs.declared.Begun.{Begun}
-use Rattle.place_keys.specs.LineKeys.{begunWith, begunLine, begunBefore, begunIn}
-use Rattle.place_table.proofs.PlaceRowLaws.{element-default}
+use Rattle.place_keys.specs.LineKeys.{begunWith, begunLine, begunBefore, begunIn, linksIn}
+use Rattle.place_table.proofs.PlaceRowLaws.{NodeBegins, element-default}
+use Rattle.place_table.proofs.LinksLaws.{marks-has, links-begin}
 use Rattle.place_table.proofs.NodeLaws.{take-more}
 
 -- the lines after each `pr`, counted from the first line's number
@@ -104,10 +110,14 @@ firsts-many i (l ∷ lines) = go (pr-cases (l .kind)) (firsts-many (suc i) lines
     go (inl e) h = ap length (firsts-pr i l lines e) ∙ ap suc h ∙ sym (ap length (programs-pr l lines e))
     go (inr e) h = ap length (firsts-other i l lines e) ∙ h ∙ sym (ap length (programs-other l lines e))
 
--- where a program's lines begin, and that its links are read from there
+-- where a program's lines begin: after its `pr` line, and it is read off the lines from there
 record Begins (whole : List Line) (first : ℕ) (p : Program) : Type 0 where
   inside : first ≤ length whole
-  links : p .links ≡ linksOf (drop first whole)
+  front : List Line
+  line : Line
+  kind : line .kind ≡ Pr
+  joined : whole ≡ front ++ (line ∷ drop first whole)
+  same : p ≡ programOf (drop first whole)
 
 program-begins : (front rest : List Line) (q : ℕ) {p : Program} → getElem? (programsOf rest) q ≡ some p
     → Begins (front ++ rest) (getD (firstsOf (length front) rest) q 0) p
@@ -127,20 +137,25 @@ program-begins front (l ∷ rest) q {p} e = go (pr-cases (l .kind)) q e (λ q e.
         subst (λ (w : List Line). Begins w (getD (firstsOf (suc (length front)) rest) q 0) p) whole
         (subst (λ (n : ℕ). Begins (front ++ (l ∷ []) ++ rest) (getD (firstsOf n rest) q 0) p) (sym next) b)
 
-    here : programOf rest ≡ p → Begins (front ++ (l ∷ rest)) (suc (length front)) p
-    here d =
-        subst (λ (w : List Line). Begins w (suc (length front)) p) whole
-        (record {
-          inside = omega (arith, length-append (front ++ (l ∷ [])) rest, next);
-          links = ap (λ (x : Program). x .links) (sym d) ∙ ap linksOf (sym (drop-at (front ++ (l ∷ [])) rest (suc (length front)) (sym next)));
-        })
+    here : l .kind ≡ Pr → programOf rest ≡ p → Begins (front ++ (l ∷ rest)) (suc (length front)) p
+    here kind d =
+        let own : drop (suc (length front)) (front ++ (l ∷ rest)) ≡ rest =
+        ap (drop (suc (length front))) (sym whole) ∙ drop-at (front ++ (l ∷ [])) rest (suc (length front)) (sym next) in
+        record {
+          inside = omega (arith, length-append front (l ∷ rest));
+          front = front;
+          line = l;
+          kind = kind;
+          joined = ap (λ (t : List Line). front ++ (l ∷ t)) (sym own);
+          same = sym d ∙ ap programOf (sym own);
+        }
 
     go : (l .kind ≡ Pr) ⊎ (eqb (lineNumber (l .kind)) 7 ≡ false) → (q : ℕ) → getElem? (programsOf (l ∷ rest)) q ≡ some p
         → ((q : ℕ) → getElem? (programsOf rest) q ≡ some p
         → Begins (front ++ (l ∷ []) ++ rest) (getD (firstsOf (length (front ++ (l ∷ []))) rest) q 0) p)
         → Begins (front ++ (l ∷ rest)) (getD (firstsOf (length front) (l ∷ rest)) q 0) p
     go (inl d) zero e again =
-        rw (firsts-pr (length front) l rest d) (here (some-injective (ap (λ (t : List Program). getElem? t 0) (sym (programs-pr l rest d)) ∙ e)))
+        rw (firsts-pr (length front) l rest d) (here d (some-injective (ap (λ (t : List Program). getElem? t 0) (sym (programs-pr l rest d)) ∙ e)))
     go (inl d) (suc q) e again =
         rw (firsts-pr (length front) l rest d) (later q (again q (ap (λ (t : List Program). getElem? t (suc q)) (sym (programs-pr l rest d)) ∙ e)))
     go (inr d) q e again =
@@ -288,33 +303,82 @@ programs-few text lines h = go (last lines)
         let b = ap (count isProgram) (s .2) in
         omega arith
 
--- a node is of the program with its number
-node-program : (m : ℕ) (programs : List Program) (n : Node) → List·Memᴰ n (nodesFrom m programs)
-    → (q : ℕ) × (p : Program) × (n .program ≡ m + q) × (getElem? programs q ≡ some p) × (n .links ≡ p .links)
+-- a node is an unfolding of the program with its number
+record OfProgram (m : ℕ) (programs : List Program) (n : Node) : Type 0 where
+  index : ℕ
+  program : Program
+  number : n .program ≡ m + index
+  there : getElem? programs index ≡ some program
+  links : n .links ≡ program .links
+  execution : Execution (program .body)
+  places : n .places ≡ occurrences execution 0
+
+of-program : (m : ℕ) (programs : List Program) (n : Node) → List·Memᴰ n (nodesFrom m programs) → OfProgram m programs n
 unfolding nodesFrom nodesOfProgram
-node-program m [] n h = absurd (List·Memᴰ·not-nil h)
-node-program m (p ∷ programs) n h =
+of-program m [] n h = absurd (List·Memᴰ·not-nil h)
+of-program m (p ∷ programs) n h =
     ⊎-elim
-    (λ s. let f = map-member _ (unfoldings (p .body)) s in
-    (0, p, ap (λ (x : Node). x .program) (sym (f .2)) ∙ sym (add-zero m), refl, ap (λ (x : Node). x .links) (sym (f .2))))
-    (λ r. let t = node-program (suc m) programs n r in (suc (t .0), t .1, t .2 ∙ (omega arith), t .3, t .4))
+    (λ s.
+    let f = map-member _ (unfoldings (p .body)) s in
+    record {
+      index = 0;
+      program = p;
+      number = ap (λ (x : Node). x .program) (sym (f .2)) ∙ sym (add-zero m);
+      there = refl;
+      links = ap (λ (x : Node). x .links) (sym (f .2));
+      execution = f .0;
+      places = ap (λ (x : Node). x .places) (sym (f .2));
+    })
+    (λ r.
+    let t = of-program (suc m) programs n r in
+    record {
+      index = suc (t .index);
+      program = t .program;
+      number = t .number ∙ omega arith;
+      there = t .there;
+      links = t .links;
+      execution = t .execution;
+      places = t .places;
+    })
     (List·Memᴰ·append-cases (nodesOfProgram m p) h)
 
--- where the lines of a node's program begin
-pub record NodeBegins (lines : List Line) (n : Node) (first : ℕ) : Type 0 where
-  pub inside : first ≤ length lines
-  pub links : n .links ≡ linksOf (drop first lines)
-
+-- where the links of a node's program begin: the marks are those of its statements, and each child occurrence has its parent (T11)
 pub node-begins : (text : List ℕ) (lines : List Line) → read text ≡ accepted lines → (n : Node) → List·Memᴰ n (nodesOf lines)
-    → NodeBegins lines n (getD (begunIn (lineTable lines) .firsts) (n .program) 0)
+    → NodeBegins lines n (linksIn (lineTable lines) (getD (begunIn (lineTable lines) .firsts) (n .program) 0))
 unfolding nodesOf
 node-begins text lines h n m =
-    let t = node-program 0 (programsOf lines) n m in
-    let q : n .program ≡ t .0 = t .2 ∙ zero-add (t .0) in
-    let less = getElem?-lt (programsOf lines) (t .0) (t .3) in
+    let t = of-program 0 (programsOf lines) n m in
+    let q : n .program ≡ t .index = t .number ∙ zero-add (t .index) in
+    let less = getElem?-lt (programsOf lines) (t .index) (t .there) in
     let few = programs-few text lines h in
-    let b = program-begins [] lines (t .0) (t .3) in
     let many = firsts-many 0 lines in
-    let same : getD (begunIn (lineTable lines) .firsts) (n .program) 0 ≡ getD (firstsOf 0 lines) (t .0) 0 =
-    ap (λ (k : ℕ). getD (begunIn (lineTable lines) .firsts) k 0) q ∙ begun-lines lines .same (t .0) (omega arith) (omega arith) in
-    rw same (record { inside = b .inside; links = t .4 ∙ b .links })
+    let same : getD (begunIn (lineTable lines) .firsts) (n .program) 0 ≡ getD (firstsOf 0 lines) (t .index) 0 =
+    ap (λ (k : ℕ). getD (begunIn (lineTable lines) .firsts) k 0) q ∙ begun-lines lines .same (t .index) (omega arith) (omega arith) in
+    rw same (begins t (program-begins [] lines (t .index) (t .there)))
+  where
+    begins : (t : OfProgram 0 (programsOf lines) n) {first : ℕ} → Begins lines first (t .program) → NodeBegins lines n (linksIn (lineTable lines) first)
+    begins t {first} b =
+        let own = drop first lines in
+        let links = links-begin lines first (b .inside) in
+        let e : (e : Execution (programOf own .body)) × (n .places ≡ occurrences e 0) =
+        subst (λ (p : Program). (e : Execution (p .body)) × (n .places ≡ occurrences e 0)) (b .same) (t .execution, t .places) in
+        let linked : n .links ≡ linksOf own = t .links ∙ ap (λ (p : Program). p .links) (b .same) in
+        let placed : (o : Occurrence) → List·Memᴰ o (n .places) → List·Memᴰ o (occurrences (e .0) 0) =
+        λ o k. subst (λ (l : List Occurrence). List·Memᴰ o l) (e .1) k in
+        record {
+          inside = links .inside;
+          same = linked ∙ sym (links .links);
+          marked = record {
+            kinds = λ o k.
+                own-kinds text lines h (b .front) (b .line) own (b .joined) (b .kind) (e .0) shields o (placed o k)
+                ∙ sym (ap (λ (w : ℕ). has w (o .statement .id)) (links .marks-are)
+                ∙ marks-has 0 (bodyOf own) (o .statement .id) (accepted-nodes text lines h n m .places o k .id)
+                ∙ ap (λ (c : Bool). c || any (λ x. isStatementOf shields (x .kind) && eqb (x .id) (o .statement .id)) (bodyOf own))
+                (has-empty (o .statement .id)));
+            bound = λ l k child j s.
+                let p =
+                own-bound text lines h (b .front) (b .line) own (b .joined) (b .kind) (e .0) l
+                (subst (λ (x : List Link). List·Memᴰ l x) linked k) child (placed child j) s in
+                (p .0, subst (λ (x : List Occurrence). List·Memᴰ (p .0) x) (sym (e .1)) (p .1), p .2);
+          };
+        }
