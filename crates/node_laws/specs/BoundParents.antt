@@ -1,14 +1,14 @@
 -- T11: in every node of an accepted workload each child occurrence has its bound parent occurrence. A link's line passed its test: the blocks around
 -- the parent's statement are all around the child's; so wherever the child occurs, the parent occurs in the same turns and arms, before it or after.
-use mathlib.Core.Bool.{Bool, true, false, not, _&&_, _||_}
+use mathlib.Core.Bool.{Bool, true, false, _&&_}
 use mathlib.Core.List.{List, [], _∷_, _++_, map, reverse, append-assoc, List·Memᴰ, Memᴰ·map}
 use mathlib.Core.Path.{_≡_, refl, sym, ap, subst, _∙_}
-use Prim.Native.Nat.{ℕ, _+_, _<_}
+use Prim.Native.Nat.{ℕ, _<_}
 use native.Mathlib.Omega.{arith}
 use lib.Dec.{eqb}
 use lib.ListN.{length}
 use borrow.Author.Tests.{eqb-true, eq-eqb}
-use Rattle.spec_base.specs.Basic.{any, all, keep, count}
+use Rattle.spec_base.specs.Basic.{any, count}
 use Rattle.law_base.specs.BoolLaws.{and-true, and-of, implied, or-left, or-right}
 use Rattle.law_base.specs.ListLaws.{any-true, any-append, all-true, count-keep, map-member, member-reverse, reverse-member}
 use Rattle.spec_text.specs.declared.Line.{Line}
@@ -19,7 +19,7 @@ use Rattle.spec_text.specs.Reading.{sort, isProgram, isLink, isStatement, isSta
 use Rattle.spec_text.specs.Reading.{noneOpen, ordered, statement, key, canBeParent, allAround, linkFits, read}
 use Rattle.spec_text.specs.Reading.Outcome.{accepted}
 use Rattle.spec_text.specs.Value.{Given, linesOf}
-use Rattle.law_text.specs.ReadingLaws.{Passes, Taken, line-passes, read-taken}
+use Rattle.law_text.specs.ReadingLaws.{Taken, line-passes, read-taken}
 use Rattle.law_text.specs.ReaderStateLaws.{link-named}
 use Rattle.law_text.specs.ValueLaws.{given-read}
 use Rattle.spec_graph.specs.Program.{Statement, Link, Program, runOf, linksOf, programsOf}
@@ -28,7 +28,8 @@ use Rattle.spec_graph.specs.Edge.{leads, binds}
 use Rattle.node_laws.specs.FromLinks.{OwnLink, own-link, own-program, node-program}
 use Rattle.node_laws.specs.Bodies.{Body, bodyOf, taken-own, accepted-body}
 use Rattle.node_laws.specs.Sites.{Site, sites, Bound, run-bound}
-use Rattle.node_laws.specs.LineSites.{lineSites, seen, run-sites, sites-cut, site-around, site-kind, site-found}
+use Rattle.node_laws.specs.LineSites.{LineSite, lineSites, carried, sites-cut, site-around, site-kind, site-found}
+use Rattle.node_laws.specs.RunSites.{seen, run-sites}
 
 -- ---- the lines before a link
 
@@ -139,7 +140,7 @@ module _ (text : List ℕ) (lines : List Line) (taken : read text ≡ accepted l
   unfolding seen blocksAround openBlocks
   site-blocks passed body same s m =
       site-around [] 0 [] 0 passed body (seen [] s)
-      (subst (λ (l : List (Statement × List Block)). List·Memᴰ (seen [] s) l) same (Memᴰ·map (seen []) m)) .1
+      (carried same (Memᴰ·map (seen []) m)) .1
 
   -- the parent's site
   parent-site : (passed : List Line) (line : Line) → Linked passed line → any isProgram passed ≡ false → map (seen []) from ≡ lineSites 0 [] passed
@@ -147,8 +148,8 @@ module _ (text : List ℕ) (lines : List Line) (taken : read text ≡ accepted l
   unfolding seen
   parent-site passed line links none same =
       let f = site-found [] 0 [] 0 passed (links .body) none (line .to) (omega arith) (let z = links .parent in omega arith) in
-      let q = map-member (seen []) from (subst (λ (l : List (Statement × List Block)). List·Memᴰ (f .0) l) (sym same) (f .1)) in
-      (q .0, q .1, ap (λ (x : Statement × List Block). x .0 .id) (q .2) ∙ f .2)
+      let q = map-member (seen []) from (carried (sym same) (f .1)) in
+      (q .0, q .1, ap (λ (x : LineSite). x .0 .id) (q .2) ∙ f .2)
 
   -- each block around the parent's site is around the child's
   blocks-inner : (passed : List Line) (line : Line) → Linked passed line → map (seen []) from ≡ lineSites 0 [] passed
@@ -171,13 +172,12 @@ module _ (text : List ℕ) (lines : List Line) (taken : read text ≡ accepted l
   binds-both : (l : Link) (child parent : Occurrence) (s : Site) → List·Memᴰ parent (occurrences e 0) → l .child ≡ child .statement .id
       → l .parent ≡ s .statement .id → parent .statement ≡ s .statement → leads (parent .path) (child .path) ≡ true → Parent l child
   unfolding binds
-  binds-both l child parent s m rel to same path =
-      (
-        parent,
-        m,
-        and-of (and-of (eq-eqb (l .child) (child .statement .id) rel)
+  binds-both l child parent s m rel to same path = (
+    parent,
+    m,
+    and-of (and-of (eq-eqb (l .child) (child .statement .id) rel)
         (eq-eqb (l .parent) (parent .statement .id) (to ∙ ap (λ (x : Statement). x .id) (sym same)))) path,
-      )
+  )
 
   link-bound : (l : Link) (k : OwnLink own l) (child : Occurrence) → Bound from (occurrences e 0) child → l .child ≡ child .statement .id → Parent l child
   link-bound l k child b h =

@@ -198,8 +198,7 @@ bound-within from all child block i t h apart =
         × (leads (o .path) (inside i t child .path) ≡ true)
     parent p m every =
         let q = map-member (within block) from m in
-        let found = h .parent (q .0) (q .1) (inner (q .0) (q .1) (λ b n. every b (subst (λ (x : Site). List·Memᴰ b (x .blocks)) (q .2) n))) in
-        (
+        let found = h .parent (q .0) (q .1) (inner (q .0) (q .1) (λ b n. every b (subst (λ (x : Site). List·Memᴰ b (x .blocks)) (q .2) n))) in (
           inside i t (found .0),
           Memᴰ·map (inside i t) (found .1),
           found .2 ∙ ap (λ (x : Site). x .statement) (q .2),
