@@ -73,7 +73,8 @@ module _ (place : ℕ) (blocks : List Block) (l : Line) (lines : List Line) wher
   unfolding lineSites
   statement-sites k e = rw (e, lineSites) (rw (← e) refl)
 
-  pub flow-sites : (c : LineKind) → l .kind ≡ c → Flow c → lineSites place blocks (l ∷ lines) ≡ lineSites (place + 1) (blocksAfter c place blocks) lines
+  pub flow-sites : (c : LineKind) → l .kind ≡ c → Flow c
+      → lineSites place blocks (l ∷ lines) ≡ lineSites (place + 1) (blocksAfter c place blocks) lines
   unfolding lineSites Flow
   flow-sites Lo e h = rw (e, lineSites)
   flow-sites Br e h = rw (e, lineSites)
@@ -145,8 +146,7 @@ flow-not test Li h = absurd h
 -- what is so of the lines of a body, from the last line on: of none, of what follows the statements and flow, with a statement more, with flow more
 module _ (Q : ℕ → List Block → ℕ → List Line → Type 0)
     (none : (place : ℕ) (blocks : List Block) (n : ℕ) → Q place blocks n [])
-    (ends : (place : ℕ) (blocks : List Block) (n : ℕ) (l : Line) (lines : List Line) → Ends l lines
-    → Q place blocks n (l ∷ lines))
+    (ends : (place : ℕ) (blocks : List Block) (n : ℕ) (l : Line) (lines : List Line) → Ends l lines → Q place blocks n (l ∷ lines))
     (statement : (place : ℕ) (blocks : List Block) (n : ℕ) (l : Line) (lines : List Line) (k : StatementKind) → l .kind ≡ St k → l .id ≡ n
     → Q (place + 1) blocks (suc n) lines → Q place blocks n (l ∷ lines))
     (flow : (place : ℕ) (blocks : List Block) (n : ℕ) (l : Line) (lines : List Line) → Flow (l .kind)
@@ -178,7 +178,7 @@ module _ (Q : ℕ → List Block → ℕ → List Line → Type 0)
 
 -- ---- T7: the site of an id
 
--- the blocks around a site are those around the statement of its id: the statements before it have other ids, for ids count on
+-- no site has an id below the number, and the blocks around a site are those around the statement of its id
 abbrev AroundHere : ℕ → List Block → ℕ → List Line → Type 0
 AroundHere place blocks n lines =
     (m : LineSite) → List·Memᴰ m (lineSites place blocks lines)
@@ -196,9 +196,7 @@ module _ (place : ℕ) (blocks : List Block) (n : ℕ) (l : Line) (lines : List 
   around-statement : (k : StatementKind) → l .kind ≡ St k → l .id ≡ n → AroundHere (place + 1) blocks (suc n) lines
       → AroundHere place blocks n (l ∷ lines)
   unfolding isStatement isStatementOf statementOf blocksAfterLines blocksAfter
-  around-statement k e d again m h =
-      ⊎-elim here later
-      (List·Memᴰ·cases-cons (carried (statement-sites place blocks l lines k e) h))
+  around-statement k e d again m h = ⊎-elim here later (List·Memᴰ·cases-cons (carried (statement-sites place blocks l lines k e) h))
     where
       Goal : Type 0
       Goal = (n ≤ m .0 .id) × (blocksAfterLines place blocks (beforeStatement (m .0 .id) (l ∷ lines)) ≡ m .1)
@@ -228,6 +226,7 @@ module _ (place : ℕ) (blocks : List Block) (n : ℕ) (l : Line) (lines : List 
       let other : isStatement l && eqb (l .id) (m .0 .id) ≡ false = rw (flow-not (λ k. true) (l .kind) f) refl in
       (t .0, past-line (m .0 .id) (l .kind) refl other ∙ t .1)
 
+-- the blocks around a site are those around the statement of its id: the statements before it have other ids, for ids count on
 pub site-around : (parts : List ℕ) (place : ℕ) (blocks : List Block) (n : ℕ) (lines : List Line) → Body parts n lines
     → (m : LineSite) → List·Memᴰ m (lineSites place blocks lines)
     → (n ≤ m .0 .id) × (blocksAfterLines place blocks (beforeStatement (m .0 .id) lines) ≡ m .1)
@@ -235,12 +234,11 @@ unfolding lineSites
 site-around =
     body-holds AroundHere
     (λ place blocks n m h. absurd (List·Memᴰ·not-nil h))
-    (λ place blocks n l lines e m h.
-    absurd (List·Memᴰ·not-nil (carried (end-sites place blocks l lines e) h)))
-    (λ place blocks n l lines k e d again. around-statement place blocks n l lines k e d again)
-    (λ place blocks n l lines f again. around-flow place blocks n l lines f again)
+    (λ place blocks n l lines e m h. absurd (List·Memᴰ·not-nil (carried (end-sites place blocks l lines e) h)))
+    around-statement
+    around-flow
 
--- the kind of a site is that of the statement line of its id, for no two statement lines of a body have one id
+-- the kind of a site
 module _ (test : StatementKind → Bool) where
   -- a statement of this id passes the test
   abbrev passing : ℕ → List Line → Bool
@@ -314,6 +312,7 @@ module _ (test : StatementKind → Bool) where
             let t = again .1 m (carried (flow-sites place blocks l lines (l .kind) refl f) h) in
             (t .0, t .1 ∙ sym (past (m .0 .id)))
 
+  -- the kind of a site is that of the statement line of its id, for no two statement lines of a body have one id
   pub site-kind : (parts : List ℕ) (place : ℕ) (blocks : List Block) (n : ℕ) (lines : List Line) → Body parts n lines
       → (m : LineSite) → List·Memᴰ m (lineSites place blocks lines)
       → test (m .0 .kind) ≡ any (λ x. isStatementOf test (x .kind) && eqb (x .id) (m .0 .id)) (bodyOf lines)
@@ -321,12 +320,12 @@ module _ (test : StatementKind → Bool) where
   site-kind parts place blocks n lines b m h =
       body-holds KindHere
       (λ place blocks n. (λ s h. refl, λ m h. absurd (List·Memᴰ·not-nil h)))
-      (λ place blocks n l lines e. kind-ends place blocks n l lines e)
-      (λ place blocks n l lines k e d again. kind-statement place blocks n l lines k e d again)
-      (λ place blocks n l lines f again. kind-flow place blocks n l lines f again)
+      kind-ends
+      kind-statement
+      kind-flow
       parts place blocks n lines b .1 m h .1
 
--- ids count on without a gap, so each number below the statements' has its site, where no other program follows
+-- where no other program follows, each id of the statements from the number on has its site
 abbrev FoundHere : ℕ → List Block → ℕ → List Line → Type 0
 FoundHere place blocks n lines =
     any isProgram lines ≡ false → (s : ℕ) → n ≤ s → s < n + count isStatement lines
@@ -390,19 +389,20 @@ module _ (place : ℕ) (blocks : List Block) (n : ℕ) (l : Line) (lines : List 
       let many : s < n + (cond false 1 0 + count isStatement lines) = rw other at most in
       let t = again (or-false (isProgram l) _ none .1) s least (omega arith) in (
         t .0,
-        subst (λ (x : List LineSite). List·Memᴰ (t .0) x) (sym (flow-sites place blocks l lines (l .kind) refl f)) (t .1),
+        carried (sym (flow-sites place blocks l lines (l .kind) refl f)) (t .1),
         t .2,
       )
 
+-- each number below that of the statements has its site, for ids count on without a gap
 pub site-found : (parts : List ℕ) (place : ℕ) (blocks : List Block) (n : ℕ) (lines : List Line) → Body parts n lines
     → any isProgram lines ≡ false → (s : ℕ) → n ≤ s → s < n + count isStatement lines
     → (m : LineSite) × List·Memᴰ m (lineSites place blocks lines) × (m .0 .id ≡ s)
 site-found =
     body-holds FoundHere
     (λ place blocks n none s least most. absurd (omega arith))
-    (λ place blocks n l lines e. found-ends place blocks n l lines e)
-    (λ place blocks n l lines k e d again. found-statement place blocks n l lines k e d again)
-    (λ place blocks n l lines f again. found-flow place blocks n l lines f again)
+    found-ends
+    found-statement
+    found-flow
 
 -- the sites before a link are the sites, for they end at the first link
 pub sites-cut : (place : ℕ) (blocks : List Block) (passed : List Line) (link : Line) (after : List Line) → link .kind ≡ Li

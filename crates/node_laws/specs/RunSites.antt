@@ -14,7 +14,7 @@ use Rattle.spec_text.specs.Reading.{Block, toSecondArm, blocksAfter}
 use Rattle.spec_text.specs.Reading.{loop, firstArm, secondArm}
 use Rattle.spec_graph.specs.Program.{Item, Parsed, runOf, inFrontOf, statementOf}
 use Rattle.spec_graph.specs.Program.Run.{done}
-use Rattle.node_laws.specs.Bodies.{Body, Stops, Ended, run-stops, run-statement, run-loop, run-branch}
+use Rattle.node_laws.specs.Bodies.{Body, Stops, Ended, tail-fewer, run-stops, run-statement, run-loop, run-branch}
 use Rattle.node_laws.specs.Bodies.{body-statement, body-loop, body-branch, body-relation, body-key, body-closed, body-second}
 use Rattle.node_laws.specs.Sites.{runLines, itemLines, Site, within, sites, itemSites}
 use Rattle.node_laws.specs.LineSites.{LineSite, lineSites, Flow, statement-sites, flow-sites, program-sites, link-sites}
@@ -66,11 +66,7 @@ read-front x p parts place blocks lines more less same r =
           (omega arith);
     }
 
-tail-fewer : (lines : List Line) → length (tail lines) ≤ length lines
-tail-fewer [] = omega arith
-tail-fewer (l ∷ lines) = omega arith
-
--- a block's run in front of its closing line
+-- a block's run in front of the line that ends it: the sites of the run are inside the block, and the line takes the block away or turns it
 inner-sites : (p : Parsed) (parts : List ℕ) (place next : ℕ) (blocks around : List Block) (b : Block) (lines : List Line) (l : Line) (c : LineKind)
     → Read p parts place (b ∷ blocks) lines → p .rest ≡ l ∷ tail (p .rest) → l .kind ≡ c → Flow c
     → ((at : ℕ) → blocksAfter c at (b ∷ blocks) ≡ around) → place + runLines (p .run) + 1 ≡ next
@@ -84,12 +80,13 @@ inner-sites p parts place next blocks around b lines l c r split kind flow after
     ∙ flow-sites at (b ∷ blocks) l (tail (p .rest)) c kind flow
     ∙ ap₂ {C = List LineSite} (λ n x. lineSites n x (tail (p .rest))) number (after at))
 
--- the sites of the lines of an item: a statement is its site; a loop's `lo` opens a block around its run and its `en` closes it, and so do a branch's
--- lines with two
+-- the sites of the lines of an item: a statement is its site; a loop's `lo` opens a block around its run and its `en` closes it, and a branch's
+-- lines do so with two
 module _ (place : ℕ) (blocks : List Block) (l : Line) (lines : List Line) where
   statement-item : (k : StatementKind) → l .kind ≡ St k
       → lineSites place blocks (l ∷ lines)
-      ≡ map (seen blocks) (itemSites (Item.statement (statementOf k l)) place) ++ lineSites (place + itemLines (Item.statement (statementOf k l))) blocks lines
+      ≡ map (seen blocks) (itemSites (Item.statement (statementOf k l)) place)
+      ++ lineSites (place + itemLines (Item.statement (statementOf k l))) blocks lines
   unfolding itemSites itemLines seen
   statement-item k e = statement-sites place blocks l lines k e
 
@@ -150,9 +147,10 @@ read-run (suc n) parts place blocks m (l ∷ lines) less h =
     go : (c : LineKind) → l .kind ≡ c → Again → Goal (runOf (suc n) (l ∷ lines))
     go (St k) e again =
         let b = body-statement parts m l lines k e h in
+        let x = Item.statement (statementOf k l) in
         subst Goal (sym (run-statement n l lines k e))
-        (read-front (Item.statement (statementOf k l)) (runOf n lines) parts place blocks (l ∷ lines) lines (omega arith)
-        (statement-item place blocks l lines k e) (again parts (place + itemLines (Item.statement (statementOf k l))) blocks (suc m) lines (omega arith) (b .1)))
+        (read-front x (runOf n lines) parts place blocks (l ∷ lines) lines (omega arith)
+        (statement-item place blocks l lines k e) (again parts (place + itemLines x) blocks (suc m) lines (omega arith) (b .1)))
     go Lo e again =
         let p = runOf n lines in
         let inner = again (loop ∷ parts) (place + 1) (record { place = place; part = loop } ∷ blocks) m lines (omega arith)
