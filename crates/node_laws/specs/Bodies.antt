@@ -3,7 +3,7 @@ use mathlib.Core.Bool.{Bool, true, false, _||_, false≢true}
 use mathlib.Core.List.{List, [], _∷_, _++_, map, tail, append-assoc, append-nil}
 use mathlib.Core.Logic.{_⊎_, inl, inr, ⊎-elim}
 use mathlib.Core.Path.{_≡_, refl, sym, ap, subst, _∙_}
-use Prim.Native.Nat.{ℕ, suc, _+_}
+use Prim.Native.Nat.{ℕ, suc, _+_, _≤_}
 use native.Mathlib.Nat.{zero-add, add-zero}
 use native.Mathlib.Numerals.{add-one}
 use native.Mathlib.Omega.{arith}
@@ -88,6 +88,11 @@ Stops Pr = Unit {0}
 Stops El = Unit {0}
 Stops En = Unit {0}
 Stops Li = Unit {0}
+
+-- past one line more
+pub tail-fewer : (lines : List Line) → length (tail lines) ≤ length lines
+tail-fewer [] = omega arith
+tail-fewer (l ∷ lines) = omega arith
 
 -- the run has ended before these lines
 abbrev pub Ended : List Line → Type 0
@@ -308,7 +313,9 @@ taken-body before (l ∷ lines) t end begun =
     links e =
         let this : isLink l ≡ true = rw e refl in
         taken-links (before ++ (l ∷ [])) lines (t .2) (any-append isProgram before (l ∷ []) ∙ or-left _ begun)
-        (ap (any isLink) (program-joins before l (rw e refl) begun) ∙ any-append isLink own (l ∷ []) ∙ or-right (any isLink own) (or-left false this))
+        (ap (any isLink) (program-joins before l (rw e refl) begun)
+        ∙ any-append isLink own (l ∷ [])
+        ∙ or-right (any isLink own) (or-left false this))
 
     go : (c : LineKind) → l .kind ≡ c
         → Body (partsOf (openBlocks (program (before ++ (l ∷ []))))) (count isStatement (program (before ++ (l ∷ [])))) lines
@@ -336,6 +343,7 @@ taken-body before (l ∷ lines) t end begun =
     go Rl e h = absurd (begun-not before isRelation begun (rw (e, ordered) at (passes .order)) program-not)
     go Fk e h = absurd (begun-not before (λ b. isRelation b || isKey b) begun (rw (e, ordered) at (passes .order)) program-nor)
 
+-- the lines after some that are taken are taken after them
 taken-after : (before front back : List Line) → Taken before (front ++ back) → Taken (before ++ front) back
 taken-after before [] back t = rw append-nil t
 taken-after before (x ∷ front) back t =
@@ -348,7 +356,8 @@ unfolding openBlocks blocksAfterLines
 taken-own front pr own h t end =
     let split : (front ++ (pr ∷ [])) ++ own ≡ front ++ (pr ∷ own) = append-assoc front (pr ∷ []) own in
     let after = taken-after [] (front ++ (pr ∷ [])) own (rw split t) in
-    let begun : any isProgram (front ++ (pr ∷ [])) ≡ true = any-append isProgram front (pr ∷ []) ∙ or-right (any isProgram front) (or-left false h) in
+    let begun : any isProgram (front ++ (pr ∷ [])) ≡ true =
+    any-append isProgram front (pr ∷ []) ∙ or-right (any isProgram front) (or-left false h) in
     rw (program-begins front pr h) at (taken-body (front ++ (pr ∷ [])) own after (rw split end) begun)
 
 -- T6, T7, T8: the lines after a `pr` line of an accepted text

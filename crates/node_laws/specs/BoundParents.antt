@@ -1,14 +1,14 @@
 -- T11: in every node of an accepted workload each child occurrence has its bound parent occurrence. A link's line passed its test: the blocks around
 -- the parent's statement are all around the child's; so wherever the child occurs, the parent occurs in the same turns and arms, before it or after.
-use mathlib.Core.Bool.{Bool, true, false, not, _&&_, _||_}
+use mathlib.Core.Bool.{Bool, true, false, _&&_}
 use mathlib.Core.List.{List, [], _∷_, _++_, map, reverse, append-assoc, List·Memᴰ, Memᴰ·map}
 use mathlib.Core.Path.{_≡_, refl, sym, ap, subst, _∙_}
-use Prim.Native.Nat.{ℕ, _+_, _<_}
+use Prim.Native.Nat.{ℕ, _<_}
 use native.Mathlib.Omega.{arith}
 use lib.Dec.{eqb}
 use lib.ListN.{length}
 use borrow.Author.Tests.{eqb-true, eq-eqb}
-use Rattle.spec_base.specs.Basic.{any, all, keep, count}
+use Rattle.spec_base.specs.Basic.{any, count}
 use Rattle.law_base.specs.BoolLaws.{and-true, and-of, implied, or-left, or-right}
 use Rattle.law_base.specs.ListLaws.{any-true, any-append, all-true, count-keep, map-member, member-reverse, reverse-member}
 use Rattle.spec_text.specs.declared.Line.{Line}
@@ -19,7 +19,7 @@ use Rattle.spec_text.specs.Reading.{sort, isProgram, isLink, isStatement, isSta
 use Rattle.spec_text.specs.Reading.{noneOpen, ordered, statement, key, canBeParent, allAround, linkFits, read}
 use Rattle.spec_text.specs.Reading.Outcome.{accepted}
 use Rattle.spec_text.specs.Value.{Given, linesOf}
-use Rattle.law_text.specs.ReadingLaws.{Passes, Taken, line-passes, read-taken}
+use Rattle.law_text.specs.ReadingLaws.{Taken, line-passes, read-taken}
 use Rattle.law_text.specs.ReaderStateLaws.{link-named}
 use Rattle.law_text.specs.ValueLaws.{given-read}
 use Rattle.spec_graph.specs.Program.{Statement, Link, Program, runOf, linksOf, programsOf}
@@ -28,10 +28,12 @@ use Rattle.spec_graph.specs.Edge.{leads, binds}
 use Rattle.node_laws.specs.FromLinks.{OwnLink, own-link, own-program, node-program}
 use Rattle.node_laws.specs.Bodies.{Body, bodyOf, taken-own, accepted-body}
 use Rattle.node_laws.specs.Sites.{Site, sites, Bound, run-bound}
-use Rattle.node_laws.specs.LineSites.{lineSites, seen, run-sites, sites-cut, site-around, site-kind, site-found}
+use Rattle.node_laws.specs.LineSites.{LineSite, lineSites, carried, sites-cut, site-around, site-kind, site-found}
+use Rattle.node_laws.specs.RunSites.{seen, run-sites}
 
 -- ---- the lines before a link
 
+-- a `pr` line is a program's
 program-kind : (l : Line) → l .kind ≡ Pr → isProgram l ≡ true
 unfolding isProgram sort
 program-kind l e = rw e refl
@@ -58,6 +60,7 @@ record Linked (passed : List Line) (line : Line) : Type 0 where
   parent : line .to < count isStatement passed
   around : allAround passed (line .to) (line .rel) ≡ true
 
+-- the last of the tests of a link
 link-fits : (before : List Line) (l : Line) → isLink l ≡ true → linkFits before l ≡ true → allAround (program before) (l .to) (l .rel) ≡ true
 unfolding linkFits
 link-fits before l link h =
@@ -69,6 +72,7 @@ link-fits before l link h =
     let around = allAround own (l .to) (l .rel) in
     and-true others around (implied (isLink l) (others && around) h link) .1
 
+-- so it is, for the line passed its tests after those lines
 linked : (text : List ℕ) (lines : List Line) → read text ≡ accepted lines → (front : List Line) (pr : Line) (passed : List Line) (line : Line)
     (after : List Line) → lines ≡ front ++ (pr ∷ passed ++ (line ∷ after)) → isProgram pr ≡ true → any isProgram passed ≡ false → line .kind ≡ Li
     → Linked passed line
@@ -105,8 +109,10 @@ around-member lines parent child h b m =
     let found = any-true (λ c. sameBlock b c) (blocksAround lines child) (all-true _ h m) in
     subst (λ (x : Block). List·Memᴰ x (blocksAround lines child)) (sym (same-block b (found .0) (found .2))) (found .1)
 
+-- an execution of a program that is read off the lines after a `pr` line of an accepted text
 module _ (text : List ℕ) (lines : List Line) (taken : read text ≡ accepted lines) (front : List Line) (pr : Line) (own : List Line)
     (joined : lines ≡ front ++ (pr ∷ own)) (kind : pr .kind ≡ Pr) (e : Execution (runOf (length own) own .run)) where
+  -- the sites of the program, and that its lines are a body
   from : List Site
   from = sites (runOf (length own) own .run) 0
 
@@ -138,19 +144,18 @@ module _ (text : List ℕ) (lines : List Line) (taken : read text ≡ accepted l
       → blocksAround passed (s .statement .id) ≡ reverse (s .blocks)
   unfolding seen blocksAround openBlocks
   site-blocks passed body same s m =
-      site-around [] 0 [] 0 passed body (seen [] s)
-      (subst (λ (l : List (Statement × List Block)). List·Memᴰ (seen [] s) l) same (Memᴰ·map (seen []) m)) .1
+      site-around [] 0 [] 0 passed body (seen [] s) (carried same (Memᴰ·map (seen []) m)) .1
 
-  -- the parent's site
+  -- the parent's site, for its id is below the number of statements
   parent-site : (passed : List Line) (line : Line) → Linked passed line → any isProgram passed ≡ false → map (seen []) from ≡ lineSites 0 [] passed
       → (s : Site) × List·Memᴰ s from × (s .statement .id ≡ line .to)
   unfolding seen
   parent-site passed line links none same =
       let f = site-found [] 0 [] 0 passed (links .body) none (line .to) (omega arith) (let z = links .parent in omega arith) in
-      let q = map-member (seen []) from (subst (λ (l : List (Statement × List Block)). List·Memᴰ (f .0) l) (sym same) (f .1)) in
-      (q .0, q .1, ap (λ (x : Statement × List Block). x .0 .id) (q .2) ∙ f .2)
+      let q = map-member (seen []) from (carried (sym same) (f .1)) in
+      (q .0, q .1, ap (λ (x : LineSite). x .0 .id) (q .2) ∙ f .2)
 
-  -- each block around the parent's site is around the child's
+  -- each block around the parent's site is around the child's, for the blocks of the two are those of the link's test
   blocks-inner : (passed : List Line) (line : Line) → Linked passed line → map (seen []) from ≡ lineSites 0 [] passed
       → (p : Site) → List·Memᴰ p from → p .statement .id ≡ line .to → (c : Site) → List·Memᴰ c from → c .statement .id ≡ line .rel
       → (b : Block) → List·Memᴰ b (p .blocks) → List·Memᴰ b (c .blocks)
@@ -171,15 +176,16 @@ module _ (text : List ℕ) (lines : List Line) (taken : read text ≡ accepted l
   binds-both : (l : Link) (child parent : Occurrence) (s : Site) → List·Memᴰ parent (occurrences e 0) → l .child ≡ child .statement .id
       → l .parent ≡ s .statement .id → parent .statement ≡ s .statement → leads (parent .path) (child .path) ≡ true → Parent l child
   unfolding binds
-  binds-both l child parent s m rel to same path =
-      (
-        parent,
-        m,
-        and-of (and-of (eq-eqb (l .child) (child .statement .id) rel)
+  binds-both l child parent s m rel to same path = (
+    parent,
+    m,
+    and-of (and-of (eq-eqb (l .child) (child .statement .id) rel)
         (eq-eqb (l .parent) (parent .statement .id) (to ∙ ap (λ (x : Statement). x .id) (sym same)))) path,
-      )
+  )
 
-  link-bound : (l : Link) (k : OwnLink own l) (child : Occurrence) → Bound from (occurrences e 0) child → l .child ≡ child .statement .id → Parent l child
+  -- the parent's site has no block that the child's has not, so the child's turns and arms hold a parent
+  link-bound : (l : Link) (k : OwnLink own l) (child : Occurrence) → Bound from (occurrences e 0) child → l .child ≡ child .statement .id
+      → Parent l child
   link-bound l k child b h =
       let links = linked text lines taken front pr (k .passed) (k .line) (k .after)
       (joined ∙ ap (λ (x : List Line). front ++ (pr ∷ x)) (k .joined)) (program-kind pr kind) (k .none) (k .kind) in
@@ -195,12 +201,13 @@ module _ (text : List ℕ) (lines : List Line) (taken : read text ≡ accepted l
   unfolding from
   own-bound l listed child m h = link-bound l (own-link own l listed) child (run-bound e 0 0 child m) h
 
--- the same of every execution of a program that is read off the lines
+-- each child in every execution of a program has a bound parent
 abbrev BoundIn : Program → Type 0
 BoundIn p =
     (e : Execution (p .body)) (l : Link) → List·Memᴰ l (p .links) → (child : Occurrence) → List·Memᴰ child (occurrences e 0)
     → l .child ≡ child .statement .id → (parent : Occurrence) × List·Memᴰ parent (occurrences e 0) × (binds l child parent ≡ true)
 
+-- T11: in every program of an accepted text, for each has its `pr` line
 program-bound : (text : List ℕ) (lines : List Line) → read text ≡ accepted lines → (p : Program) → List·Memᴰ p (programsOf lines) → BoundIn p
 program-bound text lines taken p m =
     let o = own-program lines p m in

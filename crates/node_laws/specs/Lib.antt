@@ -4,4 +4,6 @@ pub mod GivenNodes
 pub mod Bodies
 pub mod Sites
 pub mod LineSites
+pub mod RunSites
 pub mod BoundParents
+pub mod BoundExamples

@@ -66,6 +66,7 @@ Ranged low high from = (s : Site) → List·Memᴰ s from → (b : Block) → Li
 ranged-wider : (low high lower higher : ℕ) (from : List Site) → lower ≤ low → high ≤ higher → Ranged low high from → Ranged lower higher from
 ranged-wider low high lower higher from h k r s m b n = let t = r s m b n in (omega arith, omega arith)
 
+-- two ranges that are one
 ranged-append : (low high : ℕ) (l r : List Site) → Ranged low high l → Ranged low high r → Ranged low high (l ++ r)
 ranged-append low high l r f g s m = ⊎-elim (λ n. f s n) (λ n. g s n) (List·Memᴰ·append-cases l m)
 
@@ -119,11 +120,20 @@ none-plain block from s m e =
     let t = map-member (within block) from m in
     within-some block (t .0) (ap (λ (x : Site). x .blocks) (t .2) ∙ e)
 
+arms-plain : (a b : Run) (place : ℕ) (s : Site) → List·Memᴰ s (itemSites (branch a b) place) → s .blocks ≡ [] → ⊥
+unfolding itemSites
+arms-plain a b place s m h =
+    ⊎-elim
+    (λ n. none-plain _ (sites a (place + 1)) s n h)
+    (λ n. none-plain _ (sites b (place + runLines a + 2)) s n h)
+    (List·Memᴰ·append-cases (map (within (record { place = place; part = firstArm })) (sites a (place + 1))) m)
+
 -- it occurs in every execution of the run, for a run performs each of its items
 mutual
   unfolding sites occurrences
 
-  run-plain : {r : Run} (e : Execution r) (place i : ℕ) (s : Site) → List·Memᴰ s (sites r place) → s .blocks ≡ [] → List·Memᴰ (plain s) (occurrences e i)
+  run-plain : {r : Run} (e : Execution r) (place i : ℕ) (s : Site) → List·Memᴰ s (sites r place) → s .blocks ≡ []
+      → List·Memᴰ (plain s) (occurrences e i)
   run-plain end place i s m h = absurd (List·Memᴰ·not-nil m)
   run-plain (step {x} {r} y e) place i s m h =
       ⊎-elim
@@ -135,16 +145,8 @@ mutual
       → List·Memᴰ (plain s) (itemOccurrences e i)
   item-plain perform place i s m h = List·Memᴰ·head (ap plain (List·Memᴰ·eq-of-singleton m))
   item-plain (turns {r} ts) place i s m h = absurd (none-plain _ (sites r (place + 1)) s m h)
-  item-plain (arm-one {a} {b} e) place i s m h =
-      absurd (⊎-elim
-      (λ n. none-plain _ (sites a (place + 1)) s n h)
-      (λ n. none-plain _ (sites b (place + runLines a + 2)) s n h)
-      (List·Memᴰ·append-cases (map (within (record { place = place; part = firstArm })) (sites a (place + 1))) m))
-  item-plain (arm-two {a} {b} e) place i s m h =
-      absurd (⊎-elim
-      (λ n. none-plain _ (sites a (place + 1)) s n h)
-      (λ n. none-plain _ (sites b (place + runLines a + 2)) s n h)
-      (List·Memᴰ·append-cases (map (within (record { place = place; part = firstArm })) (sites a (place + 1))) m))
+  item-plain (arm-one {a} {b} e) place i s m h = absurd (arms-plain a b place s m h)
+  item-plain (arm-two {a} {b} e) place i s m h = absurd (arms-plain a b place s m h)
 
 -- ---- T11: a parent for each child
 
@@ -198,8 +200,7 @@ bound-within from all child block i t h apart =
         × (leads (o .path) (inside i t child .path) ≡ true)
     parent p m every =
         let q = map-member (within block) from m in
-        let found = h .parent (q .0) (q .1) (inner (q .0) (q .1) (λ b n. every b (subst (λ (x : Site). List·Memᴰ b (x .blocks)) (q .2) n))) in
-        (
+        let found = h .parent (q .0) (q .1) (inner (q .0) (q .1) (λ b n. every b (subst (λ (x : Site). List·Memᴰ b (x .blocks)) (q .2) n))) in (
           inside i t (found .0),
           Memᴰ·map (inside i t) (found .1),
           found .2 ∙ ap (λ (x : Site). x .statement) (q .2),
@@ -215,8 +216,42 @@ away p site all f g = go (p .blocks) refl
     go [] e = inl (f e)
     go (b ∷ l) e = let m : List·Memᴰ b (p .blocks) = rw e (List·Memᴰ·head refl) in inr (b, m, g b m)
 
+-- no block is around a site of both
+abbrev Apart : List Site → List Site → Type 0
+Apart l r = (p q : Site) → List·Memᴰ p l → List·Memᴰ q r → (b : Block) → List·Memᴰ b (p .blocks) → List·Memᴰ b (q .blocks) → ⊥
+
+-- an item and the run after it stand on other lines
+items-apart : (x : Item) (r : Run) (place : ℕ) → Apart (itemSites x place) (sites r (place + itemLines x))
+items-apart x r place p q m n b v w =
+    let near = item-ranged x place p m b v in
+    let far = run-ranged r (place + itemLines x) q n b w in
+    omega arith
+
+-- the sites without a block occur plainly
+abbrev Plain : List Site → List Occurrence → Type 0
+Plain from all = (s : Site) → List·Memᴰ s from → s .blocks ≡ [] → List·Memᴰ (plain s) all
+
+-- two parts apart from each other: a child is bound in both as it is in its own, for a parent in the other part is plain or has a foreign block
+module _ (l r : List Site) (first second : List Occurrence) (child : Occurrence) (apart : Apart l r) where
+  bound-left : Plain r second → Bound l first child → Bound (l ++ r) (first ++ second) child
+  bound-left f h =
+      bound-wider l first (l ++ r) (first ++ second) child h (λ s k. Memᴰ·append-left r k) (λ o k. Memᴰ·append-left second k)
+      (λ p k. ⊎-elim (λ q. inl q) (λ q. inr (other p q)) (List·Memᴰ·append-cases l k))
+    where
+      other : (p : Site) → List·Memᴰ p r → Away p (h .site) (first ++ second)
+      other p q = away p (h .site) _ (λ z. Memᴰ·append-right first (f p q z)) (λ b v w. apart (h .site) p (h .member) q b w v)
+
+  bound-right : Plain l first → Bound r second child → Bound (l ++ r) (first ++ second) child
+  bound-right f h =
+      bound-wider r second (l ++ r) (first ++ second) child h (λ s k. Memᴰ·append-right l k) (λ o k. Memᴰ·append-right first k)
+      (λ p k. ⊎-elim (λ q. inr (other p q)) (λ q. inl q) (List·Memᴰ·append-cases l k))
+    where
+      other : (p : Site) → List·Memᴰ p l → Away p (h .site) (first ++ second)
+      other p q = away p (h .site) _ (λ z. Memᴰ·append-left second (f p q z)) (λ b v w. apart p (h .site) q (h .member) b v w)
+
 -- no block of a run is opened by a line before it
-before-none : (r : Run) (place : ℕ) (block : Block) → block .place < place → (s : Site) → List·Memᴰ s (sites r place) → List·Memᴰ block (s .blocks) → ⊥
+before-none : (r : Run) (place : ℕ) (block : Block) → block .place < place → (s : Site) → List·Memᴰ s (sites r place)
+    → List·Memᴰ block (s .blocks) → ⊥
 before-none r place block h s m n = let t = run-ranged r place s m block n in omega arith
 
 -- the second arm's block is none of the first arm's, nor the other way round
@@ -249,35 +284,11 @@ mutual
   run-bound (step {x} {r} y e) place i child m =
       ⊎-elim
       (λ n.
-      let h = item-bound y place i child n in
-      bound-wider (itemSites x place) (itemOccurrences y i) _ _ child h
-      (λ s k. Memᴰ·append-left (sites r (place + itemLines x)) k)
-      (λ o k. Memᴰ·append-left (occurrences e (suc i)) k)
-      (λ p k.
-      ⊎-elim
-      (λ q. inl q)
-      (λ q. inr (away p (h .site) _
-      (λ z. Memᴰ·append-right (itemOccurrences y i) (run-plain e (place + itemLines x) (suc i) p q z))
-      (λ b v w.
-      let far = run-ranged r (place + itemLines x) p q b v in
-      let near = item-ranged x place (h .site) (h .member) b w in
-      omega arith)))
-      (List·Memᴰ·append-cases (itemSites x place) k)))
+      bound-left (itemSites x place) (sites r (place + itemLines x)) (itemOccurrences y i) (occurrences e (suc i)) child (items-apart x r place)
+      (run-plain e (place + itemLines x) (suc i)) (item-bound y place i child n))
       (λ n.
-      let h = run-bound e (place + itemLines x) (suc i) child n in
-      bound-wider (sites r (place + itemLines x)) (occurrences e (suc i)) _ _ child h
-      (λ s k. Memᴰ·append-right (itemSites x place) k)
-      (λ o k. Memᴰ·append-right (itemOccurrences y i) k)
-      (λ p k.
-      ⊎-elim
-      (λ q. inr (away p (h .site) _
-      (λ z. Memᴰ·append-left (occurrences e (suc i)) (item-plain y place i p q z))
-      (λ b v w.
-      let near = item-ranged x place p q b v in
-      let far = run-ranged r (place + itemLines x) (h .site) (h .member) b w in
-      omega arith)))
-      (λ q. inl q)
-      (List·Memᴰ·append-cases (itemSites x place) k)))
+      bound-right (itemSites x place) (sites r (place + itemLines x)) (itemOccurrences y i) (occurrences e (suc i)) child (items-apart x r place)
+      (item-plain y place i) (run-bound e (place + itemLines x) (suc i) child n))
       (List·Memᴰ·append-cases (itemOccurrences y i) m)
 
   pub item-bound : {x : Item} (e : ItemExecution x) (place i : ℕ) (child : Occurrence) → List·Memᴰ child (itemOccurrences e i)

@@ -11,7 +11,7 @@ use Rattle.spec_text.specs.declared.LineKind.the-variants.{Rl, Fk, Pr, St, Lo, 
 use Rattle.spec_text.specs.declared.StatementKind.{StatementKind}
 use Rattle.spec_text.specs.Reading.{isStatement, isStatementOf, loop, firstArm, secondArm}
 use Rattle.spec_graph.specs.Program.{Parsed, runOf, inFrontOf}
-use Rattle.node_laws.specs.Bodies.{Body, Stops, Ended, run-stops, run-statement, run-loop, run-branch}
+use Rattle.node_laws.specs.Bodies.{Body, Stops, Ended, tail-fewer, run-stops, run-statement, run-loop, run-branch}
 use Rattle.node_laws.specs.Bodies.{body-statement, body-loop, body-branch, body-closed, body-second}
 use Rattle.unfold_laws.specs.Along.{asks, Along}
 
@@ -71,7 +71,8 @@ unfolding Below
 below-more count more [] h b = b
 below-more count more (l ∷ lines) h b = (λ e. let less = b .0 e in omega arith, below-more count more lines h (b .1))
 
-below-last : (count : ℕ) (lines : List Line) (l : Line) → Below count lines → (isStatement l ≡ true → l .id < count) → Below count (lines ++ (l ∷ []))
+below-last : (count : ℕ) (lines : List Line) (l : Line) → Below count lines → (isStatement l ≡ true → l .id < count)
+    → Below count (lines ++ (l ∷ []))
 unfolding Below
 below-last count [] l b h = (h, _)
 below-last count (x ∷ lines) l b h = (b .0, below-last count lines l (b .1) h)
@@ -161,10 +162,6 @@ module _ (body : List Line) where
     stays-here n parts l lines stop h along =
         let same : runOf (suc n) (l ∷ lines) .rest ≡ l ∷ lines = ap (λ (p : Parsed). p .rest) (run-stops n l lines (l .kind) refl stop) in
         record { along = along; inside = rw same h; ended = rw same stop; fewer = rw same (omega arith) }
-
-    tail-fewer : (lines : List Line) → length (tail lines) ≤ length lines
-    tail-fewer [] = omega arith
-    tail-fewer (l ∷ lines) = omega arith
 
     run-stays : (n : ℕ) (parts : List ℕ) (lines : List Line) → length lines ≤ n → Inside body parts lines → Stays n parts lines
     unfolding runOf Along asks Stops inFrontOf
