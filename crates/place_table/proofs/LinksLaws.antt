@@ -30,7 +30,7 @@ use Rattle.place_keys.specs.LineKeys.{linksFrom, linksIn}
 -- ---- the marks of lines
 
 -- beside those of a word
-marked : ℕ → List Line → ℕ
+abbrev pub marked : ℕ → List Line → ℕ
 marked marks [] = marks
 marked marks (l ∷ lines) = marked (bitOr marks (markIn (l .kind) (l .id))) lines
 
@@ -55,7 +55,6 @@ mark-has Li id k h = has-empty k
 -- the marks of lines have the ids of their statements that shield
 pub marks-has : (marks : ℕ) (lines : List Line) (k : ℕ) → k < 32
     → has (marked marks lines) k ≡ has marks k || any (λ x. isStatementOf shields (x .kind) && eqb (x .id) k) lines
-unfolding marked
 marks-has marks [] k h = end (has marks k)
   where
     end : (b : Bool) → b ≡ b || false
@@ -87,7 +86,7 @@ module _ (lines : List Line) where
   step : (n i : ℕ) (l : Line) (rest : List Line) (marks : ℕ) → i ≤ length lines → drop i lines ≡ l ∷ rest → drop (i + 1) lines ≡ rest
       → getD table (i * 8) 0 ≡ lineNumber (l .kind) → getD table (i * 8 + 7) 0 ≡ markIn (l .kind) (l .id)
       → ((marks : ℕ) → LinksAt lines (i + 1) marks (linksFrom n table (i + 1) marks)) → LinksAt lines i marks (linksFrom (suc n) table i marks)
-  unfolding linksFrom linksOf bodyOf marked
+  unfolding linksFrom linksOf bodyOf
   step n i l rest marks inside here next number mark again =
       let t = go (l .kind) refl number in
       record { inside = t .0; links = t .1 ∙ sym (ap linksOf here); marks-are = t .2 ∙ sym (ap (λ (x : List Line). marked marks (bodyOf x)) here) }
@@ -130,9 +129,11 @@ module _ (lines : List Line) where
           × (linksFrom (suc n) table i marks .marks ≡ marked (bitOr marks (markIn (l .kind) (l .id))) (bodyOf rest))
       other m e a b =
           let r = again (bitOr marks (markIn (l .kind) (l .id))) in
-          rw (ne-eqb (getD table (i * 8) 0) 7 (λ x. a (sym e ∙ x)), ne-eqb (getD table (i * 8) 0) 8 (λ x. b (sym e ∙ x)), mark)
-          (r .inside, r .links ∙ ap linksOf next,
-          r .marks-are ∙ ap (λ (x : List Line). marked (bitOr marks (markIn (l .kind) (l .id))) (bodyOf x)) next)
+          rw (ne-eqb (getD table (i * 8) 0) 7 (λ x. a (sym e ∙ x)), ne-eqb (getD table (i * 8) 0) 8 (λ x. b (sym e ∙ x)), mark) (
+            r .inside,
+            r .links ∙ ap linksOf next,
+            r .marks-are ∙ ap (λ (x : List Line). marked (bitOr marks (markIn (l .kind) (l .id))) (bodyOf x)) next,
+          )
 
       go : (c : LineKind) → l .kind ≡ c → getD table (i * 8) 0 ≡ lineNumber c → Gives c (linksFrom (suc n) table i marks)
       go Li e f =
@@ -153,7 +154,7 @@ module _ (lines : List Line) where
 
   -- the links that the table gives from line i on
   links-lines : (n i : ℕ) → n + i ≡ length lines → (marks : ℕ) → LinksAt lines i marks (linksFrom n table i marks)
-  unfolding linksFrom bodyOf marked
+  unfolding linksFrom bodyOf
   links-lines zero i h marks =
       record { inside = omega arith; links = refl; marks-are = rw (drop-of-length-le lines {i = i} (omega arith)) refl }
   links-lines (suc n) i h marks = go lines refl (λ w. links-lines n (i + 1) (omega arith) w)

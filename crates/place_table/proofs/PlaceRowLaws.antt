@@ -146,5 +146,17 @@ module _ (lines : List Line) (links : Links) (s : Place) (word : ℕ) where
       let fuel : length (lineTable lines) / 8 - first + first ≡ length lines = omega (arith, lineTable-length lines, begins .inside) in
       let near = keys-lines lines (at s .id) (seenAt before (s .occurrence)) (length (lineTable lines) / 8 - first) first fuel 0 in
       let far = keys-lines lines (at s .id) (links .marks) (length (lineTable lines) / 8 - first) first fuel 0 in
-      rw (c .number, c .id, c .relation, c .reads, c .writes, c .tests, w .seen, near, far, ← begins .same, near-keys s small,
-      far-keys s (links .marks) here (begins .marked)) refl
+      rw (
+        c .number,
+        c .id,
+        c .relation,
+        c .reads,
+        c .writes,
+        c .tests,
+        w .seen,
+        near,
+        far,
+        ← begins .same,
+        near-keys s small,
+        far-keys s (links .marks) here (begins .marked),
+      ) refl
