@@ -9,6 +9,7 @@ pub mod feeding;
 pub mod first_walk;
 pub mod generator;
 pub mod graph;
+pub mod late;
 pub mod lines;
 pub mod outcome;
 pub mod plain_walk;
