@@ -68,9 +68,9 @@ fn end(failed: usize) {
 
 // ---- the shield's two sides
 
-/// The next drawn text that is robust by one shield and not by the other.
+/// The next drawn text that is robust by one shield and not by the other; about one in twenty is.
 fn draw_between(random: &mut Random, robust: Shield, danger: Shield) -> Vec<u8> {
-    loop {
+    for _ in 0..100_000 {
         let lines = match random.below(8) {
             0 => valid(random, Size::Tiny),
             1 => linked(random),
@@ -81,6 +81,8 @@ fn draw_between(random: &mut Random, robust: Shield, danger: Shield) -> Vec<u8> 
             return text;
         }
     }
+    println!("NO WORKLOAD is robust by the shield {robust:?} and dangerous by {danger:?}");
+    std::process::exit(1);
 }
 
 fn try_late(random: &mut Random, count: usize) {
