@@ -1,6 +1,6 @@
 #!/bin/sh
 # run.sh PROGRAM [SEED [INSPECT]]: everything but the timings, some two minutes (with RATTLE_LIB also the exports, by `records`): builds, checks this
-# implementation against itself and its first walks against the definition, then the program on all examples and vectors and on 20,000 generated
+# implementation against itself, its shield against document 01's and its first walks against the definition, then the program on all examples and vectors and on 20,000 generated
 # texts, every report, edge record and unfolding of 2,000 of them by the program inspect (beside PROGRAM unless named), then brute force against
 # demand 3; texts that arrive in pieces and inputs and outputs that fail; and the script judge, with a stand-in for rt.
 here="$(CDPATH= cd -- "$(dirname -- "$0")" && pwd)"
@@ -13,6 +13,7 @@ reports="$here/listing.sh $inspect report"
 "$here/build.sh" || exit 1
 failed=0
 "$here/target/selfcheck" "$seed" 5000 "$here/../examples/tpcc.txt" || failed=1
+"$here/target/shields" "$seed" 3000 || failed=1
 "$here/target/walks" "$seed" 1000 "$here"/../examples/*.txt "$here"/../vectors/verdict/*.txt || failed=1
 "$here/check.sh" "$program" "$unfoldings" "$edges" || failed=1
 "$here/target/compare" "$program" "$seed" 20000 || failed=1
@@ -20,6 +21,8 @@ failed=0
 "$here/target/compare" "$edges" "$seed" 2000 edges || failed=1
 "$here/target/compare" "$unfoldings" "$seed" 2000 unfoldings || failed=1
 "$here/target/brute" "$seed" 3000 || failed=1
+"$here/target/brute" "$seed" 2000 --late || failed=1
+"$here/target/brute" "$seed" 1000 --loosened || failed=1
 texts="$here/../examples"
 data="$here/../crates/inspect/data"
 "$here/target/pieces" "$program" "$texts/contact.txt" "$texts/contact-robust.txt" "$texts/tpcc.txt" "$texts/station-empty.txt" \

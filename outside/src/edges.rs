@@ -1,4 +1,5 @@
-//! The edges of the summary graph (document 01, "Edges"): the letters A to E literally, and the list of records in order.
+//! The edges of the summary graph (document 01, "Edges"; the shield as document 02, Req 02, changes it): the letters A to E literally, and
+//! the list of records in order.
 
 use crate::unfolding::*;
 use crate::workload::*;
@@ -12,10 +13,12 @@ pub struct Spot {
     pub writes: u64,
     pub tests: u64,
     /// Bit f: the place is linked by key f to a parent of kind is, ku or kd that stands before it.
-    pub shield: u32,
+    pub near: u32,
+    /// The same with the parent anywhere in the node, the place itself included.
+    pub far: u32,
 }
 
-pub const EMPTY_SPOT: Spot = Spot { kind: IS, rel: 0, reads: 0, writes: 0, tests: 0, shield: 0 };
+pub const EMPTY_SPOT: Spot = Spot { kind: IS, rel: 0, reads: 0, writes: 0, tests: 0, near: 0, far: 0 };
 
 pub const NO_LETTER: u8 = 0;
 pub const NO_ATTRIBUTE: u8 = 64;
@@ -105,7 +108,7 @@ pub fn back_letter(p: &Spot, q: &Spot) -> u8 {
         NO_LETTER
     } else if holds(b'E', p, q) {
         b'E'
-    } else if matches!(p.kind, KS | PS) && holds(b'D', p, q) && p.shield & q.shield == 0 {
+    } else if matches!(p.kind, KS | PS) && holds(b'D', p, q) && p.near & q.far == 0 {
         b'D'
     } else {
         NO_LETTER
@@ -122,13 +125,15 @@ pub fn spots(workload: &Workload, unfoldings: &Unfoldings) -> [Spot; MAX_PLACES]
         let places = &unfoldings.place[node.start as usize..][..node.length as usize];
         for at in 0..places.len() {
             let line = &workload.lines[places[at].line as usize];
+            let (near, far) = keys_to_parents(workload, &links, node.program as usize, places, at);
             out[node.start as usize + at] = Spot {
                 kind: line.kind,
                 rel: line.rel,
                 reads: line.reads,
                 writes: line.writes,
                 tests: line.tests,
-                shield: shield(workload, &links, node.program as usize, places, at),
+                near,
+                far,
             };
         }
     }
@@ -164,24 +169,25 @@ impl Links {
     }
 }
 
-/// The keys by which the place is linked to a writing parent before it, within the turn of each loop around the parent.
-fn shield(workload: &Workload, links: &Links, program: usize, places: &[Place], at: usize) -> u32 {
+/// The keys by which the place is linked to a writing parent, within the turn of each loop around the parent: to one before it, and to one
+/// anywhere in the node.
+fn keys_to_parents(workload: &Workload, links: &Links, program: usize, places: &[Place], at: usize) -> (u32, u32) {
     let own = &places[at];
     let id = workload.lines[own.line as usize].id;
-    let mut keys = 0;
+    let (mut near, mut far) = (0, 0);
     for link in &workload.lines[links.first[program] as usize..links.end[program] as usize] {
-        if link.rel == id && keys & 1 << link.id == 0 {
+        if link.rel == id && near & 1 << link.id == 0 {
             let bound = |place: &Place| {
                 let parent = &workload.lines[place.line as usize];
                 let mask = ((1u16 << place.loops) - 1) as u8;
                 parent.id == link.to && matches!(parent.kind, IS | KU | KD) && own.turns & mask == place.turns
             };
-            if places[..at].iter().any(bound) {
-                keys |= 1 << link.id;
-            }
+            let before = places[..at].iter().any(bound);
+            near |= (before as u32) << link.id;
+            far |= ((before || places[at..].iter().any(bound)) as u32) << link.id;
         }
     }
-    keys
+    (near, far)
 }
 
 // ---- the list of records

@@ -1,7 +1,8 @@
-//! Texts from a seed: valid ones here, small to largest, in three styles; those of `special` and `damage` beside them.
+//! Texts from a seed: valid ones here, small to largest, in three styles; those of `special`, `late` and `damage` beside them.
 //! What a text should give is not said here: the reader and the verdict say it.
 
 use crate::damage::*;
+use crate::late::late_parents;
 use crate::lines::*;
 use crate::random::Random;
 use crate::special::*;
@@ -39,7 +40,8 @@ pub fn any_text(random: &mut Random) -> Vec<u8> {
         _ => Size::Largest,
     };
     match random.below(40) {
-        0..=17 => text_of(&valid(random, size)),
+        0..=16 => text_of(&valid(random, size)),
+        17 => text_of(&late_parents(random)),
         18 => text_of(&links_across_blocks(random)),
         19..=20 => text_of(&linked(random)),
         21 => text_of(&long_walk(random)),

@@ -116,7 +116,8 @@ struct Quick {
     select: bool,       // ks or ps
     tested: bool,       // has tests
     existence: bool,    // is, kd or pd
-    shield: u32,
+    near: u32,
+    far: u32,
     leaves_writes: u64, // writes, unless a delete (A, B)
     enters_writes: u64, // writes, unless an insert (A, D)
     writes: u64,
@@ -131,7 +132,8 @@ fn quick(spot: &Spot) -> Quick {
         select: matches!(spot.kind, KS | PS),
         tested: has_tests(spot.kind),
         existence: matches!(spot.kind, IS | KD | PD),
-        shield: spot.shield,
+        near: spot.near,
+        far: spot.far,
         leaves_writes: if is_delete(spot.kind) { 0 } else { spot.writes },
         enters_writes: if spot.kind == IS { 0 } else { spot.writes },
         writes: spot.writes,
@@ -147,7 +149,7 @@ fn stands(p: &Quick, q: &Quick) -> (bool, bool) {
     let e = p.tested & (q.existence | (p.tests & q.writes != 0));
     let c = q.tested & (p.existence | (p.writes & q.tests != 0));
     let ab = p.leaves_writes & (q.enters_writes | q.reads) != 0;
-    let back = e | (p.select & d & (p.shield & q.shield == 0));
+    let back = e | (p.select & d & (p.near & q.far == 0));
     (ab | c | d | e, back)
 }
 

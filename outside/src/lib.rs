@@ -1,4 +1,4 @@
-//! The independent implementation of document 01 in plain Rust: it shares nothing with the Rattle code.
+//! The independent implementation of documents 01 and 02 in plain Rust: it shares nothing with the Rattle code.
 //! Text -> workload -> unfoldings -> edges -> verdict with a walk -> report, a checker for walks,
 //! and a generator of texts. The programs under `bin/` are thin.
 
@@ -9,6 +9,7 @@ pub mod feeding;
 pub mod first_walk;
 pub mod generator;
 pub mod graph;
+pub mod late;
 pub mod lines;
 pub mod outcome;
 pub mod plain_walk;
@@ -17,6 +18,7 @@ pub mod reader;
 pub mod report;
 pub mod schedule;
 pub mod serial;
+pub mod shields;
 pub mod sizes;
 pub mod special;
 pub mod stages;

@@ -11,7 +11,7 @@ pub const VERDICT_NAMES: &str = "verdict programs nodes edges back\n";
 pub const STEP_NAMES: &str = "step node leaves enters flow\n";
 pub const REFUSED_NAMES: &str = "refused line\n";
 
-fn refused(number: u8, line: usize) -> String {
+pub fn refused(number: u8, line: usize) -> String {
     format!("{REFUSED_NAMES}{number} {line}\n")
 }
 
@@ -28,7 +28,7 @@ pub fn report(text: &[u8]) -> String {
     }
 }
 
-fn judged(verdict: &Verdict, walk: &[Step]) -> String {
+pub fn judged(verdict: &Verdict, walk: &[Step]) -> String {
     let word = if walk.is_empty() { "robust" } else { "danger" };
     let Verdict { programs, nodes, edges, back, .. } = verdict;
     let mut out = format!("{VERDICT_NAMES}{word} {programs} {nodes} {edges} {back}\n");
@@ -78,10 +78,13 @@ pub fn list_unfoldings(text: &[u8]) -> String {
 
 /// Every edge record, in order.
 pub fn list_edges(text: &[u8]) -> String {
-    let unfolded = match unfolded(text) {
-        Ok(unfolded) => unfolded,
-        Err(refusal) => return refused(refusal.number, refusal.line),
-    };
+    match unfolded(text) {
+        Ok(unfolded) => listed_edges(&unfolded),
+        Err(refusal) => refused(refusal.number, refusal.line),
+    }
+}
+
+pub fn listed_edges(unfolded: &Unfolded) -> String {
     let mut records = vec![EMPTY_EDGE; count(&unfolded.unfoldings, &unfolded.spots).0];
     let filled = fill(&unfolded.unfoldings, &unfolded.spots, &mut records).expect("as long as the count");
     let mut out = String::from("node leaves node enters flow letter shared lowest\n");

@@ -135,11 +135,20 @@ fn draw_ground(random: &mut Random, lines: &[Line]) -> Ground {
     Ground { rel, starts_visible, sets, keys }
 }
 
-/// Mostly to visible parents, so that fewer draws end in a wait.
+/// Mostly to visible parents, so that fewer draws end in a wait; within one relation often to the tuple itself, for links to itself.
 fn draw_key(random: &mut Random, key: &Line, rel: &[u8], starts_visible: &[bool]) -> Vec<usize> {
     let parents: Vec<usize> = (0..rel.len()).filter(|&tuple| rel[tuple] == key.to).collect();
     let visible: Vec<usize> = parents.iter().copied().filter(|&tuple| starts_visible[tuple]).collect();
-    rel.iter().map(|_| if random.chance(3, 4) { *random.pick(&visible) } else { *random.pick(&parents) }).collect()
+    let mut parent_of = |child: usize| {
+        if key.rel == key.to && rel[child] == key.rel && random.chance(2, 3) {
+            child
+        } else if random.chance(3, 4) {
+            *random.pick(&visible)
+        } else {
+            *random.pick(&parents)
+        }
+    };
+    (0..rel.len()).map(&mut parent_of).collect()
 }
 
 fn draw_transaction(random: &mut Random, lines: &[Line], start: usize) -> Transaction {

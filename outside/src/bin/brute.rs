@@ -1,14 +1,20 @@
-//! `brute SEED COUNT [TEXT]`: brute force against demand 3, independent of any proof. COUNT robust and COUNT dangerous
+//! `brute SEED COUNT [TEXT|--late|--loosened]`: brute force against demand 3, independent of any proof. COUNT robust and COUNT dangerous
 //! random small workloads (or the workload of a text file, COUNT schedules); for each, random schedules that obey document 01; for each schedule
 //! all orders of its transactions are tried in the serial run. Robust ones must never fail; how often dangerous
 //! ones do is printed, so that a check which cannot fail is noticed.
+//!
+//! `--late`: COUNT workloads that are robust and were dangerous by document 01's shield (document 02, Req 02). None of their schedules may
+//! fail; beside it, how often schedules of the same texts without their links do. `--loosened`: COUNT workloads that only a wrong shield
+//! calls robust, with the near parent anywhere too. Some of their schedules must fail.
 
 use outside::generator::*;
+use outside::late::late_parents;
 use outside::lines::text_of;
 use outside::random::Random;
 use outside::reader::*;
 use outside::schedule::*;
 use outside::serial::*;
+use outside::shields::*;
 use outside::special::linked;
 use outside::verdict::*;
 use outside::workload::*;
@@ -24,15 +30,21 @@ struct Tally {
     schedules: usize,
     given_up: usize,
     overlapping: usize,
+    raced: usize,
     failed: usize,
     failing_workloads: usize,
 }
 
 fn main() {
     let words: Vec<String> = std::env::args().collect();
-    let number = |at: usize| words.get(at).and_then(|word| word.parse::<u64>().ok()).expect("usage: brute SEED COUNT [TEXT]");
+    let number = |at: usize| words.get(at).and_then(|word| word.parse::<u64>().ok()).expect("usage: brute SEED COUNT [TEXT|--late|--loosened]");
     let (mut random, count) = (Random::new(number(1)), number(2) as usize);
     let (mut robust, mut danger) = (Tally::default(), Tally::default());
+    match words.get(3).map(String::as_str) {
+        Some("--late") => return try_late(&mut random, count),
+        Some("--loosened") => return try_loosened(&mut random, count),
+        _ => {}
+    }
     if let Some(path) = words.get(3) {
         let text = std::fs::read(path).expect("a text");
         try_workload(&mut random, &text, count, &mut robust, &mut danger, usize::MAX);
@@ -44,11 +56,70 @@ fn main() {
     }
     show("robust", &robust);
     show("danger", &danger);
-    if robust.failed > 0 {
-        println!("DEMAND 3 FAILS: {} schedules of robust workloads have no serial order", robust.failed);
+    end(robust.failed);
+}
+
+fn end(failed: usize) {
+    if failed > 0 {
+        println!("DEMAND 3 FAILS: {failed} schedules of robust workloads have no serial order");
         std::process::exit(1);
     }
 }
+
+// ---- the shield's two sides
+
+/// The next drawn text that is robust by one shield and not by the other; about one in twenty is.
+fn draw_between(random: &mut Random, robust: Shield, danger: Shield) -> Vec<u8> {
+    for _ in 0..100_000 {
+        let lines = match random.below(8) {
+            0 => valid(random, Size::Tiny),
+            1 => linked(random),
+            _ => late_parents(random),
+        };
+        let text = text_of(&lines);
+        if is_robust(robust, &text) && read(&text).is_ok() && !is_robust(danger, &text) {
+            return text;
+        }
+    }
+    println!("NO WORKLOAD is robust by the shield {robust:?} and dangerous by {danger:?}");
+    std::process::exit(1);
+}
+
+fn try_late(random: &mut Random, count: usize) {
+    let (mut late, mut unlinked) = (Tally::default(), Tally::default());
+    let (mut loops, mut branches, mut own) = (0, 0, 0);
+    for _ in 0..count {
+        let text = draw_between(random, Shield::Now, Shield::Before);
+        let workload = read(&text).expect("robust");
+        let any = |test: &dyn Fn(&Line) -> bool| workload.taken().iter().any(test) as usize;
+        loops += any(&|line| line.kind == LO);
+        branches += any(&|line| line.kind == BR);
+        own += any(&|line| line.kind == LI && line.rel == line.to);
+        try_schedules(random, &text, &workload, SCHEDULES, true, &mut late);
+        let without = without_links(&text);
+        try_schedules(random, &without, &read(&without).expect("as before"), SCHEDULES, false, &mut unlinked);
+    }
+    println!("robust, and danger by document 01's shield; {loops} with a loop, {branches} with a branch, {own} with a link to itself");
+    show("robust now", &late);
+    show("the same without their links", &unlinked);
+    end(late.failed);
+}
+
+fn try_loosened(random: &mut Random, count: usize) {
+    let mut loosened = Tally::default();
+    for _ in 0..count {
+        let text = draw_between(random, Shield::Anywhere, Shield::Now);
+        let workload = read(&text).expect("robust by a wrong rule");
+        try_schedules(random, &text, &workload, SCHEDULES, false, &mut loosened);
+    }
+    show("danger, and robust were the near parent to stand anywhere", &loosened);
+    if loosened.failed == 0 {
+        println!("A WRONG SHIELD IS NOT NOTICED");
+        std::process::exit(1);
+    }
+}
+
+// ---- schedules of a workload
 
 /// Tries schedules of one workload, unless enough of its verdict were tried.
 fn try_workload(random: &mut Random, text: &[u8], schedules: usize, robust: &mut Tally, danger: &mut Tally, enough: usize) {
@@ -59,21 +130,30 @@ fn try_workload(random: &mut Random, text: &[u8], schedules: usize, robust: &mut
     if tally.workloads >= enough || verdict.edges == 0 || (verdict.back == 0 && !by_links(text) && !random.chance(1, 6)) {
         return;
     }
+    try_schedules(random, text, &workload, schedules, verdict.steps == 0, tally);
+}
+
+fn try_schedules(random: &mut Random, text: &[u8], workload: &Workload, schedules: usize, robust: bool, tally: &mut Tally) {
+    let verdict = judge(workload, &mut [EMPTY_STEP; MAX_STEPS]).expect("not 22");
     tally.workloads += 1;
     tally.with_back_edges += (verdict.back > 0) as usize;
     tally.by_links += (verdict.steps == 0 && by_links(text)) as usize;
     let before = tally.failed;
     for _ in 0..schedules {
-        try_schedule(random, text, &workload, verdict.steps == 0, tally);
+        try_schedule(random, text, workload, robust, tally);
     }
     tally.failing_workloads += (tally.failed > before) as usize;
 }
 
 /// Whether the verdict would be danger without the links.
 fn by_links(text: &[u8]) -> bool {
-    let lines = text.split_inclusive(|&byte| byte == b'\n').filter(|line| !line.starts_with(b"li"));
-    let Ok(workload) = read(&lines.collect::<Vec<_>>().concat()) else { return false };
+    let Ok(workload) = read(&without_links(text)) else { return false };
     judge(&workload, &mut [EMPTY_STEP; MAX_STEPS]).is_some_and(|verdict| verdict.steps > 0)
+}
+
+fn without_links(text: &[u8]) -> Vec<u8> {
+    let lines = text.split_inclusive(|&byte| byte == b'\n').filter(|line| !line.starts_with(b"li"));
+    lines.collect::<Vec<_>>().concat()
 }
 
 fn try_schedule(random: &mut Random, text: &[u8], workload: &Workload, robust: bool, tally: &mut Tally) {
@@ -84,6 +164,7 @@ fn try_schedule(random: &mut Random, text: &[u8], workload: &Workload, robust: b
     };
     tally.schedules += 1;
     tally.overlapping += schedule.order.windows(2).any(|pair| is_cut(&schedule, pair)) as usize;
+    tally.raced += (0..schedule.order.len()).any(|now| is_raced(&schedule, now)) as usize;
     if let Some(broken) = broken_rule(&schedule) {
         println!("A SCHEDULE BREAKS A RULE ({broken}):\n{}", String::from_utf8_lossy(text));
         show_schedule(&schedule);
@@ -101,6 +182,15 @@ fn try_schedule(random: &mut Random, text: &[u8], workload: &Workload, robust: b
 /// Whether another transaction goes on before this one's commit.
 fn is_cut(schedule: &Schedule, pair: &[(usize, usize)]) -> bool {
     pair[0].0 != pair[1].0 && !matches!(schedule.transactions[pair[0].0][pair[0].1], Operation::Commit)
+}
+
+/// Whether a tuple that is read now is written by another transaction before this one's commit.
+fn is_raced(schedule: &Schedule, now: usize) -> bool {
+    let (own, number) = schedule.order[now];
+    let Operation::Read { tuple: read, .. } = schedule.transactions[own][number] else { return false };
+    let until_commit = schedule.order[now..].iter().take_while(|&&(by, number)| by != own || number + 1 < schedule.transactions[own].len());
+    let mut others = until_commit.filter(|&&(by, _)| by != own).map(|&(by, number)| &schedule.transactions[by][number]);
+    others.any(|operation| matches!(operation, Operation::Change { tuple, .. } if *tuple == read))
 }
 
 // ---- the rules once more, over the finished list
@@ -165,13 +255,15 @@ fn broken_read(schedule: &Schedule, now: usize, seen: &dyn Fn(usize, usize, usiz
 fn show(word: &str, tally: &Tally) {
     let share = |part: usize, whole: usize| 100.0 * part as f64 / whole.max(1) as f64;
     println!(
-        "{word}: {} workloads ({} with back edges, {} robust by their links alone), {} schedules ({} with overlap, {} given up): \
+        "{word}: {} workloads ({} with back edges, {} robust by their links alone), {} schedules ({} with overlap, \
+         {} with a write of what another has read and not committed, {} given up): \
          {} without a serial order ({:.1} %), in {} workloads ({:.1} %)",
         tally.workloads,
         tally.with_back_edges,
         tally.by_links,
         tally.schedules,
         tally.overlapping,
+        tally.raced,
         tally.given_up,
         tally.failed,
         share(tally.failed, tally.schedules),

@@ -1,8 +1,10 @@
-//! `outside report|edges|unfoldings|read|areas < text`: the independent program on one text.
+//! `outside report|edges|unfoldings|read|areas < text`: the independent program on one text. `--shield-01` after `report` or `edges`: by
+//! document 01's shield, which document 02, Req 02, changed.
 
 use outside::areas::areas;
 use outside::outcome::reading;
 use outside::report::*;
+use outside::shields::*;
 use std::io::{Read, Write};
 use std::process::exit;
 
@@ -12,14 +14,17 @@ fn main() {
         eprintln!("reading failed: {error}");
         exit(1);
     }
-    let out = match std::env::args().nth(1).as_deref() {
-        Some("report") | None => report(&text),
-        Some("edges") => list_edges(&text),
-        Some("unfoldings") => list_unfoldings(&text),
-        Some("read") => reading(&text),
-        Some("areas") => areas(&text),
-        Some(other) => {
-            eprintln!("usage: outside report|edges|unfoldings|read|areas < text, not {other}");
+    let words: Vec<String> = std::env::args().skip(1).collect();
+    let out = match words.iter().map(String::as_str).collect::<Vec<_>>()[..] {
+        ["report"] | [] => report(&text),
+        ["edges"] => list_edges(&text),
+        ["report", "--shield-01"] => report_by(Shield::Before, &text),
+        ["edges", "--shield-01"] => list_edges_by(Shield::Before, &text),
+        ["unfoldings"] => list_unfoldings(&text),
+        ["read"] => reading(&text),
+        ["areas"] => areas(&text),
+        _ => {
+            eprintln!("usage: outside report|edges|unfoldings|read|areas [--shield-01] < text, not {}", words.join(" "));
             exit(2);
         }
     };

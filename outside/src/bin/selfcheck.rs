@@ -1,6 +1,6 @@
 //! `selfcheck SEED COUNT [TPCC]`: the fast parts of this implementation against slow literal ones, on generated texts:
-//! unfoldings by plain lists, counts by the letters, the verdict by a search over walks with a mark for "some forward
-//! edge", the walk checker by the list of edges on damaged walks. With the text of TPC-C: the published figures of source
+//! unfoldings by plain lists, the parents that shield by plain lists and by what the links alone say, counts by the letters, the verdict
+//! by a search over walks with a mark for "some forward edge", the walk checker by the list of edges on damaged walks. With the text of TPC-C: the published figures of source
 //! 000 with its own insert sets.
 
 use outside::edges::*;
@@ -43,10 +43,12 @@ fn check(text: &[u8]) -> Option<bool> {
     let fast: Vec<Vec<(usize, Vec<u8>)>> = (0..unfolded.unfoldings.nodes)
         .map(|node| unfolded.unfoldings.places_of(node).iter().map(|place| (place.line as usize, turns_of(place))).collect())
         .collect();
-    assert_eq!(Some(fast), literal, "unfoldings with their turns");
+    assert_eq!(Some(&fast), literal.as_ref(), "unfoldings with their turns");
+    let back = check_shields(workload.taken(), &fast, &unfolded.spots);
     let mut walk = [EMPTY_STEP; MAX_STEPS];
     let verdict = judge_graph(workload.programs(), &unfolded.unfoldings, &unfolded.spots, &mut walk);
     assert_eq!((verdict.edges, verdict.back), count(&unfolded.unfoldings, &unfolded.spots), "counts");
+    assert!(back.is_none_or(|back| back == verdict.back), "back edges");
     if verdict.edges < 3000 {
         let mut edges = vec![EMPTY_EDGE; verdict.edges];
         fill(&unfolded.unfoldings, &unfolded.spots, &mut edges);
@@ -115,6 +117,53 @@ fn in_a_row(first: &[Unfolding], then: &[Unfolding]) -> Option<Vec<Unfolding>> {
         return None;
     }
     Some(first.iter().flat_map(|a| then.iter().map(move |b| [a.clone(), b.clone()].concat())).collect())
+}
+
+// ---- the shield by lists (document 02, Req 02)
+
+/// Each place's keys against the lists; how many back edges the lists give, unless there are many pairs of places.
+fn check_shields(lines: &[Line], nodes: &[Unfolding], spots: &[Spot]) -> Option<usize> {
+    let parents: Vec<Parents> = nodes.iter().flat_map(|node| (0..node.len()).map(move |at| parents_of(lines, node, at))).collect();
+    for (spot, parents) in spots.iter().zip(&parents) {
+        let word = |keys: &[u8]| keys.iter().fold(0u32, |word, key| word | 1 << key);
+        assert_eq!((spot.near, spot.far), (word(&parents.before), word(&parents.anywhere)), "parents that shield");
+        // what the rules on links come to: a child never runs without its parents, so the links alone tell the far keys
+        assert_eq!(parents.anywhere, parents.by_links, "every parent runs with its child");
+    }
+    let shielded = |p: usize, q: usize| parents[p].before.iter().any(|key| parents[q].anywhere.contains(key));
+    let back = |p: usize, q: usize| {
+        let (from, to) = (&spots[p], &spots[q]);
+        let read = matches!(from.kind, KS | PS) && holds(b'D', from, to) && !shielded(p, q);
+        from.rel == to.rel && (holds(b'E', from, to) || read)
+    };
+    let pairs = (0..spots.len()).flat_map(|p| (0..spots.len()).map(move |q| (p, q)));
+    if spots.len() > 150 { None } else { Some(pairs.filter(|&(p, q)| back(p, q)).count()) }
+}
+
+/// The keys by which a place has parents that shield: before it, anywhere in its node, and by its program's links alone; rising.
+struct Parents {
+    before: Vec<u8>,
+    anywhere: Vec<u8>,
+    by_links: Vec<u8>,
+}
+
+fn parents_of(lines: &[Line], node: &Unfolding, at: usize) -> Parents {
+    let (line, turns) = &node[at];
+    let begin = lines[..*line].iter().rposition(|line| line.kind == PR).expect("a program");
+    let program: Vec<&Line> = lines[begin + 1..].iter().take_while(|line| line.kind != PR).collect();
+    let shields = |statement: &Line| matches!(statement.kind, IS | KU | KD);
+    let of_child: Vec<&Line> = program.iter().copied().filter(|link| link.kind == LI && link.rel == lines[*line].id).collect();
+    let is_parent = |link: &Line, (parent, its): &(usize, Vec<u8>)| {
+        lines[*parent].id == link.to && shields(&lines[*parent]) && turns.starts_with(its)
+    };
+    let keys = |holds: &dyn Fn(&Line) -> bool| {
+        (0..32).filter(|&key| of_child.iter().any(|link| link.id == key && holds(link))).collect::<Vec<u8>>()
+    };
+    Parents {
+        before: keys(&|link| node[..at].iter().any(|other| is_parent(link, other))),
+        anywhere: keys(&|link| node.iter().any(|other| is_parent(link, other))),
+        by_links: keys(&|link| program.iter().any(|other| is_statement(other.kind) && other.id == link.to && shields(other))),
+    }
 }
 
 // ---- the verdict by walks
