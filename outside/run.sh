@@ -1,8 +1,8 @@
 #!/bin/sh
 # run.sh PROGRAM [SEED [INSPECT]]: everything but the timings, some two minutes (with RATTLE_LIB also the exports, by `records`): builds, checks this
-# implementation against itself, its shield against document 01's and its first walks against the definition, then the program on all examples and vectors and on 20,000 generated
-# texts, every report, edge record and unfolding of 2,000 of them by the program inspect (beside PROGRAM unless named), then brute force against
-# demand 3; texts that arrive in pieces and inputs and outputs that fail; and the script judge, with a stand-in for rt.
+# implementation against itself, its shield against document 01's and its first walks against the definition, then the program on all examples and
+# vectors and on 20,000 generated texts, every report, edge record and unfolding of 2,000 of them by the program inspect (beside PROGRAM unless named),
+# then brute force against demand 3; texts that arrive in pieces and inputs and outputs that fail; and the script judge, with a stand-in for rt.
 here="$(CDPATH= cd -- "$(dirname -- "$0")" && pwd)"
 program="${1:?usage: run.sh PROGRAM [SEED [INSPECT]]}"
 seed="${2:-1}"

@@ -217,8 +217,7 @@ pub fn fill(unfoldings: &Unfoldings, spots: &[Spot], out: &mut [Edge]) -> Option
         for i in 0..from.length {
             let p = &spots[(from.start + i) as usize];
             for (n, to) in unfoldings.all().iter().enumerate() {
-                for j in 0..to.length {
-                    let q = &spots[(to.start + j) as usize];
+                for (j, q) in spots[to.start as usize..][..to.length as usize].iter().enumerate() {
                     if p.rel == q.rel {
                         let ends = Edge { node: m as u64, leaves: i as u64, into: n as u64, enters: j as u64, ..EMPTY_EDGE };
                         filled += put(p, q, ends, &mut out[filled..]);
