@@ -10,7 +10,7 @@ use lib.ListN.{length}
 use borrow.Author.Tests.{eqb-true, eq-eqb}
 use Rattle.spec_base.specs.Basic.{any, count}
 use Rattle.law_base.specs.BoolLaws.{and-true, and-of, implied, or-left, or-right}
-use Rattle.law_base.specs.ListLaws.{any-true, any-append, all-true, count-keep, map-member, member-reverse, reverse-member}
+use Rattle.law_base.specs.ListLaws.{any-true, any-append, all-true, count-keep, map-member, member-reverse, reverse-member, getElem?-member}
 use Rattle.spec_text.specs.declared.Line.{Line}
 use Rattle.spec_text.specs.declared.LineKind.the-variants.{Pr, Li}
 use Rattle.spec_text.specs.declared.StatementKind.{StatementKind}
@@ -220,6 +220,7 @@ pub given-bound : {w : Workload} → Given w → (n : Node) → List·Memᴰ n (
 unfolding nodesOf
 given-bound {w} g n m l listed child there h =
     let f = node-program 0 (programsOf (linesOf w)) n m in
-    let t = program-bound (g .text) (linesOf w) (given-read g) (f .program) (f .member) (f .execution) l
+    let member = getElem?-member (programsOf (linesOf w)) (f .index) (f .there) in
+    let t = program-bound (g .text) (linesOf w) (given-read g) (f .program) member (f .execution) l
     (subst (λ (x : List Link). List·Memᴰ l x) (f .links) listed) child (subst (λ (x : List Occurrence). List·Memᴰ child x) (f .places) there) h in
     (t .0, subst (λ (x : List Occurrence). List·Memᴰ (t .0) x) (sym (f .places)) (t .1), t .2)

@@ -1,12 +1,15 @@
 -- The links of a node stand on `li` lines of the workload.
-use mathlib.Core.Path.{_≡_, refl, sym, ap, subst}
+use mathlib.Core.Path.{_≡_, refl, sym, ap, subst, _∙_}
 use mathlib.Core.Logic.{⊎-elim}
 use mathlib.Core.Bool.{false}
 use mathlib.Core.List.{List, [], _∷_, _++_, List·Memᴰ, Memᴰ·append-right}
 use mathlib.Core.List.List·Memᴰ.{List·Memᴰ·head, List·Memᴰ·tail}
 use mathlib.Core.List.{List·Memᴰ·not-nil, List·Memᴰ·cases-cons, List·Memᴰ·append-cases}
-use Prim.Native.Nat.{ℕ, suc}
-use lib.ListN.{length}
+use mathlib.Core.Option.{some}
+use Prim.Native.Nat.{ℕ, suc, _+_}
+use native.Mathlib.Nat.{add-zero}
+use native.Mathlib.Omega.{arith}
+use lib.ListN.{length, getElem?}
 use Rattle.spec_base.specs.Basic.{any}
 use Rattle.law_base.specs.BoolLaws.{or-of}
 use Rattle.law_base.specs.ListLaws.{map-member}
@@ -157,29 +160,41 @@ program-link lines p m link h =
       key = ap (λ (x : Link). x .key) (sym (k .same));
     }
 
--- a node is an unfolding of a program
-pub record FromProgram (programs : List Program) (n : Node) : Type 0 where
+-- a node is an unfolding of the program with its number
+pub record FromProgram (first : ℕ) (programs : List Program) (n : Node) : Type 0 where
   pub program : Program
-  pub member : List·Memᴰ program programs
+  pub index : ℕ
+  pub number : n .program ≡ first + index
+  pub there : getElem? programs index ≡ some program
   pub execution : Execution (program .body)
   pub links : n .links ≡ program .links
   pub places : n .places ≡ occurrences execution 0
 
-pub node-program : (m : ℕ) (programs : List Program) (n : Node) → List·Memᴰ n (nodesFrom m programs) → FromProgram programs n
+pub node-program : (first : ℕ) (programs : List Program) (n : Node) → List·Memᴰ n (nodesFrom first programs) → FromProgram first programs n
 unfolding nodesFrom nodesOfProgram
-node-program m [] n h = absurd (List·Memᴰ·not-nil h)
-node-program m (p ∷ programs) n h =
+node-program first [] n h = absurd (List·Memᴰ·not-nil h)
+node-program first (p ∷ programs) n h =
     ⊎-elim
     (λ s.
     let f = map-member _ (unfoldings (p .body)) s in
     record {
       program = p;
-      member = List·Memᴰ·head refl;
+      index = 0;
+      number = ap (λ (x : Node). x .program) (sym (f .2)) ∙ sym (add-zero first);
+      there = refl;
       execution = f .0;
       links = ap (λ (x : Node). x .links) (sym (f .2));
       places = ap (λ (x : Node). x .places) (sym (f .2));
     })
     (λ r.
-    let t = node-program (suc m) programs n r in
-    record { program = t .program; member = List·Memᴰ·tail (t .member); execution = t .execution; links = t .links; places = t .places })
-    (List·Memᴰ·append-cases (nodesOfProgram m p) h)
+    let t = node-program (suc first) programs n r in
+    record {
+      program = t .program;
+      index = suc (t .index);
+      number = t .number ∙ omega arith;
+      there = t .there;
+      execution = t .execution;
+      links = t .links;
+      places = t .places;
+    })
+    (List·Memᴰ·append-cases (nodesOfProgram first p) h)

@@ -9,7 +9,7 @@ use lib.Dec.{eqb}
 use borrow.Author.Tests.{eqb-true, eqb-false, ltb-true, not-true}
 use Rattle.spec_base.specs.Basic.{any, count, within}
 use Rattle.law_base.specs.BoolLaws.{and-true, true-false}
-use Rattle.law_base.specs.ListLaws.{member-split, count-append}
+use Rattle.law_base.specs.ListLaws.{member-split, count-append, getElem?-member}
 use Rattle.spec_text.specs.declared.Line.{Line}
 use Rattle.spec_text.specs.declared.LineKind.the-variants.{St, Li}
 use Rattle.spec_text.specs.declared.StatementKind.{StatementKind}
@@ -144,10 +144,11 @@ module _ (text : List ℕ) (lines : List Line) (taken : read text ≡ accepted l
   unfolding nodesOf
   accepted-nodes n m =
       let f = node-program 0 (programsOf lines) n m in
-      let body = program-holds (LawfulStatement lines) lines accepted-lines (f .program) (f .member) in
+      let member = getElem?-member (programsOf lines) (f .index) (f .there) in
+      let body = program-holds (LawfulStatement lines) lines accepted-lines (f .program) member in
       record {
         keys = λ l h.
-            let x = program-link lines (f .program) (f .member) l (subst (λ (ls : List Link). List·Memᴰ l ls) (f .links) h) in
+            let x = program-link lines (f .program) member l (subst (λ (ls : List Link). List·Memᴰ l ls) (f .links) h) in
             subst (λ (k : ℕ). k < 32) (x .key) (link-id (x .line) (x .member) (x .kind));
         places = λ o h.
             execution-holds (LawfulStatement lines) (f .execution) body 0 o (subst (λ (l : List Occurrence). List·Memᴰ o l) (f .places) h);

@@ -28,6 +28,7 @@ use Rattle.spec_graph.specs.Program.{Program, Link, runOf, linksOf, programsOf}
 use Rattle.spec_graph.specs.Unfolding.{Node, Occurrence, Execution, occurrences, unfoldings, nodesOfProgram, nodesFrom, nodesOf}
 use Rattle.spec_graph.specs.Edge.{shields}
 use Rattle.node_laws.specs.Bodies.{bodyOf}
+use Rattle.node_laws.specs.FromLinks.{FromProgram, node-program}
 use Rattle.node_laws.specs.GivenNodes.{accepted-nodes}
 use Rattle.node_laws.specs.BoundParents.{own-bound, own-kinds}
 use Rattle.value_tables.specs.Lines.{lineNumber, lineTable}
@@ -303,51 +304,12 @@ programs-few text lines h = go (last lines)
         let b = ap (count isProgram) (s .2) in
         omega arith
 
--- a node is an unfolding of the program with its number
-record OfProgram (m : ℕ) (programs : List Program) (n : Node) : Type 0 where
-  index : ℕ
-  program : Program
-  number : n .program ≡ m + index
-  there : getElem? programs index ≡ some program
-  links : n .links ≡ program .links
-  execution : Execution (program .body)
-  places : n .places ≡ occurrences execution 0
-
-of-program : (m : ℕ) (programs : List Program) (n : Node) → List·Memᴰ n (nodesFrom m programs) → OfProgram m programs n
-unfolding nodesFrom nodesOfProgram
-of-program m [] n h = absurd (List·Memᴰ·not-nil h)
-of-program m (p ∷ programs) n h =
-    ⊎-elim
-    (λ s.
-    let f = map-member _ (unfoldings (p .body)) s in
-    record {
-      index = 0;
-      program = p;
-      number = ap (λ (x : Node). x .program) (sym (f .2)) ∙ sym (add-zero m);
-      there = refl;
-      links = ap (λ (x : Node). x .links) (sym (f .2));
-      execution = f .0;
-      places = ap (λ (x : Node). x .places) (sym (f .2));
-    })
-    (λ r.
-    let t = of-program (suc m) programs n r in
-    record {
-      index = suc (t .index);
-      program = t .program;
-      number = t .number ∙ omega arith;
-      there = t .there;
-      links = t .links;
-      execution = t .execution;
-      places = t .places;
-    })
-    (List·Memᴰ·append-cases (nodesOfProgram m p) h)
-
 -- where the links of a node's program begin: the marks are those of its statements, and each child occurrence has its parent (T11)
 pub node-begins : (text : List ℕ) (lines : List Line) → read text ≡ accepted lines → (n : Node) → List·Memᴰ n (nodesOf lines)
     → NodeBegins lines n (linksIn (lineTable lines) (getD (begunIn (lineTable lines) .firsts) (n .program) 0))
 unfolding nodesOf
 node-begins text lines h n m =
-    let t = of-program 0 (programsOf lines) n m in
+    let t = node-program 0 (programsOf lines) n m in
     let q : n .program ≡ t .index = t .number ∙ zero-add (t .index) in
     let less = getElem?-lt (programsOf lines) (t .index) (t .there) in
     let few = programs-few text lines h in
@@ -356,7 +318,7 @@ node-begins text lines h n m =
     ap (λ (k : ℕ). getD (begunIn (lineTable lines) .firsts) k 0) q ∙ begun-lines lines .same (t .index) (omega arith) (omega arith) in
     rw same (begins t (program-begins [] lines (t .index) (t .there)))
   where
-    begins : (t : OfProgram 0 (programsOf lines) n) {first : ℕ} → Begins lines first (t .program) → NodeBegins lines n (linksIn (lineTable lines) first)
+    begins : (t : FromProgram 0 (programsOf lines) n) {first : ℕ} → Begins lines first (t .program) → NodeBegins lines n (linksIn (lineTable lines) first)
     begins t {first} b =
         let own = drop first lines in
         let links = links-begin lines first (b .inside) in
