@@ -15,7 +15,8 @@ use Rattle.spec_text.specs.Reading.Outcome.{refused, accepted}
 use Rattle.spec_text.specs.Quoted.{readBytes}
 use Rattle.spec_graph.specs.Program.{statementOf, inFrontOf, runOf, linksOf, programsOf}
 use Rattle.spec_graph.specs.Unfolding.{inside, occurrences, pairs, unfoldings, nodesOfProgram, nodesFrom, nodesOf}
-use Rattle.spec_graph.specs.Edge.{W, R, T, holds, sameRelation, leads, binds, hasParent, guardedNear, guardedFar, shielded, forward, back, placesFrom, placesOf, letterOf}
+use Rattle.spec_graph.specs.Edge.{W, R, T, holds, sameRelation, leads, binds, hasParent}
+use Rattle.spec_graph.specs.Edge.{guardedNear, guardedFar, shielded, forward, back, placesFrom, placesOf, letterOf}
 use Rattle.spec_graph.specs.Edge.{shared, edgeOf, edgesBetween, edgesOf, placeAt, graphOf}
 use Rattle.law_walk.specs.Reach.{leavesFor, joins, joinedTo, grow, reachedFrom, opens, closesAt, dangerTest}
 use Rattle.law_walk.specs.FirstWalks.{isFirst, first-tested}
@@ -129,7 +130,8 @@ unfoldable pub allPass : List Case → Bool
 unfolding
     passes passesLines passesOutcome refuses sameCounts readBytes countsOf tooMany statementsIn summaryGraph
     statementOf inFrontOf runOf linksOf programsOf inside occurrences pairs flatMap unfoldings nodesOfProgram nodesFrom nodesOf
-    W R T holds sameRelation leads binds hasParent guardedNear guardedFar shielded forward back placesFrom placesOf letterOf shared edgeOf edgesBetween edgesOf placeAt
+    W R T holds sameRelation leads binds hasParent guardedNear guardedFar shielded forward back placesFrom placesOf letterOf shared edgeOf
+    edgesBetween edgesOf placeAt
     graphOf onesIn trailingZeros leavesFor joins joinedTo grow reachedFrom opens closesAt dangerTest isFirst
 allPass table = all (λ c. passes (c .text) (c .expected)) table
 

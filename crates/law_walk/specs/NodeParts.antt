@@ -14,7 +14,8 @@ use Rattle.spec_base.specs.Basic.{any, keep, numbersFrom, numbers}
 use Rattle.law_base.specs.ListLaws.{any-same, getElem?-found, getElem?-lt, some-injective, keep-yes, keep-no, keep-member, numbersFrom-member}
 use Rattle.spec_graph.specs.Graph.{Flow}
 use Rattle.spec_graph.specs.Unfolding.{Node, Occurrence}
-use Rattle.spec_graph.specs.Edge.{Place, Letter, at, holds, selects, sameRelation, hasParent, guardedNear, guardedFar, shielded, forward, back, stands, bothPass}
+use Rattle.spec_graph.specs.Edge.{Place, Letter, at, holds, selects, sameRelation, hasParent}
+use Rattle.spec_graph.specs.Edge.{guardedNear, guardedFar, shielded, forward, back, stands, bothPass}
 use Rattle.spec_graph.specs.Edge.{loosensAt, placeAt, graphOf}
 use Rattle.spec_graph.specs.Walk.{Step}
 use Rattle.law_walk.specs.Reach.{regular}

@@ -14,7 +14,8 @@ use Rattle.spec_text.specs.declared.StatementKind.the-variants.{Ks, Ku}
 use Rattle.spec_graph.specs.Graph.{Flow}
 use Rattle.spec_graph.specs.Program.{statementOf, inFrontOf, runOf, programsOf, linksOf}
 use Rattle.spec_graph.specs.Unfolding.{Node, inside, occurrences, pairs, unfoldings, nodesOfProgram, nodesFrom, nodesOf}
-use Rattle.spec_graph.specs.Edge.{W, R, T, holds, sameRelation, leads, binds, hasParent, guardedNear, guardedFar, shielded, forward, back, placeAt, graphOf}
+use Rattle.spec_graph.specs.Edge.{W, R, T, holds, sameRelation, leads, binds}
+use Rattle.spec_graph.specs.Edge.{hasParent, guardedNear, guardedFar, shielded, forward, back, placeAt, graphOf}
 use Rattle.spec_graph.specs.Walk.{Step, isEdge, dangerousPair, isDangerous, DangerousWalk}
 use Rattle.law_walk.specs.Reach.{leavesFor, joins, joinedTo, grow, reachedFrom, opens, closesAt, dangerTest, regular, danger-none}
 use Rattle.law_walk.specs.Parts.{renumber, renumbered, only, only-regular, only-walks, embedding-keeps, walk-carried, none-in-part}
@@ -71,7 +72,8 @@ inPart =
     step 2 1 1 Flow.forward ∷ step 0 0 0 Flow.back ∷ step 2 1 1 Flow.forward ∷ step 1 0 0 Flow.back ∷ []
 
 part-dangerous : isDangerous (graphOf (nodesAt nodes chosen)) inPart ≡ true
-unfolding nodes nodesAt W R T holds sameRelation leads binds hasParent guardedNear guardedFar shielded forward back placeAt graphOf isEdge dangerousPair isDangerous
+unfolding nodes nodesAt W R T holds sameRelation leads binds hasParent guardedNear guardedFar shielded forward back placeAt graphOf isEdge
+    dangerousPair isDangerous
 part-dangerous = refl
 
 -- the walk in the numbers of the whole

@@ -14,7 +14,8 @@ use Rattle.spec_text.specs.declared.StatementKind.the-variants.{Is, Ks, Ps, Ku}
 use Rattle.spec_graph.specs.Graph.{Flow, Graph}
 use Rattle.spec_graph.specs.Program.{statementOf, inFrontOf, runOf, programsOf, linksOf}
 use Rattle.spec_graph.specs.Unfolding.{inside, occurrences, pairs, unfoldings, nodesOfProgram, nodesFrom, nodesOf}
-use Rattle.spec_graph.specs.Edge.{W, R, T, holds, sameRelation, leads, binds, hasParent, guardedNear, guardedFar, shielded, forward, back, placeAt, graphOf}
+use Rattle.spec_graph.specs.Edge.{W, R, T, holds, sameRelation, leads, binds}
+use Rattle.spec_graph.specs.Edge.{hasParent, guardedNear, guardedFar, shielded, forward, back, placeAt, graphOf}
 use Rattle.law_walk.specs.ClosedWalks.{Hop, Fits}
 use Rattle.law_walk.specs.Reach.{leavesFor, joins, joinedTo, grow, reachedFrom, opens, closesAt, dangerTest}
 

@@ -183,7 +183,8 @@ module _ (text : List ℕ) (lines : List Line) (taken : read text ≡ accepted l
       let t = told j n (found .1) in
       let links = linksIn (lineTable lines) (getD firsts (n .program) 0) in
       let here =
-      ap₂ (λ (p k : ℕ). nodeRows (lineTable lines) (linksIn (lineTable lines) (getD firsts p 0)) j area (totalOf lengths j) k) (t .program) (t .places)
+      ap₂ (λ (p k : ℕ). nodeRows (lineTable lines) (linksIn (lineTable lines) (getD firsts p 0)) j area (totalOf lengths j) k)
+      (t .program) (t .places)
       ∙ node-rows text lines taken links j n (t .begins) (take (length (n .places)) (drop (statementsIn (take j nodes)) words))
       (node-words lines nodes words stand j (found .1)) area (totalOf lengths j) (area-words j n (found .1)) in
       let many : 0 + length (take j nodes) ≡ j = omega (arith, length-take j nodes) in

@@ -318,7 +318,8 @@ node-begins text lines h n m =
     ap (λ (k : ℕ). getD (begunIn (lineTable lines) .firsts) k 0) q ∙ begun-lines lines .same (t .index) (omega arith) (omega arith) in
     rw same (begins t (program-begins [] lines (t .index) (t .there)))
   where
-    begins : (t : FromProgram 0 (programsOf lines) n) {first : ℕ} → Begins lines first (t .program) → NodeBegins lines n (linksIn (lineTable lines) first)
+    begins : (t : FromProgram 0 (programsOf lines) n) {first : ℕ} → Begins lines first (t .program)
+        → NodeBegins lines n (linksIn (lineTable lines) first)
     begins t {first} b =
         let own = drop first lines in
         let links = links-begin lines first (b .inside) in

@@ -15,7 +15,8 @@ use Rattle.spec_text.specs.declared.Line.{Line}
 use Rattle.spec_text.specs.declared.StatementKind.{StatementKind}
 use Rattle.spec_graph.specs.Program.{Statement}
 use Rattle.spec_graph.specs.Unfolding.{Occurrence, occurrences}
-use Rattle.spec_graph.specs.Edge.{Letter, at, holds, sameRelation, guardedNear, guardedFar, shielded, forward, back, stands, hasReads, hasTests, selects, loosens}
+use Rattle.spec_graph.specs.Edge.{Letter, at, holds, sameRelation, guardedNear, guardedFar, shielded}
+use Rattle.spec_graph.specs.Edge.{forward, back, stands, hasReads, hasTests, selects, loosens}
 use Rattle.spec_graph.specs.Edge.Letter.{A, B, C, D, E}
 use Rattle.spec_schedule.specs.Event.{Action, Event, isRead, isWrite, isPredicateRead}
 use Rattle.spec_schedule.specs.Event.Action.{read, write, insert, delete, predicateRead, commit}

@@ -11,7 +11,8 @@ use Rattle.spec_text.specs.declared.StatementKind.the-variants.{Is, Ks, Ps, Ku,
 use Rattle.spec_graph.specs.Graph.{Flow, Graph, isBack}
 use Rattle.spec_graph.specs.Program.{statementOf, inFrontOf, runOf, programsOf, linksOf}
 use Rattle.spec_graph.specs.Unfolding.{inside, occurrences, pairs, unfoldings, nodesOfProgram, nodesFrom, nodesOf}
-use Rattle.spec_graph.specs.Edge.{Letter, Edge, W, R, T, holds, sameRelation, leads, binds, hasParent, guardedNear, guardedFar, shielded, forward, back}
+use Rattle.spec_graph.specs.Edge.{Letter, Edge, W, R, T, holds, sameRelation}
+use Rattle.spec_graph.specs.Edge.{leads, binds, hasParent, guardedNear, guardedFar, shielded, forward, back}
 use Rattle.spec_graph.specs.Edge.{placesFrom, placesOf, letterOf, shared, edgeOf, edgesBetween, edgesOf, placeAt, graphOf}
 use Rattle.spec_graph.specs.Walk.{Step, isEdge, dangerousPair, isDangerous}
 

@@ -20,7 +20,8 @@ use Rattle.spec_text.specs.Quoted.{bytes, text, readBytes}
 use Rattle.spec_graph.specs.Graph.{Flow}
 use Rattle.spec_graph.specs.Program.{statementOf, inFrontOf, runOf, linksOf, programsOf}
 use Rattle.spec_graph.specs.Unfolding.{inside, occurrences, pairs, unfoldings, nodesOfProgram, nodesFrom, nodesOf}
-use Rattle.spec_graph.specs.Edge.{W, R, T, holds, sameRelation, leads, binds, hasParent, guardedNear, guardedFar, shielded, forward, back, placesFrom, placesOf, letterOf}
+use Rattle.spec_graph.specs.Edge.{W, R, T, holds, sameRelation, leads, binds, hasParent}
+use Rattle.spec_graph.specs.Edge.{guardedNear, guardedFar, shielded, forward, back, placesFrom, placesOf, letterOf}
 use Rattle.spec_graph.specs.Edge.{shared, edgeOf, edgesBetween, edgesOf, placeAt, graphOf}
 use Rattle.spec_graph.specs.Walk.{Step, isEdge, dangerousPair, isDangerous}
 use Rattle.spec_graph.specs.FirstWalkExamples.{forth, return}
@@ -147,7 +148,8 @@ lostUpdates =
 
 edgesShort : List Line → ℕ → Bool
 unfolding
-    many shortForEdges W R T holds sameRelation leads binds hasParent guardedNear guardedFar shielded forward back placesFrom placesOf letterOf shared edgeOf edgesBetween
+    many shortForEdges W R T holds sameRelation leads binds hasParent guardedNear guardedFar shielded forward back placesFrom placesOf
+    letterOf shared edgeOf edgesBetween
     edgesOf onesIn trailingZeros
 edgesShort lines area = shortForEdges lines area
 

@@ -34,7 +34,8 @@ loop-again : tie.Need-loop-again Inv-loop μ-loop
 loop-again c =
     let link = c .before in
     let code = link .before .before in
-    links-next _ _ _ _ (code .before .loop-test .taken) _ (code .word-at .ensures) (link .before .if1 .left) (link .if2 .left) _ (c .word-at2 .ensures)
+    let inside = code .before .loop-test .taken in
+    links-next _ _ _ _ inside _ (code .word-at .ensures) (link .before .if1 .left) (link .if2 .left) _ (c .word-at2 .ensures)
     ∙ code .before .before .loop .inv
 
 returns-3 : tie.Need-returns-3 Inv-loop μ-loop
