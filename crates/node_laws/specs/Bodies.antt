@@ -75,6 +75,41 @@ bodyOf (l ∷ lines) =
       | En ↦ l ∷ bodyOf lines
     ]
 
+-- it ends before a `pr` or a link, and has every other line
+pub bodyOf-end : (l : Line) (lines : List Line) → (l .kind ≡ Pr) ⊎ (l .kind ≡ Li) → bodyOf (l ∷ lines) ≡ []
+unfolding bodyOf
+bodyOf-end l lines (inl e) = rw (e, bodyOf) refl
+bodyOf-end l lines (inr e) = rw (e, bodyOf) refl
+
+pub bodyOf-later : (l : Line) (lines : List Line) → (l .kind ≡ Pr → ⊥) → (l .kind ≡ Li → ⊥) → bodyOf (l ∷ lines) ≡ l ∷ bodyOf lines
+unfolding bodyOf
+bodyOf-later l lines p q = go (l .kind) refl
+  where
+    found : LineKind → List Line
+    found c =
+        elim c [
+          | Li ↦ []
+          | Pr ↦ []
+          | Rl ↦ l ∷ bodyOf lines
+          | Fk ↦ l ∷ bodyOf lines
+          | St k ↦ l ∷ bodyOf lines
+          | Lo ↦ l ∷ bodyOf lines
+          | Br ↦ l ∷ bodyOf lines
+          | El ↦ l ∷ bodyOf lines
+          | En ↦ l ∷ bodyOf lines
+        ]
+
+    go : (c : LineKind) → l .kind ≡ c → found c ≡ l ∷ bodyOf lines
+    go Li e = absurd (q e)
+    go Pr e = absurd (p e)
+    go (St k) e = refl
+    go Rl e = refl
+    go Fk e = refl
+    go Lo e = refl
+    go Br e = refl
+    go El e = refl
+    go En e = refl
+
 -- ---- the run at a line
 
 -- a run ends before a line of this kind

@@ -12,6 +12,8 @@ use Rattle.spec_text.specs.declared.LineKind.the-variants.{Rl, Fk, Pr, St, Lo, 
 use Rattle.spec_text.specs.declared.StatementKind.{StatementKind}
 use Rattle.spec_graph.specs.Program.{Statement, Item, Run, Program, Parsed, statementOf, inFrontOf, runOf, linksOf, programsOf}
 use Rattle.spec_graph.specs.Program.Item.{statement, loop, branch}
+use Rattle.node_laws.specs.LineCases.{LineCase, line-case, link-program, programAfter, programs-here, programs-later}
+use Rattle.node_laws.specs.LineCases.LineCase.{is-program, is-link, is-other}
 use Rattle.spec_graph.specs.Program.Run.{done, next}
 use Rattle.spec_graph.specs.Unfolding.{Execution, ItemExecution, Turns, Occurrence, inside, occurrences, itemOccurrences, turnOccurrences}
 use Rattle.spec_graph.specs.Unfolding.Execution.{end, step}
@@ -143,36 +145,17 @@ module _ (P : Statement → Type 0) where
   pub program-holds : (lines : List Line) → OnLines lines → (p : Program) → List·Memᴰ p (programsOf lines) → AllRun (p .body)
   unfolding programsOf
   program-holds [] h p m = absurd (List·Memᴰ·not-nil m)
-  program-holds (l ∷ lines) h p m = go (l .kind) (λ m. program-holds lines (fewer l lines h) p m) m
+  program-holds (l ∷ lines) h p m = go (line-case (l .kind)) (λ m. program-holds lines (fewer l lines h) p m)
     where
-      this : Program
-      this = record { body = runOf (length lines) lines .run; links = linksOf lines }
-
-      found : LineKind → List Program
-      found kind =
-          elim kind [
-            | Pr ↦ this ∷ programsOf lines
-            | Rl ↦ programsOf lines
-            | Fk ↦ programsOf lines
-            | St k ↦ programsOf lines
-            | Lo ↦ programsOf lines
-            | Br ↦ programsOf lines
-            | El ↦ programsOf lines
-            | En ↦ programsOf lines
-            | Li ↦ programsOf lines
-          ]
-
-      first : (p ≡ this) ⊎ List·Memᴰ p (programsOf lines) → (List·Memᴰ p (programsOf lines) → AllRun (p .body)) → AllRun (p .body)
+      first : (p ≡ programAfter l lines) ⊎ List·Memᴰ p (programsOf lines) → (List·Memᴰ p (programsOf lines) → AllRun (p .body)) → AllRun (p .body)
       first (inl e) again = subst (λ (p : Program). AllRun (p .body)) (sym e) (run-holds (length lines) lines (fewer l lines h) .run)
       first (inr m) again = again m
 
-      go : (c : LineKind) → (List·Memᴰ p (programsOf lines) → AllRun (p .body)) → List·Memᴰ p (found c) → AllRun (p .body)
-      go Pr again m = first (List·Memᴰ·cases-cons m) again
-      go Rl again m = again m
-      go Fk again m = again m
-      go (St k) again m = again m
-      go Lo again m = again m
-      go Br again m = again m
-      go El again m = again m
-      go En again m = again m
-      go Li again m = again m
+      past : (l .kind ≡ Pr → ⊥) → List·Memᴰ p (programsOf lines)
+      past d = subst (λ (x : List Program). List·Memᴰ p x) (programs-later l lines d) m
+
+      go : LineCase (l .kind) → (List·Memᴰ p (programsOf lines) → AllRun (p .body)) → AllRun (p .body)
+      go (is-program e) again =
+          first (List·Memᴰ·cases-cons (subst (λ (x : List Program). List·Memᴰ p x) (programs-here l lines e) m)) again
+      go (is-link e) again = again (past (link-program e))
+      go (is-other d q) again = again (past d)

@@ -14,9 +14,11 @@ use Rattle.spec_base.specs.Basic.{any}
 use Rattle.law_base.specs.BoolLaws.{or-of}
 use Rattle.law_base.specs.ListLaws.{map-member}
 use Rattle.spec_text.specs.declared.Line.{Line}
-use Rattle.spec_text.specs.declared.LineKind.{LineKind}
-use Rattle.spec_text.specs.declared.LineKind.the-variants.{Rl, Fk, Pr, St, Lo, Br, El, En, Li}
-use Rattle.spec_text.specs.Reading.{sort, isProgram}
+use Rattle.spec_text.specs.declared.LineKind.the-variants.{Pr, Li}
+use Rattle.spec_text.specs.Reading.{isProgram}
+use Rattle.node_laws.specs.LineCases.{LineCase, line-case, link-program, no-program, programs-here, programs-later, links-here, links-end}
+use Rattle.node_laws.specs.LineCases.{links-later}
+use Rattle.node_laws.specs.LineCases.LineCase.{is-program, is-link, is-other}
 use Rattle.spec_graph.specs.Program.{Link, Program, runOf, linksOf, programsOf}
 use Rattle.spec_graph.specs.Unfolding.{Node, Occurrence, Execution, occurrences, unfoldings, nodesOfProgram, nodesFrom}
 
@@ -33,7 +35,7 @@ pub record OwnProgram (lines : List Line) (p : Program) : Type 0 where
 pub own-program : (lines : List Line) (p : Program) → List·Memᴰ p (programsOf lines) → OwnProgram lines p
 unfolding programsOf
 own-program [] p m = absurd (List·Memᴰ·not-nil m)
-own-program (l ∷ lines) p m = go (l .kind) refl (λ r. later (own-program lines p r)) m
+own-program (l ∷ lines) p m = go (line-case (l .kind)) (λ r. later (own-program lines p r))
   where
     later : OwnProgram lines p → OwnProgram (l ∷ lines) p
     later o =
@@ -46,35 +48,17 @@ own-program (l ∷ lines) p m = go (l .kind) refl (λ r. later (own-program line
           same = o .same;
         }
 
-    found : LineKind → List Program
-    found c =
-        elim c [
-          | Pr ↦ record { body = runOf (length lines) lines .run; links = linksOf lines } ∷ programsOf lines
-          | Rl ↦ programsOf lines
-          | Fk ↦ programsOf lines
-          | St k ↦ programsOf lines
-          | Lo ↦ programsOf lines
-          | Br ↦ programsOf lines
-          | El ↦ programsOf lines
-          | En ↦ programsOf lines
-          | Li ↦ programsOf lines
-        ]
+    past : (l .kind ≡ Pr → ⊥) → List·Memᴰ p (programsOf lines)
+    past d = subst (λ (x : List Program). List·Memᴰ p x) (programs-later l lines d) m
 
-    go : (c : LineKind) → l .kind ≡ c → (List·Memᴰ p (programsOf lines) → OwnProgram (l ∷ lines) p) → List·Memᴰ p (found c)
-        → OwnProgram (l ∷ lines) p
-    go Pr e rest r =
+    go : LineCase (l .kind) → (List·Memᴰ p (programsOf lines) → OwnProgram (l ∷ lines) p) → OwnProgram (l ∷ lines) p
+    go (is-program e) rest =
         ⊎-elim
         (λ s. record { front = []; line = l; own = lines; joined = refl; kind = e; same = s })
         rest
-        (List·Memᴰ·cases-cons r)
-    go Rl e rest r = rest r
-    go Fk e rest r = rest r
-    go (St k) e rest r = rest r
-    go Lo e rest r = rest r
-    go Br e rest r = rest r
-    go El e rest r = rest r
-    go En e rest r = rest r
-    go Li e rest r = rest r
+        (List·Memᴰ·cases-cons (subst (λ (x : List Program). List·Memᴰ p x) (programs-here l lines e) m))
+    go (is-link e) rest = rest (past (link-program e))
+    go (is-other d q) rest = rest (past d)
 
 -- a link of a program stands on an `li` line of its own, with no `pr` before it
 pub record OwnLink (own : List Line) (link : Link) : Type 0 where
@@ -88,9 +72,9 @@ pub record OwnLink (own : List Line) (link : Link) : Type 0 where
 
 -- T6: each link has its `li` line, for `linksOf` reads one off each up to the next `pr`
 pub own-link : (own : List Line) (link : Link) → List·Memᴰ link (linksOf own) → OwnLink own link
-unfolding linksOf isProgram sort
+unfolding linksOf
 own-link [] link m = absurd (List·Memᴰ·not-nil m)
-own-link (l ∷ lines) link m = go (l .kind) refl (λ e r. later e (own-link lines link r)) m
+own-link (l ∷ lines) link m = go (line-case (l .kind)) (λ e r. later e (own-link lines link r))
   where
     later : isProgram l ≡ false → OwnLink lines link → OwnLink (l ∷ lines) link
     later e o =
@@ -104,35 +88,14 @@ own-link (l ∷ lines) link m = go (l .kind) refl (λ e r. later e (own-link lin
           same = o .same;
         }
 
-    found : LineKind → List Link
-    found c =
-        elim c [
-          | Li ↦ record { key = l .id; child = l .rel; parent = l .to } ∷ linksOf lines
-          | Pr ↦ []
-          | Rl ↦ linksOf lines
-          | Fk ↦ linksOf lines
-          | St k ↦ linksOf lines
-          | Lo ↦ linksOf lines
-          | Br ↦ linksOf lines
-          | El ↦ linksOf lines
-          | En ↦ linksOf lines
-        ]
-
-    go : (c : LineKind) → l .kind ≡ c → (isProgram l ≡ false → List·Memᴰ link (linksOf lines) → OwnLink (l ∷ lines) link)
-        → List·Memᴰ link (found c) → OwnLink (l ∷ lines) link
-    go Li e rest h =
+    go : LineCase (l .kind) → (isProgram l ≡ false → List·Memᴰ link (linksOf lines) → OwnLink (l ∷ lines) link) → OwnLink (l ∷ lines) link
+    go (is-link e) rest =
         ⊎-elim
         (λ s. record { passed = []; line = l; after = lines; joined = refl; none = refl; kind = e; same = s })
-        (rest (rw e refl))
-        (List·Memᴰ·cases-cons h)
-    go Pr e rest h = absurd (List·Memᴰ·not-nil h)
-    go Rl e rest h = rest (rw e refl) h
-    go Fk e rest h = rest (rw e refl) h
-    go (St k) e rest h = rest (rw e refl) h
-    go Lo e rest h = rest (rw e refl) h
-    go Br e rest h = rest (rw e refl) h
-    go El e rest h = rest (rw e refl) h
-    go En e rest h = rest (rw e refl) h
+        (rest (no-program l (link-program e)))
+        (List·Memᴰ·cases-cons (subst (λ (x : List Link). List·Memᴰ link x) (links-here l lines e) m))
+    go (is-program e) rest = absurd (List·Memᴰ·not-nil (subst (λ (x : List Link). List·Memᴰ link x) (links-end l lines e) m))
+    go (is-other p q) rest = rest (no-program l p) (subst (λ (x : List Link). List·Memᴰ link x) (links-later l lines p q) m)
 
 -- a link comes from an `li` line, whose id is the link's key
 pub record FromLink (lines : List Line) (link : Link) : Type 0 where

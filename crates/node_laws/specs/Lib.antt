@@ -1,3 +1,4 @@
+pub mod LineCases
 pub mod FromLines
 pub mod FromLinks
 pub mod GivenNodes

@@ -1,6 +1,7 @@
 -- Where the links of a program begin in the table of lines, and that its marks are those of its statements that shield.
 use mathlib.Core.Bool.{Bool, true, false, cond, _&&_, _||_}
 use mathlib.Core.List.{List, [], _∷_}
+use mathlib.Core.Logic.{inl, inr}
 use mathlib.Core.Path.{_≡_, refl, sym, ap, _∙_}
 use Prim.Native.Nat.{ℕ, zero, suc, _+_, _*_, _-_, _/_, _^_, _≤_, _<_}
 use native.Mathlib.Omega.{arith}
@@ -16,13 +17,14 @@ use Rattle.spec_text.specs.declared.Line.{Line}
 use Rattle.spec_text.specs.declared.LineKind.{LineKind}
 use Rattle.spec_text.specs.declared.LineKind.the-variants.{Rl, Fk, Pr, St, Lo, Br, El, En, Li}
 use Rattle.spec_text.specs.Reading.{isStatementOf}
-use Rattle.spec_graph.specs.Program.{Link, linksOf}
+use Rattle.spec_graph.specs.Program.{linksOf}
 use Rattle.spec_graph.specs.Edge.{shields}
-use Rattle.node_laws.specs.Bodies.{bodyOf}
+use Rattle.node_laws.specs.Bodies.{bodyOf, bodyOf-end, bodyOf-later}
+use Rattle.node_laws.specs.LineCases.{LineCase, line-case, link-program, links-later}
+use Rattle.node_laws.specs.LineCases.LineCase.{is-program, is-link, is-other}
 use Rattle.unfold_laws.specs.Codes.{markIn, bitIn}
 use Rattle.value_tables.specs.Lines.{lineNumber, lineWords, lineTable}
-use Rattle.value_tables.specs.LineLaws.{lineTable-length, cell-at, number-at, kind-not, mark-told}
-use Rattle.place_row.specs.RowTable.{kindNumber}
+use Rattle.value_tables.specs.LineLaws.{lineTable-length, cell-at, number-at, number-names, mark-told}
 use Rattle.place_laws.specs.Keys.{eqb-comm}
 use Rattle.place_keys.specs.declared.Links.{Links}
 use Rattle.place_keys.specs.LineKeys.{linksFrom, linksIn}
@@ -86,67 +88,33 @@ module _ (lines : List Line) where
   step : (n i : ℕ) (l : Line) (rest : List Line) (marks : ℕ) → i ≤ length lines → drop i lines ≡ l ∷ rest → drop (i + 1) lines ≡ rest
       → getD table (i * 8) 0 ≡ lineNumber (l .kind) → getD table (i * 8 + 7) 0 ≡ markIn (l .kind) (l .id)
       → ((marks : ℕ) → LinksAt lines (i + 1) marks (linksFrom n table (i + 1) marks)) → LinksAt lines i marks (linksFrom (suc n) table i marks)
-  unfolding linksFrom linksOf bodyOf
-  step n i l rest marks inside here next number mark again =
-      let t = go (l .kind) refl number in
-      record { inside = t .0; links = t .1 ∙ sym (ap linksOf here); marks-are = t .2 ∙ sym (ap (λ (x : List Line). marked marks (bodyOf x)) here) }
+  unfolding linksFrom
+  step n i l rest marks inside here next number mark again = go (line-case (l .kind))
     where
-      linksBy : LineKind → List Link
-      linksBy c =
-          elim c [
-            | Li ↦ record { key = l .id; child = l .rel; parent = l .to } ∷ linksOf rest
-            | Pr ↦ []
-            | Rl ↦ linksOf rest
-            | Fk ↦ linksOf rest
-            | St k ↦ linksOf rest
-            | Lo ↦ linksOf rest
-            | Br ↦ linksOf rest
-            | El ↦ linksOf rest
-            | En ↦ linksOf rest
-          ]
+      code : ℕ
+      code = getD table (i * 8) 0
 
-      bodyBy : LineKind → List Line
-      bodyBy c =
-          elim c [
-            | Li ↦ []
-            | Pr ↦ []
-            | Rl ↦ l ∷ bodyOf rest
-            | Fk ↦ l ∷ bodyOf rest
-            | St k ↦ l ∷ bodyOf rest
-            | Lo ↦ l ∷ bodyOf rest
-            | Br ↦ l ∷ bodyOf rest
-            | El ↦ l ∷ bodyOf rest
-            | En ↦ l ∷ bodyOf rest
-          ]
+      -- the search ends here, where the body does
+      ends : bodyOf (l ∷ rest) ≡ [] → LinksAt lines i marks (record { first = i; marks = marks })
+      ends none =
+          record { inside = inside; links = refl; marks-are = sym (ap (λ (x : List Line). marked marks (bodyOf x)) here ∙ ap (marked marks) none) }
 
-      Gives : LineKind → Links → Type 0
-      Gives c r =
-          (r .first ≤ length lines) × (linksOf (drop (r .first) lines) ≡ linksBy c) × (r .marks ≡ marked marks (bodyBy c))
-
-      other : (m : ℕ) → getD table (i * 8) 0 ≡ m → (m ≡ 7 → ⊥) → (m ≡ 8 → ⊥)
-          → (linksFrom (suc n) table i marks .first ≤ length lines)
-          × (linksOf (drop (linksFrom (suc n) table i marks .first) lines) ≡ linksOf rest)
-          × (linksFrom (suc n) table i marks .marks ≡ marked (bitOr marks (markIn (l .kind) (l .id))) (bodyOf rest))
-      other m e a b =
-          let r = again (bitOr marks (markIn (l .kind) (l .id))) in
-          rw (ne-eqb (getD table (i * 8) 0) 7 (λ x. a (sym e ∙ x)), ne-eqb (getD table (i * 8) 0) 8 (λ x. b (sym e ∙ x)), mark) (
-            r .inside,
-            r .links ∙ ap linksOf next,
-            r .marks-are ∙ ap (λ (x : List Line). marked (bitOr marks (markIn (l .kind) (l .id))) (bodyOf x)) next,
-          )
-
-      go : (c : LineKind) → l .kind ≡ c → getD table (i * 8) 0 ≡ lineNumber c → Gives c (linksFrom (suc n) table i marks)
-      go Li e f =
-          rw (ne-eqb (getD table (i * 8) 0) 7 (λ x. let z : 8 ≡ 7 = sym f ∙ x in omega arith), eq-eqb (getD table (i * 8) 0) 8 f)
-          (inside, ap linksOf here ∙ ap linksBy e, refl)
-      go Pr e f = rw (eq-eqb (getD table (i * 8) 0) 7 f) (inside, ap linksOf here ∙ ap linksBy e, refl)
-      go (St k) e f = other (kindNumber k) f (kind-not k .0) (kind-not k .1)
-      go Rl e f = other 11 f (λ x. omega arith) (λ x. omega arith)
-      go Fk e f = other 11 f (λ x. omega arith) (λ x. omega arith)
-      go Lo e f = other 9 f (λ x. omega arith) (λ x. omega arith)
-      go Br e f = other 10 f (λ x. omega arith) (λ x. omega arith)
-      go El e f = other 11 f (λ x. omega arith) (λ x. omega arith)
-      go En e f = other 11 f (λ x. omega arith) (λ x. omega arith)
+      go : LineCase (l .kind) → LinksAt lines i marks (linksFrom (suc n) table i marks)
+      go (is-program e) = rw (eq-eqb code 7 (number ∙ ap lineNumber e)) (ends (bodyOf-end l rest (inl e)))
+      go (is-link e) =
+          rw (ne-eqb code 7 (λ x. link-program e (number-names (l .kind) .0 (sym number ∙ x))), eq-eqb code 8 (number ∙ ap lineNumber e))
+          (ends (bodyOf-end l rest (inr e)))
+      go (is-other p q) =
+          let word = bitOr marks (markIn (l .kind) (l .id)) in
+          let r = again word in
+          rw (ne-eqb code 7 (λ x. p (number-names (l .kind) .0 (sym number ∙ x))), ne-eqb code 8 (λ x. q (number-names (l .kind) .1 (sym number ∙ x))), mark)
+          (record {
+            inside = r .inside;
+            links = r .links ∙ ap linksOf next ∙ sym (ap linksOf here ∙ links-later l rest p q);
+            marks-are =
+                r .marks-are ∙ ap (λ (x : List Line). marked word (bodyOf x)) next
+                ∙ sym (ap (λ (x : List Line). marked marks (bodyOf x)) here ∙ ap (marked marks) (bodyOf-later l rest p q));
+          })
 
   mark-at : (i : ℕ) (d : Line) → i < length lines → getD table (i * 8 + 7) 0 ≡ markIn (getD lines i d .kind) (getD lines i d .id)
   unfolding lineWords

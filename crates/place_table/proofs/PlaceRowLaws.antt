@@ -10,11 +10,11 @@ use lib.Seq.{drop-cons, getD-append-add}
 use borrow.Author.Tests.{eq-eqb, ne-eqb}
 use Rattle.law_base.specs.ListLaws.{getElem?-lt, some-injective}
 use Rattle.spec_text.specs.declared.Line.{Line}
-use Rattle.spec_text.specs.declared.LineKind.{LineKind}
-use Rattle.spec_text.specs.declared.LineKind.the-variants.{Rl, Fk, Pr, St, Lo, Br, El, En, Li}
 use Rattle.spec_graph.specs.Program.{Statement, Link, statementOf, linksOf}
 use Rattle.spec_graph.specs.Unfolding.{Occurrence, Node}
 use Rattle.spec_graph.specs.Edge.{R, W, T, Place, at}
+use Rattle.node_laws.specs.LineCases.{LineCase, line-case, link-program, links-here, links-end, links-later}
+use Rattle.node_laws.specs.LineCases.LineCase.{is-program, is-link, is-other}
 use Rattle.place_row.specs.RowTable.{kindNumber, rowOf, wordsOf}
 use Rattle.unfold_laws.specs.Seen.{StandsFor, seenAt}
 use Rattle.place_laws.specs.Ids.{FromLine, statement-line}
@@ -22,7 +22,7 @@ use Rattle.place_laws.specs.Guarded.{IdsSmall, Marked}
 use Rattle.place_laws.specs.Keys.{withLink, keysOf, near-keys, far-keys}
 use Rattle.unfold_laws.specs.WordCode.{lineIn}
 use Rattle.value_tables.specs.Lines.{lineNumber, lineWords, lineTable}
-use Rattle.value_tables.specs.LineLaws.{lineTable-length, cell-at, number-at, kind-not, sets-told}
+use Rattle.value_tables.specs.LineLaws.{lineTable-length, cell-at, number-at, number-names, sets-told}
 use Rattle.place_keys.specs.declared.Links.{Links}
 use Rattle.place_keys.specs.LineKeys.{linkOf, linkAt, keyAt, keysFrom, placeKeys}
 use Rattle.place_table.specs.RowWords.{rowWords}
@@ -38,40 +38,22 @@ module _ (lines : List Line) (child seen : ℕ) where
       → linkAt table i ≡ linkOf (l .id) (l .rel) (l .to)
       → ((word : ℕ) → keysFrom n table (i + 1) child seen word ≡ keysOf child seen (linksOf rest) word)
       → keysFrom (suc n) table i child seen word ≡ keysOf child seen (linksOf (l ∷ rest)) word
-  unfolding keysFrom keyAt linksOf keysOf
-  step n i l rest word first link again = go (l .kind) first
+  unfolding keysFrom keyAt keysOf
+  step n i l rest word first link again = go (line-case (l .kind))
     where
-      found : LineKind → List Link
-      found c =
-          elim c [
-            | Li ↦ record { key = l .id; child = l .rel; parent = l .to } ∷ linksOf rest
-            | Pr ↦ []
-            | Rl ↦ linksOf rest
-            | Fk ↦ linksOf rest
-            | St k ↦ linksOf rest
-            | Lo ↦ linksOf rest
-            | Br ↦ linksOf rest
-            | El ↦ linksOf rest
-            | En ↦ linksOf rest
-          ]
+      code : ℕ
+      code = getD table (i * 8) 0
 
-      other : (m : ℕ) → getD table (i * 8) 0 ≡ m → (m ≡ 7 → ⊥) → (m ≡ 8 → ⊥)
-          → keysFrom (suc n) table i child seen word ≡ keysOf child seen (linksOf rest) word
-      other m e a b =
-          rw (ne-eqb (getD table (i * 8) 0) 7 (λ x. a (sym e ∙ x)), ne-eqb (getD table (i * 8) 0) 8 (λ x. b (sym e ∙ x))) (again word)
-
-      go : (c : LineKind) → getD table (i * 8) 0 ≡ lineNumber c → keysFrom (suc n) table i child seen word ≡ keysOf child seen (found c) word
-      go Li e =
-          rw (ne-eqb (getD table (i * 8) 0) 7 (λ x. let z : 8 ≡ 7 = sym e ∙ x in omega arith), eq-eqb (getD table (i * 8) 0) 8 e, link)
-          (again (withLink child seen (linkOf (l .id) (l .rel) (l .to)) word))
-      go Pr e = rw (eq-eqb (getD table (i * 8) 0) 7 e) refl
-      go (St k) e = other (kindNumber k) e (kind-not k .0) (kind-not k .1)
-      go Rl e = other 11 e (λ x. omega arith) (λ x. omega arith)
-      go Fk e = other 11 e (λ x. omega arith) (λ x. omega arith)
-      go Lo e = other 9 e (λ x. omega arith) (λ x. omega arith)
-      go Br e = other 10 e (λ x. omega arith) (λ x. omega arith)
-      go El e = other 11 e (λ x. omega arith) (λ x. omega arith)
-      go En e = other 11 e (λ x. omega arith) (λ x. omega arith)
+      go : LineCase (l .kind) → keysFrom (suc n) table i child seen word ≡ keysOf child seen (linksOf (l ∷ rest)) word
+      go (is-program e) =
+          rw (eq-eqb code 7 (first ∙ ap lineNumber e)) (sym (ap (λ (k : List Link). keysOf child seen k word) (links-end l rest e)))
+      go (is-link e) =
+          rw (ne-eqb code 7 (λ x. link-program e (number-names (l .kind) .0 (sym first ∙ x))), eq-eqb code 8 (first ∙ ap lineNumber e), link)
+          (again (withLink child seen (linkOf (l .id) (l .rel) (l .to)) word)
+          ∙ sym (ap (λ (k : List Link). keysOf child seen k word) (links-here l rest e)))
+      go (is-other p q) =
+          rw (ne-eqb code 7 (λ x. p (number-names (l .kind) .0 (sym first ∙ x))), ne-eqb code 8 (λ x. q (number-names (l .kind) .1 (sym first ∙ x))))
+          (again word ∙ sym (ap (λ (k : List Link). keysOf child seen k word) (links-later l rest p q)))
 
   link-cells : (i : ℕ) (e : Line) → i < length lines → linkAt table i ≡ linkOf (getD lines i e .id) (getD lines i e .rel) (getD lines i e .to)
   unfolding linkAt lineWords

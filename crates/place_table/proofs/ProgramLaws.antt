@@ -18,7 +18,7 @@ use Rattle.spec_base.specs.Basic.{any, count, has}
 use Rattle.law_base.specs.ListLaws.{some-injective, getElem?-found, getElem?-lt, map-member}
 use Rattle.spec_text.specs.declared.Line.{Line}
 use Rattle.spec_text.specs.declared.LineKind.{LineKind}
-use Rattle.spec_text.specs.declared.LineKind.the-variants.{Rl, Fk, Pr, St, Lo, Br, El, En, Li}
+use Rattle.spec_text.specs.declared.LineKind.the-variants.{Pr}
 use Rattle.law_base.specs.SetLaws.{has-empty}
 use Rattle.spec_text.specs.Reading.{sort, isProgram, isStatementOf, withinBounds, read}
 use Rattle.spec_text.specs.Reading.Outcome.{accepted}
@@ -28,11 +28,13 @@ use Rattle.spec_graph.specs.Program.{Program, Link, runOf, linksOf, programsOf}
 use Rattle.spec_graph.specs.Unfolding.{Node, Occurrence, Execution, occurrences, unfoldings, nodesOfProgram, nodesFrom, nodesOf}
 use Rattle.spec_graph.specs.Edge.{shields}
 use Rattle.node_laws.specs.Bodies.{bodyOf}
+use Rattle.node_laws.specs.LineCases.{LineCase, line-case, link-program, no-program, programs-here, programs-later}
+use Rattle.node_laws.specs.LineCases.LineCase.{is-program, is-link, is-other}
 use Rattle.node_laws.specs.FromLinks.{FromProgram, node-program}
 use Rattle.node_laws.specs.GivenNodes.{accepted-nodes}
 use Rattle.node_laws.specs.BoundParents.{own-bound, own-kinds}
 use Rattle.value_tables.specs.Lines.{lineNumber, lineTable}
-use Rattle.value_tables.specs.LineLaws.{lineTable-length, number-at, kind-not}
+use Rattle.value_tables.specs.LineLaws.{lineTable-length, number-at, number-names}
 use Rattle.place_keys.specs.declared.Begun.{Begun}
 use Rattle.place_keys.specs.LineKeys.{begunWith, begunLine, begunBefore, begunIn, linksIn}
 use Rattle.place_table.proofs.PlaceRowLaws.{NodeBegins, element-default}
@@ -45,60 +47,24 @@ firstsOf i [] = []
 firstsOf i (l ∷ lines) = cond (eqb (lineNumber (l .kind)) 7) (suc i ∷ firstsOf (suc i) lines) (firstsOf (suc i) lines)
 
 -- a `pr` line, or another
-pr-cases : (c : LineKind) → (c ≡ Pr) ⊎ (eqb (lineNumber c) 7 ≡ false)
-pr-cases Pr = inl refl
-pr-cases (St k) = inr (ne-eqb (lineNumber (St k)) 7 (kind-not k .0))
-pr-cases Rl = inr refl
-pr-cases Fk = inr refl
-pr-cases Lo = inr refl
-pr-cases Br = inr refl
-pr-cases El = inr refl
-pr-cases En = inr refl
-pr-cases Li = inr refl
+pr-cases : (c : LineKind) → (c ≡ Pr) ⊎ (c ≡ Pr → ⊥)
+pr-cases c = go (line-case c)
+  where
+    go : LineCase c → (c ≡ Pr) ⊎ (c ≡ Pr → ⊥)
+    go (is-program e) = inl e
+    go (is-link e) = inr (link-program e)
+    go (is-other p q) = inr p
 
 firsts-pr : (i : ℕ) (l : Line) (lines : List Line) → l .kind ≡ Pr → firstsOf i (l ∷ lines) ≡ suc i ∷ firstsOf (suc i) lines
 unfolding firstsOf
 firsts-pr i l lines e = rw e refl
 
-firsts-other : (i : ℕ) (l : Line) (lines : List Line) → eqb (lineNumber (l .kind)) 7 ≡ false → firstsOf i (l ∷ lines) ≡ firstsOf (suc i) lines
+firsts-other : (i : ℕ) (l : Line) (lines : List Line) → (l .kind ≡ Pr → ⊥) → firstsOf i (l ∷ lines) ≡ firstsOf (suc i) lines
 unfolding firstsOf
-firsts-other i l lines e = rw e refl
+firsts-other i l lines d = rw (ne-eqb (lineNumber (l .kind)) 7 (λ e. d (number-names (l .kind) .0 e))) refl
 
 abbrev programOf : List Line → Program
 programOf lines = record { body = runOf (length lines) lines .run; links = linksOf lines }
-
-programs-pr : (l : Line) (lines : List Line) → l .kind ≡ Pr → programsOf (l ∷ lines) ≡ programOf lines ∷ programsOf lines
-unfolding programsOf
-programs-pr l lines e = rw (e, programsOf) refl
-
-programs-other : (l : Line) (lines : List Line) → eqb (lineNumber (l .kind)) 7 ≡ false → programsOf (l ∷ lines) ≡ programsOf lines
-unfolding programsOf
-programs-other l lines h = go (l .kind) h
-  where
-    found : LineKind → List Program
-    found c =
-        elim c [
-          | Pr ↦ record { body = runOf (length lines) lines .run; links = linksOf lines } ∷ programsOf lines
-          | Rl ↦ programsOf lines
-          | Fk ↦ programsOf lines
-          | St k ↦ programsOf lines
-          | Lo ↦ programsOf lines
-          | Br ↦ programsOf lines
-          | El ↦ programsOf lines
-          | En ↦ programsOf lines
-          | Li ↦ programsOf lines
-        ]
-
-    go : (c : LineKind) → eqb (lineNumber c) 7 ≡ false → found c ≡ programsOf lines
-    go Pr h = let z : _≡_ {A = ℕ} 0 1 = cc in absurd (omega arith)
-    go (St k) h = refl
-    go Rl h = refl
-    go Fk h = refl
-    go Lo h = refl
-    go Br h = refl
-    go El h = refl
-    go En h = refl
-    go Li h = refl
 
 -- as many as programs
 firsts-many : (i : ℕ) (lines : List Line) → length (firstsOf i lines) ≡ length (programsOf lines)
@@ -106,10 +72,10 @@ unfolding firstsOf programsOf
 firsts-many i [] = refl
 firsts-many i (l ∷ lines) = go (pr-cases (l .kind)) (firsts-many (suc i) lines)
   where
-    go : (l .kind ≡ Pr) ⊎ (eqb (lineNumber (l .kind)) 7 ≡ false) → length (firstsOf (suc i) lines) ≡ length (programsOf lines)
+    go : (l .kind ≡ Pr) ⊎ (l .kind ≡ Pr → ⊥) → length (firstsOf (suc i) lines) ≡ length (programsOf lines)
         → length (firstsOf i (l ∷ lines)) ≡ length (programsOf (l ∷ lines))
-    go (inl e) h = ap length (firsts-pr i l lines e) ∙ ap suc h ∙ sym (ap length (programs-pr l lines e))
-    go (inr e) h = ap length (firsts-other i l lines e) ∙ h ∙ sym (ap length (programs-other l lines e))
+    go (inl e) h = ap length (firsts-pr i l lines e) ∙ ap suc h ∙ sym (ap length (programs-here l lines e))
+    go (inr e) h = ap length (firsts-other i l lines e) ∙ h ∙ sym (ap length (programs-later l lines e))
 
 -- where a program's lines begin: after its `pr` line, and it is read off the lines from there
 record Begins (whole : List Line) (first : ℕ) (p : Program) : Type 0 where
@@ -151,16 +117,16 @@ program-begins front (l ∷ rest) q {p} e = go (pr-cases (l .kind)) q e (λ q e.
           same = sym d ∙ ap programOf (sym own);
         }
 
-    go : (l .kind ≡ Pr) ⊎ (eqb (lineNumber (l .kind)) 7 ≡ false) → (q : ℕ) → getElem? (programsOf (l ∷ rest)) q ≡ some p
+    go : (l .kind ≡ Pr) ⊎ (l .kind ≡ Pr → ⊥) → (q : ℕ) → getElem? (programsOf (l ∷ rest)) q ≡ some p
         → ((q : ℕ) → getElem? (programsOf rest) q ≡ some p
         → Begins (front ++ (l ∷ []) ++ rest) (getD (firstsOf (length (front ++ (l ∷ []))) rest) q 0) p)
         → Begins (front ++ (l ∷ rest)) (getD (firstsOf (length front) (l ∷ rest)) q 0) p
     go (inl d) zero e again =
-        rw (firsts-pr (length front) l rest d) (here d (some-injective (ap (λ (t : List Program). getElem? t 0) (sym (programs-pr l rest d)) ∙ e)))
+        rw (firsts-pr (length front) l rest d) (here d (some-injective (ap (λ (t : List Program). getElem? t 0) (sym (programs-here l rest d)) ∙ e)))
     go (inl d) (suc q) e again =
-        rw (firsts-pr (length front) l rest d) (later q (again q (ap (λ (t : List Program). getElem? t (suc q)) (sym (programs-pr l rest d)) ∙ e)))
+        rw (firsts-pr (length front) l rest d) (later q (again q (ap (λ (t : List Program). getElem? t (suc q)) (sym (programs-here l rest d)) ∙ e)))
     go (inr d) q e again =
-        rw (firsts-other (length front) l rest d) (later q (again q (ap (λ (t : List Program). getElem? t q) (sym (programs-other l rest d)) ∙ e)))
+        rw (firsts-other (length front) l rest d) (later q (again q (ap (λ (t : List Program). getElem? t q) (sym (programs-later l rest d)) ∙ e)))
 
 -- ---- the programs as they are gathered
 
@@ -263,32 +229,12 @@ last (x ∷ l) = inr (go x l (last l))
 programs-count : (lines : List Line) → length (programsOf lines) ≡ count isProgram lines
 unfolding programsOf isProgram sort
 programs-count [] = refl
-programs-count (l ∷ lines) = go (l .kind) (programs-count lines)
+programs-count (l ∷ lines) = go (pr-cases (l .kind)) (programs-count lines)
   where
-    found : LineKind → List Program
-    found c =
-        elim c [
-          | Pr ↦ record { body = runOf (length lines) lines .run; links = linksOf lines } ∷ programsOf lines
-          | Rl ↦ programsOf lines
-          | Fk ↦ programsOf lines
-          | St k ↦ programsOf lines
-          | Lo ↦ programsOf lines
-          | Br ↦ programsOf lines
-          | El ↦ programsOf lines
-          | En ↦ programsOf lines
-          | Li ↦ programsOf lines
-        ]
-
-    go : (c : LineKind) → length (programsOf lines) ≡ count isProgram lines → length (found c) ≡ cond (eqb (sort c) 2) 1 0 + count isProgram lines
-    go Pr h = omega arith
-    go (St k) h = omega arith
-    go Rl h = omega arith
-    go Fk h = omega arith
-    go Lo h = omega arith
-    go Br h = omega arith
-    go El h = omega arith
-    go En h = omega arith
-    go Li h = omega arith
+    go : (l .kind ≡ Pr) ⊎ (l .kind ≡ Pr → ⊥) → length (programsOf lines) ≡ count isProgram lines
+        → length (programsOf (l ∷ lines)) ≡ cond (isProgram l) 1 0 + count isProgram lines
+    go (inl e) h = ap length (programs-here l lines e) ∙ rw e (omega arith)
+    go (inr d) h = ap length (programs-later l lines d) ∙ rw (no-program l d) (omega arith)
 
 -- T12: at most 16 programs
 programs-few : (text : List ℕ) (lines : List Line) → read text ≡ accepted lines → length (programsOf lines) ≤ 16

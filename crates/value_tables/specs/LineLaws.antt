@@ -51,9 +51,17 @@ mark-told Fk id = refl
 mark-told El id = refl
 mark-told En id = refl
 
--- a statement's line is no `pr` and no `li`
-pub kind-not : (k : StatementKind) → (kindNumber k ≡ 7 → ⊥) × (kindNumber k ≡ 8 → ⊥)
-kind-not k = let small = number-small k in (λ e. omega arith, λ e. omega arith)
+-- a line with the number of a `pr` or of a `li` is one
+pub number-names : (c : LineKind) → (lineNumber c ≡ 7 → c ≡ Pr) × (lineNumber c ≡ 8 → c ≡ Li)
+number-names (St k) = let small = number-small k in (λ e. absurd (omega arith), λ e. absurd (omega arith))
+number-names Pr = (λ e. refl, λ e. absurd (omega arith))
+number-names Li = (λ e. absurd (omega arith), λ e. refl)
+number-names Lo = (λ e. absurd (omega arith), λ e. absurd (omega arith))
+number-names Br = (λ e. absurd (omega arith), λ e. absurd (omega arith))
+number-names Rl = (λ e. absurd (omega arith), λ e. absurd (omega arith))
+number-names Fk = (λ e. absurd (omega arith), λ e. absurd (omega arith))
+number-names El = (λ e. absurd (omega arith), λ e. absurd (omega arith))
+number-names En = (λ e. absurd (omega arith), λ e. absurd (omega arith))
 
 -- E0: the sets of a statement's line
 pub record SetsTold (k : StatementKind) : Type 0 where
