@@ -107,7 +107,8 @@ module _ (lines : List Line) where
       go (is-other p q) =
           let word = bitOr marks (markIn (l .kind) (l .id)) in
           let r = again word in
-          rw (ne-eqb code 7 (λ x. p (number-names (l .kind) .0 (sym number ∙ x))), ne-eqb code 8 (λ x. q (number-names (l .kind) .1 (sym number ∙ x))), mark)
+          let names = number-names (l .kind) in
+          rw (ne-eqb code 7 (λ x. p (names .0 (sym number ∙ x))), ne-eqb code 8 (λ x. q (names .1 (sym number ∙ x))), mark)
           (record {
             inside = r .inside;
             links = r .links ∙ ap linksOf next ∙ sym (ap linksOf here ∙ links-later l rest p q);
