@@ -51,13 +51,13 @@ linkAt lines i = linkOf (getD lines (i * 8 + 1) 0) (getD lines (i * 8 + 2) 0) (g
 
 -- a line's part: only a `li` line has one
 unfoldable pub keyAt : List ℕ → ℕ → ℕ → ℕ → ℕ → ℕ
-keyAt lines i child seen word = cond (eqb (getD lines (i * 8) 0) 8) (withLink child seen (linkAt lines i) word) word
+keyAt lines i child parents word = cond (eqb (getD lines (i * 8) 0) 8) (withLink child parents (linkAt lines i) word) word
 
 -- the lines from i on, at most n of them, up to the next `pr`
 unfoldable pub keysFrom : ℕ → List ℕ → ℕ → ℕ → ℕ → ℕ → ℕ
-keysFrom zero lines i child seen word = word
-keysFrom (suc n) lines i child seen word =
-    cond (eqb (getD lines (i * 8) 0) 7) word (keysFrom n lines (i + 1) child seen (keyAt lines i child seen word))
+keysFrom zero lines i child parents word = word
+keysFrom (suc n) lines i child parents word =
+    cond (eqb (getD lines (i * 8) 0) 7) word (keysFrom n lines (i + 1) child parents (keyAt lines i child parents word))
 
 -- E3: the keys of a place whose program's links begin at a line, by what is seen and by what is marked, as the word of a row
 unfoldable pub placeKeys : List ℕ → ℕ → ℕ → ℕ → ℕ → ℕ

@@ -56,10 +56,11 @@ pub fn programs_in(lines: &[u64]) -> Begun
     b
 }
 
-// A line's part in the keys of a child: a `li` line of this child adds its key where the parent is seen.
-fn key_at(lines: &[u64], i: usize, child: u64, seen: u64, word: u64) -> u64
+// A line's part in the keys of a child: a `li` line of this child adds its key where its parent is in the word: of what is seen, or of what is
+// marked.
+fn key_at(lines: &[u64], i: usize, child: u64, parents: u64, word: u64) -> u64
     requires { ⌜ i < length (now lines) / 8 ⌝ }
-    ensures { λ r. ⌜ r ≡ keyAt (now (lines .entry)) i child seen word ⌝ }
+    ensures { λ r. ⌜ r ≡ keyAt (now (lines .entry)) i child parents word ⌝ }
 {
     let at = i * LINE_WORDS;
     if word_at(lines, at) != LI {
@@ -68,7 +69,7 @@ fn key_at(lines: &[u64], i: usize, child: u64, seen: u64, word: u64) -> u64
     if word_at(lines, at + REL) != child {
         return word;
     }
-    if !has_bit(seen, word_at(lines, at + TO)) {
+    if !has_bit(parents, word_at(lines, at + TO)) {
         return word;
     }
     let key = word_at(lines, at + ID);

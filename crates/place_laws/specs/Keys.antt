@@ -27,19 +27,19 @@ eqb-comm a b = flip (ℕ-discrete a b)
     flip (yes e) = eq-eqb a b e ∙ sym (eq-eqb b a (sym e))
     flip (no d) = ne-eqb a b d ∙ sym (ne-eqb b a (λ e. d (sym e)))
 
--- E3: a link of this child whose parent is seen adds its key
+-- E3: a link of this child whose parent is in a word (of what is seen, or of what is marked) adds its key
 unfoldable pub withLink : ℕ → ℕ → Link → ℕ → ℕ
-withLink child seen l word =
-    cond (eqb (l .child) child && has seen (l .parent) && ltb (l .key) 32) (bitOr word (2 ^ (l .key))) word
+withLink child parents l word =
+    cond (eqb (l .child) child && has parents (l .parent) && ltb (l .key) 32) (bitOr word (2 ^ (l .key))) word
 
 -- the keys of links, added to a word
 unfoldable pub keysOf : ℕ → ℕ → List Link → ℕ → ℕ
-keysOf child seen [] word = word
-keysOf child seen (l ∷ links) word = keysOf child seen links (withLink child seen l word)
+keysOf child parents [] word = word
+keysOf child parents (l ∷ links) word = keysOf child parents links (withLink child parents l word)
 
-pub withLink-small : (child seen : ℕ) (l : Link) (word : ℕ) → word < 2 ^ 32 → withLink child seen l word < 2 ^ 32
+pub withLink-small : (child parents : ℕ) (l : Link) (word : ℕ) → word < 2 ^ 32 → withLink child parents l word < 2 ^ 32
 unfolding withLink
-withLink-small child seen l word h = go (eqb (l .child) child) (has seen (l .parent)) (ltb (l .key) 32) refl
+withLink-small child parents l word h = go (eqb (l .child) child) (has parents (l .parent)) (ltb (l .key) 32) refl
   where
     go : (a b c : Bool) → ltb (l .key) 32 ≡ c → cond (a && b && c) (bitOr word (2 ^ (l .key))) word < 2 ^ 32
     go true true true e = or-lt 32 word (2 ^ (l .key)) h (pow-lt (ltb-true (l .key) 32 e))
@@ -47,15 +47,15 @@ withLink-small child seen l word h = go (eqb (l .child) child) (has seen (l .par
     go true false c e = h
     go false b c e = h
 
-pub keysOf-small : (child seen : ℕ) (links : List Link) (word : ℕ) → word < 2 ^ 32 → keysOf child seen links word < 2 ^ 32
+pub keysOf-small : (child parents : ℕ) (links : List Link) (word : ℕ) → word < 2 ^ 32 → keysOf child parents links word < 2 ^ 32
 unfolding keysOf
-keysOf-small child seen [] word h = h
-keysOf-small child seen (l ∷ links) word h = keysOf-small child seen links (withLink child seen l word) (withLink-small child seen l word h)
+keysOf-small child parents [] word h = h
+keysOf-small child parents (l ∷ links) word h = keysOf-small child parents links (withLink child parents l word) (withLink-small child parents l word h)
 
-withLink-has : (child seen : ℕ) (l : Link) (word f : ℕ) → f < 32
-    → has (withLink child seen l word) f ≡ has word f || (eqb (l .key) f && (eqb (l .child) child && has seen (l .parent)))
+withLink-has : (child parents : ℕ) (l : Link) (word f : ℕ) → f < 32
+    → has (withLink child parents l word) f ≡ has word f || (eqb (l .key) f && (eqb (l .child) child && has parents (l .parent)))
 unfolding withLink
-withLink-has child seen l word f h = go (eqb (l .child) child) (has seen (l .parent)) (ltb (l .key) 32) refl
+withLink-has child parents l word f h = go (eqb (l .child) child) (has parents (l .parent)) (ltb (l .key) 32) refl
   where
     nothing : (a b : Bool) → b ≡ false → a ≡ a || b
     nothing true b e = refl
@@ -79,18 +79,18 @@ withLink-has child seen l word f h = go (eqb (l .child) child) (has seen (l .par
     go true false c e = nothing (has word f) _ (ends (eqb (l .key) f))
     go false b c e = nothing (has word f) _ (ends (eqb (l .key) f))
 
-keysOf-has : (child seen : ℕ) (links : List Link) (word f : ℕ) → f < 32
-    → has (keysOf child seen links word) f
-    ≡ has word f || any (λ l. eqb (l .key) f && (eqb (l .child) child && has seen (l .parent))) links
+keysOf-has : (child parents : ℕ) (links : List Link) (word f : ℕ) → f < 32
+    → has (keysOf child parents links word) f
+    ≡ has word f || any (λ l. eqb (l .key) f && (eqb (l .child) child && has parents (l .parent))) links
 unfolding keysOf
-keysOf-has child seen [] word f h = end (has word f)
+keysOf-has child parents [] word f h = end (has word f)
   where
     end : (b : Bool) → b ≡ b || false
     end true = refl
     end false = refl
-keysOf-has child seen (l ∷ links) word f h =
-    keysOf-has child seen links (withLink child seen l word) f h
-    ∙ ap (λ (b : Bool). b || any (λ l. eqb (l .key) f && (eqb (l .child) child && has seen (l .parent))) links) (withLink-has child seen l word f h)
+keysOf-has child parents (l ∷ links) word f h =
+    keysOf-has child parents links (withLink child parents l word) f h
+    ∙ ap (λ (b : Bool). b || any (λ l. eqb (l .key) f && (eqb (l .child) child && has parents (l .parent))) links) (withLink-has child parents l word f h)
     ∙ regroup (has word f) _ _
   where
     regroup : (a b c : Bool) → (a || b) || c ≡ a || (b || c)
@@ -98,14 +98,14 @@ keysOf-has child seen (l ∷ links) word f h =
     regroup false b c = refl
 
 -- the keys gathered from links are those that pass a test, where the test asks the links for them
-keys-word : (child seen : ℕ) (links : List Link) (test : ℕ → Bool)
-    → ((f : ℕ) → test f ≡ any (λ l. eqb (l .key) f && (eqb (l .child) child && has seen (l .parent))) links)
-    → keysOf child seen links 0 ≡ wordOf test 32
-keys-word child seen links test same =
-    words-equal 32 _ _ (keysOf-small child seen links 0 (omega arith)) (wordOf-small test 32)
+keys-word : (child parents : ℕ) (links : List Link) (test : ℕ → Bool)
+    → ((f : ℕ) → test f ≡ any (λ l. eqb (l .key) f && (eqb (l .child) child && has parents (l .parent))) links)
+    → keysOf child parents links 0 ≡ wordOf test 32
+keys-word child parents links test same =
+    words-equal 32 _ _ (keysOf-small child parents links 0 (omega arith)) (wordOf-small test 32)
     (λ f h.
-    keysOf-has child seen links 0 f h
-    ∙ ap (λ (b : Bool). b || any (λ l. eqb (l .key) f && (eqb (l .child) child && has seen (l .parent))) links) (has-empty f)
+    keysOf-has child parents links 0 f h
+    ∙ ap (λ (b : Bool). b || any (λ l. eqb (l .key) f && (eqb (l .child) child && has parents (l .parent))) links) (has-empty f)
     ∙ sym (same f)
     ∙ sym (wordOf-has test 32 f h))
 

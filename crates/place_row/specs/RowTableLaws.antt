@@ -90,17 +90,17 @@ near-link s f e =
     (found .0, found .1, eqb-true _ _ (and-true _ _ (found .2) .0))
 
 -- the low half of a row's keys are those that guard the place as one that an edge leaves
-pub near-keys : (s : Place) (f : ℕ) → f < 32 → has (rowOf s .keys) f ≡ guardedNear f s
+pub near-half : (s : Place) (f : ℕ) → f < 32 → has (rowOf s .keys) f ≡ guardedNear f s
 unfolding rowOf
-near-keys s f h = near-packed (wordOf (λ k. guardedNear k s) 32) (wordOf (λ k. guardedFar k s) 32) f h ∙ wordOf-has (λ k. guardedNear k s) 32 f h
+near-half s f h = near-packed (wordOf (λ k. guardedNear k s) 32) (wordOf (λ k. guardedFar k s) 32) f h ∙ wordOf-has (λ k. guardedNear k s) 32 f h
 
 -- the high half are those that guard it as one that an edge enters
 far-word : (s : Place) → farIn (rowOf s .keys) ≡ wordOf (λ k. guardedFar k s) 32
 unfolding rowOf
 far-word s = far-packed (wordOf (λ k. guardedNear k s) 32) (wordOf (λ k. guardedFar k s) 32) (wordOf-small (λ k. guardedNear k s) 32)
 
-pub far-keys : (s : Place) (f : ℕ) → f < 32 → has (farIn (rowOf s .keys)) f ≡ guardedFar f s
-far-keys s f h = ap (λ (x : ℕ). has x f) (far-word s) ∙ wordOf-has (λ k. guardedFar k s) 32 f h
+pub far-half : (s : Place) (f : ℕ) → f < 32 → has (farIn (rowOf s .keys)) f ≡ guardedFar f s
+far-half s f h = ap (λ (x : ℕ). has x f) (far-word s) ∙ wordOf-has (λ k. guardedFar k s) 32 f h
 
 far-small : (s : Place) → farIn (rowOf s .keys) < 2 ^ 32
 far-small s = rw (far-word s) (wordOf-small (λ k. guardedFar k s) 32)
@@ -115,13 +115,13 @@ shielded-rows s t small = same-test _ _ meeting shielding
         let found = any-true _ (s .node .links) e in
         let both = and-true _ _ (found .2) in
         let h = small (found .0) (found .1) in
-        has-meets _ _ (found .0 .key) (near-keys s _ h ∙ both .0) (far-keys t _ h ∙ both .1)
+        has-meets _ _ (found .0 .key) (near-half s _ h ∙ both .0) (far-half t _ h ∙ both .1)
 
     shielding : meets (rowOf s .keys) (farIn (rowOf t .keys)) ≡ true → shielded s t ≡ true
     shielding e =
         let found = meets-has-below 32 (farIn (rowOf t .keys)) (rowOf s .keys) (far-small t) (meets-comm _ (rowOf s .keys) ∙ e) in
-        let one = sym (near-keys s _ (found .1)) ∙ found .3 in
-        let two = sym (far-keys t _ (found .1)) ∙ found .2 in
+        let one = sym (near-half s _ (found .1)) ∙ found .3 in
+        let two = sym (far-half t _ (found .1)) ∙ found .2 in
         let link = near-link s (found .0) one in
         any-of _ (link .1) (and-of (ap (λ (f : ℕ). guardedNear f s) (link .2) ∙ one) (ap (λ (f : ℕ). guardedFar f t) (link .2) ∙ two))
 

@@ -101,7 +101,8 @@ module _ {lines : List Line} (s : Schedule lines) where
             (ap (λ (k : ℕ). getElem? (occurrences (v .transaction .execution) 0) k) (a .to) ∙ p .0);
       }
 
-  -- what a guarded place says of its event: its transaction writes the key's image of each of the event's tuples, at the parent's place in the node
+  -- what a guarded place says of its event: its transaction writes the key's image of the event's tuple, in the statement that the parent's place in
+  -- the node stands for
   pub record Guard {i : ℕ} (v : Visit i) (key : ℕ) (e : Event) : Type 0 where
     pub position : ℕ
     pub event : Event

@@ -13,6 +13,7 @@ use Rattle.spec_graph.specs.Graph.{Flow}
 use Rattle.spec_graph.specs.Program.{statementOf}
 use Rattle.spec_graph.specs.Unfolding.{nodesOf}
 use Rattle.spec_graph.specs.Edge.{Letter, Place, Edge, R, W, T, holds, at, stands, placesOf, placeAt, bothPass}
+use Rattle.spec_graph.specs.Edge.{guardedNear, guardedFar}
 use Rattle.spec_graph.specs.Edge.{hasReads, hasWrites, hasTests, inserts, deletes, selects, shields, loosens}
 use Rattle.spec_graph.specs.Edge.Letter.{A, B, C, D, E}
 use Rattle.spec_graph.specs.ExampleText.{line, rl, fk, pr, is, ks, ps, ku, pu, kd, pd, lo, br, el, en, li, edge}
@@ -410,10 +411,16 @@ E3-own-far-parent : backs (rl 0 3 ∷ fk 0 0 0 ∷ pr 0 ∷ ku 0 0 0 1 ∷ ks 1 
 unfolding backs
 E3-own-far-parent = refl
 
--- E3: and not its own near parent: it is not before itself
+-- E3: and not its own near parent; a near child of D is a ks or ps, which would shield nowhere, so what is asked of an update's sides says it
 E3-own-near-parent : backs (rl 0 3 ∷ fk 0 0 0 ∷ pr 0 ∷ ks 0 0 2 ∷ li 0 0 0 ∷ pr 1 ∷ ku 0 0 0 2 ∷ li 0 0 0 ∷ []) ≡ (0, 0, 1, 0) ∷ []
 unfolding backs
 E3-own-near-parent = refl
+
+E3-own-sides : let nodes = nodesOf (rl 0 3 ∷ fk 0 0 0 ∷ pr 0 ∷ ku 0 0 0 1 ∷ li 0 0 0 ∷ []) in
+    let own = placeAt nodes 0 0 in
+    (bothPass (λ s t. guardedNear 0 s) own own ≡ false) × (bothPass (λ s t. guardedFar 0 t) own own ≡ true)
+unfolding graph
+E3-own-sides = (refl, refl)
 
 -- E3: one key for both sides
 E3-two-keys : backs (family reader (ku 0 0 0 1 ∷ ku 1 1 0 2 ∷ li 1 1 0 ∷ [])) ≡ (0, 1, 1, 1) ∷ []
@@ -423,6 +430,16 @@ E3-two-keys = refl
 E3-two-keys-late : backs (family reader (ku 0 1 0 2 ∷ ku 1 0 0 1 ∷ li 1 0 1 ∷ [])) ≡ (0, 1, 1, 0) ∷ []
 unfolding backs
 E3-two-keys-late = refl
+
+-- E3: the near parent, too, is the key's: here key 1 has one that writes, and key 0, by which the far program is linked, one that only reads
+E3-near-two-keys : backs (family (ku 0 0 0 1 ∷ ks 1 0 2 ∷ ks 2 1 2 ∷ li 1 2 0 ∷ li 0 2 1 ∷ []) writer) ≡ (0, 2, 1, 1) ∷ []
+unfolding backs
+E3-near-two-keys = refl
+
+-- E3: likewise where key 0's near parent writes, but late
+E3-near-two-keys-late : backs (family (ku 0 0 0 1 ∷ ks 1 1 2 ∷ ku 2 0 0 1 ∷ li 1 1 0 ∷ li 0 1 2 ∷ []) writer) ≡ (0, 1, 1, 1) ∷ []
+unfolding backs
+E3-near-two-keys-late = refl
 
 -- E3: any key will do
 E3-second-key : backs (family (ks 0 0 2 ∷ ku 1 0 0 1 ∷ ks 2 1 2 ∷ li 0 2 0 ∷ li 1 2 1 ∷ []) (ku 0 0 0 1 ∷ ku 1 1 0 2 ∷ li 1 1 0 ∷ [])) ≡ []
@@ -444,7 +461,7 @@ E3-far-kinds : map (λ parent. isBackEdge (family reader (parent ∷ ku 1 1 0 2 
 unfolding isBackEdge
 E3-far-kinds = refl
 
--- Req 02: and after the child: a ks, too, shields nowhere (the parents of this list have id 0, so the child has 1)
+-- Req 02: and after the child: a ks shields nowhere (the parents of this list have id 0 and the child 1, so no text has these lines)
 E3-far-late-kinds : map (λ parent. isBackEdge (family reader (ku 1 1 0 2 ∷ parent ∷ li 0 1 0 ∷ [])) 0 1 1 0) parents
     ≡ false ∷ true ∷ true ∷ false ∷ true ∷ false ∷ true ∷ []
 unfolding isBackEdge
@@ -458,6 +475,39 @@ E3-far-other-parent = refl
 E3-far-other-child : backs (family reader (ku 0 1 0 2 ∷ ku 1 1 0 2 ∷ ku 2 0 0 1 ∷ li 0 1 2 ∷ [])) ≡ (0, 1, 1, 0) ∷ []
 unfolding backs
 E3-far-other-child = refl
+
+-- E3: of two parents by one key any that writes will do, whichever link comes first, near and far
+E3-near-two-parents : map (λ links. backs (family (ku 0 0 0 1 ∷ ks 1 0 2 ∷ ks 2 1 2 ∷ links) writer))
+    ((li 0 2 0 ∷ li 0 2 1 ∷ []) ∷ (li 0 2 1 ∷ li 0 2 0 ∷ []) ∷ [])
+    ≡ [] ∷ [] ∷ []
+unfolding backs
+E3-near-two-parents = refl
+
+E3-far-two-parents : map (λ links. backs (family reader (ku 0 1 0 2 ∷ ks 1 0 2 ∷ ku 2 0 0 1 ∷ links)))
+    ((li 0 0 1 ∷ li 0 0 2 ∷ []) ∷ (li 0 0 2 ∷ li 0 0 1 ∷ []) ∷ [])
+    ≡ [] ∷ [] ∷ []
+unfolding backs
+E3-far-two-parents = refl
+
+-- E3: each kind of far child that D names, ku, pu, kd and pd, is shielded by a parent before it and, by Req 02, after it
+E3-far-children : map (λ child. isBackEdge (family reader (ku 0 0 0 1 ∷ child ∷ li 0 1 0 ∷ [])) 0 1 1 1)
+    (ku 1 1 0 2 ∷ pu 1 1 0 2 0 ∷ kd 1 1 3 ∷ pd 1 1 3 0 ∷ [])
+    ≡ false ∷ false ∷ false ∷ false ∷ []
+unfolding isBackEdge
+E3-far-children = refl
+
+E3-far-late-children : map (λ child. isBackEdge (family reader (child ∷ ku 1 0 0 1 ∷ li 0 0 1 ∷ [])) 0 1 1 0)
+    (ku 0 1 0 2 ∷ pu 0 1 0 2 0 ∷ kd 0 1 3 ∷ pd 0 1 3 0 ∷ [])
+    ≡ false ∷ false ∷ false ∷ false ∷ []
+unfolding isBackEdge
+E3-far-late-children = refl
+
+-- E3: and unlinked it is not
+E3-far-children-unlinked : map (λ child. isBackEdge (family reader (child ∷ ku 1 0 0 1 ∷ [])) 0 1 1 0)
+    (ku 0 1 0 2 ∷ pu 0 1 0 2 0 ∷ kd 0 1 3 ∷ pd 0 1 3 0 ∷ [])
+    ≡ true ∷ true ∷ true ∷ true ∷ []
+unfolding isBackEdge
+E3-far-children-unlinked = refl
 
 -- E3: a node shields against itself, too: two runs of one program
 E3-itself : backs (rl 0 3 ∷ rl 1 3 ∷ fk 0 1 0 ∷ pr 0 ∷ ku 0 0 0 1 ∷ ks 1 1 2 ∷ ku 2 1 0 2 ∷ li 0 1 0 ∷ li 0 2 0 ∷ []) ≡ []
@@ -517,6 +567,15 @@ E4-far-parent-inside = refl
 E4-far-other-arm : backs (family reader (br ∷ ku 0 1 0 2 ∷ el ∷ ku 1 0 0 1 ∷ en ∷ li 0 0 1 ∷ [])) ≡ (0, 1, 1, 0) ∷ []
 unfolding backs
 E4-far-other-arm = refl
+
+-- E4: paths are compared by their blocks, not by their turns alone: two loops in a row, each turned once (no text has such a link)
+E4-near-other-loop : isBackEdge (family (lo ∷ ku 0 0 0 1 ∷ en ∷ lo ∷ ks 1 1 2 ∷ en ∷ li 0 1 0 ∷ []) writer) 4 1 9 1 ≡ true
+unfolding isBackEdge
+E4-near-other-loop = refl
+
+E4-far-other-loop : isBackEdge (family reader (lo ∷ ku 0 0 0 1 ∷ en ∷ lo ∷ ku 1 1 0 2 ∷ en ∷ li 0 1 0 ∷ [])) 0 1 5 1 ≡ true
+unfolding isBackEdge
+E4-far-other-loop = refl
 
 -- Req 02: a far parent after its child in the same arm, and after the branch
 E4-far-same-arm : backs (family reader (br ∷ ku 0 1 0 2 ∷ ku 1 0 0 1 ∷ el ∷ en ∷ li 0 0 1 ∷ [])) ≡ []

@@ -1,4 +1,5 @@
--- What is seen at a place of an unfolding (E3, E4): the statements before it that can be the parent of a link that shields, as bits of one word.
+-- What is seen at a place of an unfolding (E3, E4): the statements before it that can be the parent of a link that shields an edge out of it (near),
+-- as bits of one word.
 -- Believed: `markOf` and `seenAt`. After them: how a word stands for a place, as laws say it.
 use mathlib.Core.Bool.{cond, _&&_}
 use mathlib.Core.List.{List, [], _∷_, _++_}
