@@ -50,7 +50,8 @@ withLink-small child parents l word h = go (eqb (l .child) child) (has parents (
 pub keysOf-small : (child parents : ℕ) (links : List Link) (word : ℕ) → word < 2 ^ 32 → keysOf child parents links word < 2 ^ 32
 unfolding keysOf
 keysOf-small child parents [] word h = h
-keysOf-small child parents (l ∷ links) word h = keysOf-small child parents links (withLink child parents l word) (withLink-small child parents l word h)
+keysOf-small child parents (l ∷ links) word h =
+    keysOf-small child parents links (withLink child parents l word) (withLink-small child parents l word h)
 
 withLink-has : (child parents : ℕ) (l : Link) (word f : ℕ) → f < 32
     → has (withLink child parents l word) f ≡ has word f || (eqb (l .key) f && (eqb (l .child) child && has parents (l .parent)))
@@ -90,7 +91,8 @@ keysOf-has child parents [] word f h = end (has word f)
     end false = refl
 keysOf-has child parents (l ∷ links) word f h =
     keysOf-has child parents links (withLink child parents l word) f h
-    ∙ ap (λ (b : Bool). b || any (λ l. eqb (l .key) f && (eqb (l .child) child && has parents (l .parent))) links) (withLink-has child parents l word f h)
+    ∙ ap (λ (b : Bool). b || any (λ l. eqb (l .key) f && (eqb (l .child) child && has parents (l .parent))) links)
+    (withLink-has child parents l word f h)
     ∙ regroup (has word f) _ _
   where
     regroup : (a b c : Bool) → (a || b) || c ≡ a || (b || c)
