@@ -4,13 +4,10 @@
 use mathlib.Core.Bool.{not, _&&_}
 use mathlib.Core.List.{List, [], _∷_, List·Memᴰ}
 use mathlib.Core.List.List·Memᴰ.{List·Memᴰ·head, List·Memᴰ·tail}
-use mathlib.Core.Option.{some, Option·none-ne-some}
-use mathlib.Core.Path.{_≡_, refl, sym, ap, subst}
-use Prim.Native.Nat.{ℕ, zero, suc, _%_}
+use mathlib.Core.Path.{_≡_, refl, sym, subst}
+use Prim.Native.Nat.{_%_}
 use lib.Dec.{eqb}
-use lib.ListN.{getD, getElem?}
-use Rattle.spec_base.specs.Basic.{keep}
-use Rattle.law_base.specs.ListLaws.{some-injective}
+use lib.ListN.{getD}
 use Rattle.spec_text.specs.declared.Line.{Line}
 use Rattle.spec_text.specs.declared.LineKind.the-variants.{Rl, Fk, Pr, St, Li}
 use Rattle.spec_text.specs.declared.StatementKind.the-variants.{Is, Ks, Ps, Ku, Pu, Kd, Pd}
@@ -24,10 +21,10 @@ use Rattle.spec_graph.specs.Program.Item.{statement}
 use Rattle.spec_graph.specs.Program.Run.{done, next}
 use Rattle.spec_graph.specs.Unfolding.Execution.{end, step}
 use Rattle.spec_graph.specs.Unfolding.ItemExecution.{perform}
-use Rattle.spec_schedule.specs.Event.{Event, by}
+use Rattle.spec_schedule.specs.Event.{Event}
 use Rattle.spec_schedule.specs.Event.Action.{read, write, insert, delete, predicateRead, commit}
-use Rattle.spec_schedule.specs.Schedule.{Tuple, Transaction, Schedule, everyAttribute, eventsOf}
-use Rattle.spec_schedule.specs.ScheduleExamples.{line, says, event, openWorkload, openRules, no-program, one-program}
+use Rattle.spec_schedule.specs.Schedule.{Tuple, Transaction, Schedule, everyAttribute}
+use Rattle.spec_schedule.specs.ScheduleExamples.{line, says, event, openWorkload, openRules, no-program, one-program, wholes}
 
 -- rl 0 - - 1 - -
 -- rl 1 - - 1 - -
@@ -177,7 +174,7 @@ kinds =
       kept = refl;
       events = events;
       known = refl;
-      whole = whole;
+      whole = wholes events transactions refl;
       obeyed = refl;
     }
   where
@@ -194,11 +191,3 @@ kinds =
     members =
         one-program changing (List·Memᴰ·head refl)
         (one-program clearing second (one-program empty third (one-program updating fourth (one-program empty third no-program))))
-
-    whole : (i : ℕ) (x : Transaction) → getElem? transactions i ≡ some x → keep (by i) events ≡ eventsOf i x
-    whole zero x e = ap (eventsOf 0) (some-injective e)
-    whole (suc zero) x e = ap (eventsOf 1) (some-injective e)
-    whole (suc (suc zero)) x e = ap (eventsOf 2) (some-injective e)
-    whole (suc (suc (suc zero))) x e = ap (eventsOf 3) (some-injective e)
-    whole (suc (suc (suc (suc zero)))) x e = ap (eventsOf 4) (some-injective e)
-    whole (suc (suc (suc (suc (suc i))))) x e = absurd (Option·none-ne-some x e)

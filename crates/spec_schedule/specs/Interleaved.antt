@@ -3,13 +3,11 @@
 use mathlib.Core.Bool.{not}
 use mathlib.Core.List.{List, [], _∷_, map, List·Memᴰ}
 use mathlib.Core.List.List·Memᴰ.{List·Memᴰ·head, List·Memᴰ·tail}
-use mathlib.Core.Option.{none, some, Option·none-ne-some}
-use mathlib.Core.Path.{_≡_, refl, sym, ap, subst}
-use Prim.Native.Nat.{ℕ, zero, suc, _%_}
+use mathlib.Core.Option.{none, some}
+use mathlib.Core.Path.{_≡_, refl, sym, subst}
+use Prim.Native.Nat.{ℕ, _%_}
 use lib.Dec.{eqb}
-use lib.ListN.{length, getD, getElem?}
-use Rattle.spec_base.specs.Basic.{keep}
-use Rattle.law_base.specs.ListLaws.{some-injective}
+use lib.ListN.{length, getD}
 use Rattle.spec_text.specs.declared.Line.{Line}
 use Rattle.spec_text.specs.declared.LineKind.the-variants.{Rl, Fk, Pr, St, Lo, Br, El, En, Li}
 use Rattle.spec_text.specs.declared.StatementKind.the-variants.{Is, Ps, Ku, Kd}
@@ -20,12 +18,12 @@ use Rattle.spec_graph.specs.Unfolding.{occurrences}
 use Rattle.spec_graph.specs.Unfolding.Execution.{end, step}
 use Rattle.spec_graph.specs.Unfolding.ItemExecution.{perform, turns, arm-one, arm-two}
 use Rattle.spec_graph.specs.Unfolding.Turns.{stop, turn}
-use Rattle.spec_schedule.specs.Event.{Event, by, pastAt, writesOf, seen, source, existence}
+use Rattle.spec_schedule.specs.Event.{Event, pastAt, writesOf, seen, source, existence}
 use Rattle.spec_schedule.specs.Event.Action.{read, write, insert, delete, predicateRead, commit}
-use Rattle.spec_schedule.specs.Schedule.{Tuple, Transaction, Schedule, everyAttribute, eventsOf}
+use Rattle.spec_schedule.specs.Schedule.{Tuple, Transaction, Schedule, everyAttribute}
 use Rattle.spec_schedule.specs.Serial.{Serialisable}
 use Rattle.spec_schedule.specs.SerialTest.{serial-by-test, openTest}
-use Rattle.spec_schedule.specs.ScheduleExamples.{line, says, event, openWorkload, openRules, no-program, one-program}
+use Rattle.spec_schedule.specs.ScheduleExamples.{line, says, event, openWorkload, openRules, no-program, one-program, wholes}
 
 -- rl 0 - - 3 - -
 -- rl 1 - - 3 - -
@@ -172,7 +170,7 @@ interleaved =
       kept = refl;
       events = events;
       known = refl;
-      whole = whole;
+      whole = wholes events (updating ∷ inserting ∷ deleting ∷ looking ∷ []) refl;
       obeyed = refl;
     }
   where
@@ -185,14 +183,6 @@ interleaved =
         one-program updating (List·Memᴰ·head refl)
         (one-program inserting second (one-program deleting second
         (one-program looking (List·Memᴰ·tail (List·Memᴰ·tail (List·Memᴰ·head refl))) no-program)))
-
-    whole : (i : ℕ) (x : Transaction) → getElem? (updating ∷ inserting ∷ deleting ∷ looking ∷ []) i ≡ some x
-        → keep (by i) events ≡ eventsOf i x
-    whole zero x e = ap (eventsOf 0) (some-injective e)
-    whole (suc zero) x e = ap (eventsOf 1) (some-injective e)
-    whole (suc (suc zero)) x e = ap (eventsOf 2) (some-injective e)
-    whole (suc (suc (suc zero))) x e = ap (eventsOf 3) (some-injective e)
-    whole (suc (suc (suc (suc i)))) x e = absurd (Option·none-ne-some x e)
 
 -- the one that looks comes second in the serial order, though it commits last
 pub serialised : Serialisable interleaved

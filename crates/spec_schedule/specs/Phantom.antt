@@ -3,13 +3,10 @@
 use mathlib.Core.Bool.{true, false, not, _||_}
 use mathlib.Core.List.{List, [], _∷_, List·Memᴰ}
 use mathlib.Core.List.List·Memᴰ.{List·Memᴰ·head}
-use mathlib.Core.Option.{some, Option·none-ne-some}
-use mathlib.Core.Path.{_≡_, refl, ap}
-use Prim.Native.Nat.{ℕ, zero, suc}
+use mathlib.Core.Path.{_≡_, refl}
+use Prim.Native.Nat.{ℕ}
 use lib.Dec.{eqb}
-use lib.ListN.{getElem?}
-use Rattle.spec_base.specs.Basic.{all, keep}
-use Rattle.law_base.specs.ListLaws.{some-injective}
+use Rattle.spec_base.specs.Basic.{all}
 use Rattle.spec_text.specs.declared.Line.{Line}
 use Rattle.spec_text.specs.declared.LineKind.the-variants.{Rl, Pr, St}
 use Rattle.spec_text.specs.declared.StatementKind.the-variants.{Ps, Is}
@@ -23,12 +20,12 @@ use Rattle.spec_graph.specs.Program.Item.{statement}
 use Rattle.spec_graph.specs.Program.Run.{done, next}
 use Rattle.spec_graph.specs.Unfolding.Execution.{end, step}
 use Rattle.spec_graph.specs.Unfolding.ItemExecution.{perform}
-use Rattle.spec_schedule.specs.Event.{Event, by, isRead, isPredicateRead}
+use Rattle.spec_schedule.specs.Event.{Event, isRead, isPredicateRead}
 use Rattle.spec_schedule.specs.Event.Action.{insert, predicateRead, commit}
-use Rattle.spec_schedule.specs.Schedule.{Transaction, Schedule, everyAttribute, eventsOf}
+use Rattle.spec_schedule.specs.Schedule.{Transaction, Schedule, everyAttribute}
 use Rattle.spec_schedule.specs.Serial.{Serialisable, serialRun}
 use Rattle.spec_schedule.specs.SerialTest.{none-of-two, endsTest, openTest}
-use Rattle.spec_schedule.specs.ScheduleExamples.{line, says, event, openWorkload, openRules, no-program, one-program}
+use Rattle.spec_schedule.specs.ScheduleExamples.{line, says, event, openWorkload, openRules, no-program, one-program, wholes}
 
 -- rl 0 - - 1 - -
 -- pr 0 - - - - -
@@ -73,17 +70,12 @@ phantom =
       kept = refl;
       events = events;
       known = refl;
-      whole = whole;
+      whole = wholes events (run 0 ∷ run 1 ∷ []) refl;
       obeyed = refl;
     }
   where
     member : List·Memᴰ program (programsOf lines)
     member = List·Memᴰ·head refl
-
-    whole : (i : ℕ) (x : Transaction) → getElem? (run 0 ∷ run 1 ∷ []) i ≡ some x → keep (by i) events ≡ eventsOf i x
-    whole zero x e = ap (eventsOf 0) (some-injective e)
-    whole (suc zero) x e = ap (eventsOf 1) (some-injective e)
-    whole (suc (suc i)) x e = absurd (Option·none-ne-some x e)
 
 pub no-order : Serialisable phantom → ⊥
 unfolding openTest phantom

@@ -4,7 +4,7 @@ use mathlib.Core.Bool.{Bool, true, false, not, _&&_, false≢true}
 use mathlib.Core.List.{List, [], _∷_, flatMap, List·Memᴰ, List·Memᴰ·cases-cons, List·Memᴰ·not-nil, Memᴰ·cast, _++_, map}
 use mathlib.Core.Logic.{_⊎_, inl, inr}
 use mathlib.Core.Path.{_≡_, ap, refl, sym, _∙_, subst, subst₂}
-use Prim.Native.Nat.{ℕ, suc, _+_, _*_, _%_}
+use Prim.Native.Nat.{ℕ, zero, suc, _+_, _*_, _%_}
 use Rattle.spec_text.specs.declared.Line.{Line}
 use Rattle.spec_text.specs.declared.LineKind.{LineKind}
 use Rattle.spec_text.specs.declared.StatementKind.{StatementKind}
@@ -18,9 +18,9 @@ use Rattle.spec_schedule.specs.Schedule.{Tuple, Transaction, Performed, 
 use Rattle.spec_schedule.specs.Schedule.{performedFrom, performed, onTuple, operationsOf}
 use Rattle.spec_schedule.specs.Schedule.{operations, numbered, eventsOf, linkKept, keysKept}
 use mathlib.Core.List.List·Memᴰ.{List·Memᴰ·head}
-use mathlib.Core.Option.{none, some, Option·some-ne-none}
+use mathlib.Core.Option.{none, some, Option·some-ne-none, Option·none-ne-some}
 use native.Mathlib.Omega.{arith}
-use native.Mathlib.Nat.{not-suc-le-zero}
+use native.Mathlib.Nat.{not-suc-le-zero, add-zero, zero-add}
 use lib.Dec.{eqb, ltb}
 use borrow.Author.Tests.{ltb-true}
 use lib.ListN.{length, getD, getElem?}
@@ -71,6 +71,31 @@ one-program {programs} y {l} h f x m = go (List·Memᴰ·cases-cons m)
     go : (x ≡ y) ⊎ List·Memᴰ x l → List·Memᴰ (x .program) programs
     go (inl e) = Memᴰ·cast (ap (λ z. z .program) e) h
     go (inr n) = f x n
+
+-- H8: transaction by transaction, from this number on, the events that are its own, and those of the whole transaction
+abbrev pub kept : List Event → ℕ → List Transaction → List (List Event)
+kept events n [] = []
+kept events n (x ∷ l) = keep (by n) events ∷ kept events (suc n) l
+
+abbrev pub wanted : ℕ → List Transaction → List (List Event)
+wanted n [] = []
+wanted n (x ∷ l) = eventsOf n x ∷ wanted (suc n) l
+
+whole-from : (events : List Event) (n : ℕ) (l : List Transaction) → kept events n l ≡ wanted n l → (i : ℕ) (x : Transaction) → getElem? l i ≡ some x
+    → keep (by (n + i)) events ≡ eventsOf (n + i) x
+whole-from events n [] h i x e = absurd (Option·none-ne-some x e)
+whole-from events n (y ∷ l) h zero x e =
+    let first : keep (by n) events ≡ eventsOf n y = cc in
+    rw (add-zero n) (first ∙ ap (eventsOf n) (some-injective e))
+whole-from events n (y ∷ l) h (suc i) x e =
+    let k : n + suc i ≡ suc n + i = omega arith in
+    let rest : kept events (suc n) l ≡ wanted (suc n) l = cc in
+    rw k (whole-from events (suc n) l rest i x e)
+
+-- where they are the same, the events of each transaction are whole
+pub wholes : (events : List Event) (l : List Transaction) → kept events 0 l ≡ wanted 0 l → (i : ℕ) (x : Transaction) → getElem? l i ≡ some x
+    → keep (by i) events ≡ eventsOf i x
+wholes events l h i x e = rw zero-add at (whole-from events 0 l h i x e)
 
 abbrev one : ℕ → Run
 one i = next (statement (says Ks i 0 1 0 0)) done

@@ -4,12 +4,7 @@
 use mathlib.Core.Bool.{true, false}
 use mathlib.Core.List.{List, [], _∷_, List·Memᴰ}
 use mathlib.Core.List.List·Memᴰ.{List·Memᴰ·head, List·Memᴰ·tail}
-use mathlib.Core.Option.{some, Option·none-ne-some}
-use mathlib.Core.Path.{_≡_, refl, sym, ap, subst}
-use Prim.Native.Nat.{ℕ, zero, suc}
-use lib.ListN.{getElem?}
-use Rattle.spec_base.specs.Basic.{keep}
-use Rattle.law_base.specs.ListLaws.{some-injective}
+use mathlib.Core.Path.{_≡_, refl, sym, subst}
 use Rattle.spec_text.specs.declared.Line.{Line}
 use Rattle.spec_text.specs.declared.LineKind.the-variants.{Rl, Fk, Pr, St, Li}
 use Rattle.spec_text.specs.declared.StatementKind.the-variants.{Ks, Ku}
@@ -26,12 +21,12 @@ use Rattle.spec_graph.specs.Graph.Flow.{forward, back}
 use Rattle.spec_graph.specs.Walk.{DangerousWalk}
 use Rattle.law_walk.specs.Reach.{dangerTest, danger-none}
 use Rattle.spec_report.specs.State.{Danger}
-use Rattle.spec_schedule.specs.Event.{Event, by}
+use Rattle.spec_schedule.specs.Event.{Event}
 use Rattle.spec_schedule.specs.Event.Action.{read, write, commit}
-use Rattle.spec_schedule.specs.Schedule.{Transaction, Schedule, eventsOf}
+use Rattle.spec_schedule.specs.Schedule.{Transaction, Schedule}
 use Rattle.spec_schedule.specs.Serial.{Serialisable}
 use Rattle.spec_schedule.specs.SerialTest.{none-of-two, openTest}
-use Rattle.spec_schedule.specs.ScheduleExamples.{line, says, event, openWorkload, openRules, no-program, one-program}
+use Rattle.spec_schedule.specs.ScheduleExamples.{line, says, event, openWorkload, openRules, no-program, one-program, wholes}
 use Rattle.witness.specs.LateParent.{panelOf}
 use Rattle.witness.specs.Shields.{bothFar, graphBy, regular-by, openShields}
 
@@ -139,17 +134,12 @@ judgedOld =
       kept = refl;
       events = events;
       known = refl;
-      whole = whole;
+      whole = wholes events (judging ∷ logging ∷ []) refl;
       obeyed = refl;
     }
   where
     members : (x : Transaction) → List·Memᴰ x (judging ∷ logging ∷ []) → List·Memᴰ (x .program) (judges ∷ logs ∷ [])
     members = one-program judging (List·Memᴰ·head refl) (one-program logging (List·Memᴰ·tail (List·Memᴰ·head refl)) no-program)
-
-    whole : (i : ℕ) (x : Transaction) → getElem? (judging ∷ logging ∷ []) i ≡ some x → keep (by i) events ≡ eventsOf i x
-    whole zero x e = ap (eventsOf 0) (some-injective e)
-    whole (suc zero) x e = ap (eventsOf 1) (some-injective e)
-    whole (suc (suc i)) x e = absurd (Option·none-ne-some x e)
 
 -- no order serves: the first has read the contact before it was logged, and the panel after; both orders fail their test
 pub no-order : Serialisable judgedOld → ⊥

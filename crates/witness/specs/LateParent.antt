@@ -5,13 +5,10 @@ use mathlib.Core.Bool.{true, false}
 use mathlib.Core.List.{List, [], _∷_, map, List·Memᴰ}
 use mathlib.Core.List.List·Memᴰ.{List·Memᴰ·head, List·Memᴰ·tail}
 use mathlib.Core.Logic.{_⊎_, inl, inr}
-use mathlib.Core.Option.{none, some, Option·none-ne-some}
-use mathlib.Core.Path.{_≡_, refl, sym, ap, subst}
-use Prim.Native.Nat.{ℕ, zero, suc}
-use lib.ListN.{getElem?}
-use Rattle.spec_base.specs.Basic.{keep}
+use mathlib.Core.Option.{none}
+use mathlib.Core.Path.{_≡_, refl, sym, subst}
+use Prim.Native.Nat.{ℕ}
 use Rattle.law_base.specs.BoolLaws.{true-false}
-use Rattle.law_base.specs.ListLaws.{some-injective}
 use Rattle.spec_text.specs.declared.Line.{Line}
 use Rattle.spec_text.specs.declared.LineKind.the-variants.{Rl, Fk, Pr, St, Li}
 use Rattle.spec_text.specs.declared.StatementKind.the-variants.{Ks, Ku}
@@ -29,12 +26,12 @@ use Rattle.spec_graph.specs.Walk.{DangerousWalk}
 use Rattle.law_walk.specs.Reach.{dangerTest}
 use Rattle.spec_report.specs.State.{Robust, summaryGraph}
 use Rattle.law_report.specs.Reports.{robust-of}
-use Rattle.spec_schedule.specs.Event.{Event, by, pastAt, writesOf, seen, source, waits}
+use Rattle.spec_schedule.specs.Event.{Event, pastAt, writesOf, seen, source, waits}
 use Rattle.spec_schedule.specs.Event.Action.{read, write, commit}
-use Rattle.spec_schedule.specs.Schedule.{Tuple, Transaction, Schedule, eventsOf}
+use Rattle.spec_schedule.specs.Schedule.{Tuple, Transaction, Schedule}
 use Rattle.spec_schedule.specs.Serial.{Serialisable}
 use Rattle.spec_schedule.specs.SerialTest.{serialTest, serial-by-test, test-by-serial, orders-of-two, openTest}
-use Rattle.spec_schedule.specs.ScheduleExamples.{line, says, event, openWorkload, openRules, no-program, one-program}
+use Rattle.spec_schedule.specs.ScheduleExamples.{line, says, event, openWorkload, openRules, no-program, one-program, wholes}
 use Rattle.cases.specs.Computed.{allPass}
 use Rattle.witness.specs.Joined.{demand}
 use Rattle.witness.specs.Shields.{bothNear, graphBy, openShields}
@@ -152,17 +149,12 @@ logged =
       kept = refl;
       events = events;
       known = refl;
-      whole = whole;
+      whole = wholes events (showing ∷ logging ∷ []) refl;
       obeyed = refl;
     }
   where
     members : (x : Transaction) → List·Memᴰ x (showing ∷ logging ∷ []) → List·Memᴰ (x .program) (shows ∷ logs ∷ [])
     members = one-program showing (List·Memᴰ·head refl) (one-program logging (List·Memᴰ·tail (List·Memᴰ·head refl)) no-program)
-
-    whole : (i : ℕ) (x : Transaction) → getElem? (showing ∷ logging ∷ []) i ≡ some x → keep (by i) events ≡ eventsOf i x
-    whole zero x e = ap (eventsOf 0) (some-injective e)
-    whole (suc zero) x e = ap (eventsOf 1) (some-injective e)
-    whole (suc (suc i)) x e = absurd (Option·none-ne-some x e)
 
 -- both reads of the contact see the start, though the logger has written it before
 written-before : writesOf 1 0 (pastAt events 4) ≡ event 1 1 0 write 1 0 2 ∷ []

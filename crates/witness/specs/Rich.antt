@@ -5,13 +5,12 @@
 use mathlib.Core.Bool.{Bool, true, cond, not, _&&_, _||_}
 use mathlib.Core.List.{List, [], _∷_, map, List·Memᴰ}
 use mathlib.Core.List.List·Memᴰ.{List·Memᴰ·head, List·Memᴰ·tail}
-use mathlib.Core.Option.{some, Option·none-ne-some}
-use mathlib.Core.Path.{_≡_, refl, sym, ap, subst}
-use Prim.Native.Nat.{ℕ, zero, suc, _/_, _%_}
+use mathlib.Core.Option.{some}
+use mathlib.Core.Path.{_≡_, refl, sym, subst}
+use Prim.Native.Nat.{ℕ, _/_, _%_}
 use lib.Dec.{eqb, ltb}
-use lib.ListN.{length, getD, getElem?}
+use lib.ListN.{length, getD}
 use Rattle.spec_base.specs.Basic.{keep, count}
-use Rattle.law_base.specs.ListLaws.{some-injective}
 use Rattle.spec_text.specs.declared.Line.{Line}
 use Rattle.spec_text.specs.declared.LineKind.the-variants.{Rl, Fk, Pr, St, Lo, En, Li}
 use Rattle.spec_text.specs.declared.StatementKind.the-variants.{Is, Ks, Ps, Ku, Pu, Kd}
@@ -27,7 +26,7 @@ use Rattle.spec_schedule.specs.Event.Action.{read, write, insert, delete, predi
 use Rattle.spec_schedule.specs.Schedule.{Tuple, Transaction, Schedule, everyAttribute, eventsOf}
 use Rattle.spec_schedule.specs.Serial.{Serialisable}
 use Rattle.spec_schedule.specs.SerialTest.{serial-by-test, openTest, actionNumber}
-use Rattle.spec_schedule.specs.ScheduleExamples.{line, says, event, openWorkload, openRules, no-program, one-program}
+use Rattle.spec_schedule.specs.ScheduleExamples.{line, says, event, openWorkload, openRules, no-program, one-program, wholes}
 
 -- rl 0 - - 1 - -
 -- rl 1 - - 1 - -
@@ -297,7 +296,7 @@ rich =
       kept = refl;
       events = events;
       known = refl;
-      whole = whole;
+      whole = wholes events transactions refl;
       obeyed = refl;
     }
   where
@@ -321,16 +320,6 @@ rich =
         one-program opening first
         (one-program idling first (one-program cancelling second (one-program amendingOwn third
         (one-program listing fourth (one-program restocking fifth (one-program amendingOther third no-program))))))
-
-    whole : (i : ℕ) (x : Transaction) → getElem? transactions i ≡ some x → keep (by i) events ≡ eventsOf i x
-    whole zero x e = ap (eventsOf 0) (some-injective e)
-    whole (suc zero) x e = ap (eventsOf 1) (some-injective e)
-    whole (suc (suc zero)) x e = ap (eventsOf 2) (some-injective e)
-    whole (suc (suc (suc zero))) x e = ap (eventsOf 3) (some-injective e)
-    whole (suc (suc (suc (suc zero)))) x e = ap (eventsOf 4) (some-injective e)
-    whole (suc (suc (suc (suc (suc zero))))) x e = ap (eventsOf 5) (some-injective e)
-    whole (suc (suc (suc (suc (suc (suc zero)))))) x e = ap (eventsOf 6) (some-injective e)
-    whole (suc (suc (suc (suc (suc (suc (suc i))))))) x e = absurd (Option·none-ne-some x e)
 
 -- an order that serves: the one that lists comes fifth, though it commits last
 pub serialised : Serialisable rich
