@@ -15,7 +15,7 @@ use Rattle.law_base.specs.ListLaws.{some-injective}
 use Rattle.spec_text.specs.declared.Line.{Line}
 use Rattle.spec_text.specs.declared.LineKind.{LineKind}
 use Rattle.spec_text.specs.declared.LineKind.the-variants.{Rl, Fk, Pr, St, Lo, Br, El, En, Li}
-use Rattle.spec_text.specs.declared.StatementKind.the-variants.{Is, Ks, Ps, Ku, Pu, Kd, Pd}
+use Rattle.spec_text.specs.declared.StatementKind.the-variants.{Is, Ks, Ps, Ku, Pu, Kd, Pd, Kl}
 use Rattle.spec_text.specs.Text.{dash, isDecimal, isHexadecimal, same, fieldsIn, digitsForm, digitValue, valueAfter, numberOf, setOf}
 use Rattle.spec_text.specs.Text.{dashOf, wordOf, kindOf, Form, formsOf, fieldOf, valuesOf, lineWith, lineOf}
 use Rattle.spec_text.specs.Text.Form.{number, set, nothing}
@@ -175,6 +175,7 @@ forms-six (St Ku) = refl
 forms-six (St Pu) = refl
 forms-six (St Kd) = refl
 forms-six (St Pd) = refl
+forms-six (St Kl) = refl
 forms-six Lo = refl
 forms-six Br = refl
 forms-six El = refl
@@ -259,6 +260,7 @@ word-two (St Ku) = refl
 word-two (St Pu) = refl
 word-two (St Kd) = refl
 word-two (St Pd) = refl
+word-two (St Kl) = refl
 word-two Lo = refl
 word-two Br = refl
 word-two El = refl

@@ -6,10 +6,10 @@ use Rattle.spec_base.specs.Basic.{all}
 use Rattle.law_base.specs.BoolLaws.{not-true, implied}
 use Rattle.law_base.specs.ListLaws.{all-true, getElem?-member}
 use Rattle.spec_text.specs.declared.StatementKind.{StatementKind}
-use Rattle.spec_text.specs.declared.StatementKind.the-variants.{Is, Ks, Ps, Ku, Pu, Kd, Pd}
+use Rattle.spec_text.specs.declared.StatementKind.the-variants.{Is, Ks, Ps, Ku, Pu, Kd, Pd, Kl}
 
 abbrev pub kinds : List StatementKind
-kinds = Is ∷ Ks ∷ Ps ∷ Ku ∷ Pu ∷ Kd ∷ Pd ∷ []
+kinds = Is ∷ Ks ∷ Ps ∷ Ku ∷ Pu ∷ Kd ∷ Pd ∷ Kl ∷ []
 
 -- every kind is in the list
 kind-listed : (k : StatementKind) → List·Memᴰ k kinds
@@ -20,6 +20,7 @@ kind-listed Ku = getElem?-member kinds 3 refl
 kind-listed Pu = getElem?-member kinds 4 refl
 kind-listed Kd = getElem?-member kinds 5 refl
 kind-listed Pd = getElem?-member kinds 6 refl
+kind-listed Kl = getElem?-member kinds 7 refl
 
 -- a test that the listed kinds pass, every kind passes
 pub every-kind : (test : StatementKind → Bool) → all test kinds ≡ true → (k : StatementKind) → test k ≡ true

@@ -13,7 +13,7 @@ use Rattle.law_base.specs.ListLaws.{member-split, count-append, getElem?-member
 use Rattle.spec_text.specs.declared.Line.{Line}
 use Rattle.spec_text.specs.declared.LineKind.the-variants.{St, Li}
 use Rattle.spec_text.specs.declared.StatementKind.{StatementKind}
-use Rattle.spec_text.specs.declared.StatementKind.the-variants.{Is, Ks, Ps, Ku, Pu, Kd, Pd}
+use Rattle.spec_text.specs.declared.StatementKind.the-variants.{Is, Ks, Ps, Ku, Pu, Kd, Pd, Kl}
 use Rattle.spec_text.specs.declared.Workload.{Workload}
 use Rattle.spec_text.specs.Reading.{sort, isRelation, isKey, isProgram, isStatement, isStatementOf, program, relationSet, kindSets}
 use Rattle.spec_text.specs.Reading.{inBody, withinBounds, ordered, named, read}
@@ -25,7 +25,7 @@ use Rattle.law_text.specs.LineCountLaws.{bounded-true, program-joins}
 use Rattle.law_text.specs.ValueLaws.{given-read}
 use Rattle.spec_graph.specs.Program.{Statement, Link, statementOf, programsOf}
 use Rattle.spec_graph.specs.Unfolding.{Node, Occurrence, nodesOf}
-use Rattle.spec_graph.specs.Edge.{hasReads, hasWrites, inserts, deletes}
+use Rattle.spec_graph.specs.Edge.{hasReads, hasWrites, hasTests, inserts, deletes}
 use Rattle.node_laws.specs.FromLines.{OnLines, execution-holds, program-holds}
 use Rattle.node_laws.specs.FromLinks.{program-link, node-program}
 
@@ -43,8 +43,8 @@ pub record LawfulStatement (lines : List Line) (s : Statement) : Type 0 where
   pub reads : within (s .reads) (relationSet lines (s .relation)) ≡ true
   pub writes : within (s .writes) (relationSet lines (s .relation)) ≡ true
   pub tests : within (s .tests) (relationSet lines (s .relation)) ≡ true
-  -- T9: reads of ks are not 0
-  pub selected : s .kind ≡ Ks → s .reads ≡ 0 → ⊥
+  -- T9, Req 03: reads of ks and kl, the kinds with reads alone, are not 0
+  pub selected : hasReads (s .kind) && not (hasWrites (s .kind) || hasTests (s .kind)) ≡ true → s .reads ≡ 0 → ⊥
   -- T9: writes of ku and pu, the kinds with reads and writes, are not 0
   pub updated : hasReads (s .kind) && hasWrites (s .kind) ≡ true → s .writes ≡ 0 → ⊥
   -- T9: writes of is, kd and pd are the whole relation
@@ -63,9 +63,16 @@ filled : (x : ℕ) → not (eqb x 0) ≡ true → x ≡ 0 → ⊥
 filled x h = eqb-false x 0 (not-true (eqb x 0) h)
 
 module _ {whole : ℕ} {l : Line} where
-  reads-filled : {k : StatementKind} → SetsLawful whole k l → k ≡ Ks → l .reads ≡ 0 → ⊥
+  reads-filled : (k : StatementKind) → SetsLawful whole k l → hasReads k && not (hasWrites k || hasTests k) ≡ true → l .reads ≡ 0 → ⊥
   unfolding kindSets
-  reads-filled s e = filled (l .reads) (subst (λ (k : StatementKind). kindSets whole k l ≡ true) e (s .kind-sets))
+  reads-filled Ks s h = filled (l .reads) (s .kind-sets)
+  reads-filled Kl s h = filled (l .reads) (s .kind-sets)
+  reads-filled Is s h = absurd (true-false h refl)
+  reads-filled Ps s h = absurd (true-false h refl)
+  reads-filled Ku s h = absurd (true-false h refl)
+  reads-filled Pu s h = absurd (true-false h refl)
+  reads-filled Kd s h = absurd (true-false h refl)
+  reads-filled Pd s h = absurd (true-false h refl)
 
   writes-filled : (k : StatementKind) → SetsLawful whole k l → hasReads k && hasWrites k ≡ true → l .writes ≡ 0 → ⊥
   unfolding kindSets
@@ -76,6 +83,7 @@ module _ {whole : ℕ} {l : Line} where
   writes-filled Ps s h = absurd (true-false h refl)
   writes-filled Kd s h = absurd (true-false h refl)
   writes-filled Pd s h = absurd (true-false h refl)
+  writes-filled Kl s h = absurd (true-false h refl)
 
   writes-whole : (k : StatementKind) → SetsLawful whole k l → inserts k || deletes k ≡ true → l .writes ≡ whole
   writes-whole Is s h = insert-whole s
@@ -85,6 +93,7 @@ module _ {whole : ℕ} {l : Line} where
   writes-whole Ps s h = absurd (true-false h refl)
   writes-whole Ku s h = absurd (true-false h refl)
   writes-whole Pu s h = absurd (true-false h refl)
+  writes-whole Kl s h = absurd (true-false h refl)
 
 -- ---- accepted lines
 
@@ -134,7 +143,7 @@ module _ (text : List ℕ) (lines : List Line) (taken : read text ≡ accepted l
         reads = sets .reads-within;
         writes = sets .writes-within;
         tests = sets .tests-within;
-        selected = reads-filled sets;
+        selected = reads-filled k sets;
         updated = writes-filled k sets;
         whole = writes-whole k sets;
       }

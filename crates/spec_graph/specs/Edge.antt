@@ -9,12 +9,12 @@ use lib.Dec.{eqb}
 use lib.ListN.{length, getElem?, take}
 use Rattle.spec_base.specs.Basic.{any, meets}
 use Rattle.spec_text.specs.declared.StatementKind.{StatementKind}
-use Rattle.spec_text.specs.declared.StatementKind.the-variants.{Is, Ks, Ps, Ku, Pu, Kd, Pd}
+use Rattle.spec_text.specs.declared.StatementKind.the-variants.{Is, Ks, Ps, Ku, Pu, Kd, Pd, Kl}
 use Rattle.spec_graph.specs.Program.{Statement, Link}
 use Rattle.spec_graph.specs.Unfolding.{Around, Occurrence, Node}
 use Rattle.spec_graph.specs.Graph.{Flow, Graph}
 
--- T5: which sets a kind has
+-- T5, Req 03: which sets a kind has; a kl reads and no more
 abbrev pub hasReads : StatementKind → Bool
 hasReads Is = false
 hasReads Ks = true
@@ -23,6 +23,7 @@ hasReads Ku = true
 hasReads Pu = true
 hasReads Kd = false
 hasReads Pd = false
+hasReads Kl = true
 
 abbrev pub hasWrites : StatementKind → Bool
 hasWrites Is = true
@@ -32,6 +33,7 @@ hasWrites Ku = true
 hasWrites Pu = true
 hasWrites Kd = true
 hasWrites Pd = true
+hasWrites Kl = false
 
 abbrev pub hasTests : StatementKind → Bool
 hasTests Is = false
@@ -41,6 +43,7 @@ hasTests Ku = false
 hasTests Pu = true
 hasTests Kd = false
 hasTests Pd = true
+hasTests Kl = false
 
 -- the kinds that the letters name
 abbrev pub inserts : StatementKind → Bool
@@ -51,6 +54,7 @@ inserts Ku = false
 inserts Pu = false
 inserts Kd = false
 inserts Pd = false
+inserts Kl = false
 
 abbrev pub deletes : StatementKind → Bool
 deletes Is = false
@@ -60,7 +64,9 @@ deletes Ku = false
 deletes Pu = false
 deletes Kd = true
 deletes Pd = true
+deletes Kl = false
 
+-- E2, Req 03: the kinds that a back D leaves; a kl is none of them
 abbrev pub selects : StatementKind → Bool
 selects Is = false
 selects Ks = true
@@ -69,8 +75,9 @@ selects Ku = false
 selects Pu = false
 selects Kd = false
 selects Pd = false
+selects Kl = false
 
--- E3: the kinds of a parent that shields
+-- E3, Req 03: the kinds of a parent that shields
 abbrev pub shields : StatementKind → Bool
 shields Is = true
 shields Ks = false
@@ -79,6 +86,7 @@ shields Ku = true
 shields Pu = false
 shields Kd = true
 shields Pd = false
+shields Kl = true
 
 -- E0: W, R and T of a statement; a set that the kind lacks meets nothing
 unfoldable pub W : Statement → ℕ
@@ -219,7 +227,7 @@ edgesBetween s t =
 unfoldable pub edgesOf : List Node → List Edge
 edgesOf nodes = flatMap (λ s. flatMap (λ t. edgesBetween s t) (placesOf 0 nodes)) (placesOf 0 nodes)
 
--- W4: the kinds that make a pair dangerous where the first edge leaves them
+-- W4, Req 03: the kinds that make a pair dangerous where the first edge leaves them; a kl is none of them
 abbrev pub loosens : StatementKind → Bool
 loosens Is = false
 loosens Ks = true
@@ -228,6 +236,7 @@ loosens Ku = false
 loosens Pu = true
 loosens Kd = false
 loosens Pd = true
+loosens Kl = false
 
 -- the place with this number of the node with this number
 unfoldable pub placeAt : List Node → ℕ → ℕ → Option Place

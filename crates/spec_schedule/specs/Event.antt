@@ -8,12 +8,14 @@ use lib.Dec.{eqb}
 use lib.ListN.{take}
 use Rattle.spec_base.specs.Basic.{any, all, keep, first, from, has}
 
--- H2: what an operation does
+-- H2, Req 03: what an operation does; `lock` is a read with lock
 pub data Action : Type 0 where
-  read write insert delete predicateRead commit : Action
+  read lock write insert delete predicateRead commit : Action
 
+-- a read with lock is a read too
 abbrev pub isRead : Action → Bool
 isRead read = true
+isRead lock = true
 isRead write = false
 isRead insert = false
 isRead delete = false
@@ -22,6 +24,7 @@ isRead commit = false
 
 abbrev pub isPredicateRead : Action → Bool
 isPredicateRead read = false
+isPredicateRead lock = false
 isPredicateRead write = false
 isPredicateRead insert = false
 isPredicateRead delete = false
@@ -30,6 +33,7 @@ isPredicateRead commit = false
 
 abbrev pub isInsert : Action → Bool
 isInsert read = false
+isInsert lock = false
 isInsert write = false
 isInsert insert = true
 isInsert delete = false
@@ -38,6 +42,7 @@ isInsert commit = false
 
 abbrev pub isDelete : Action → Bool
 isDelete read = false
+isDelete lock = false
 isDelete write = false
 isDelete insert = false
 isDelete delete = true
@@ -46,6 +51,7 @@ isDelete commit = false
 
 abbrev pub isCommit : Action → Bool
 isCommit read = false
+isCommit lock = false
 isCommit write = false
 isCommit insert = false
 isCommit delete = false
@@ -55,11 +61,26 @@ isCommit commit = true
 -- inserts and deletes are writes too
 abbrev pub isWrite : Action → Bool
 isWrite read = false
+isWrite lock = false
 isWrite write = true
 isWrite insert = true
 isWrite delete = true
 isWrite predicateRead = false
 isWrite commit = false
+
+-- Req 03
+abbrev pub isLock : Action → Bool
+isLock read = false
+isLock lock = true
+isLock write = false
+isLock insert = false
+isLock delete = false
+isLock predicateRead = false
+isLock commit = false
+
+-- Req 03: writes or locks: what waits for other transactions, and they for it
+abbrev pub isClaim : Action → Bool
+isClaim a = isWrite a || isLock a
 
 -- An operation in a schedule. X7: transaction and number tell which operation it is. `place` is its statement's place in the execution;
 -- a predicate read has no tuple, a commit neither relation nor tuple. `attributes` are those read, written or tested.
@@ -79,6 +100,10 @@ by i e = eqb (e .transaction) i
 -- writes tuple t of relation r
 unfoldable pub writesTo : ℕ → ℕ → Event → Bool
 writesTo r t e = isWrite (e .action) && eqb (e .relation) r && eqb (e .tuple) t
+
+-- Req 03: writes or locks tuple t of relation r
+unfoldable pub claims : ℕ → ℕ → Event → Bool
+claims r t e = isClaim (e .action) && eqb (e .relation) r && eqb (e .tuple) t
 
 -- the events before position n
 unfoldable pub pastAt : List Event → ℕ → List Event
@@ -126,6 +151,7 @@ meetsVisible start past e =
     let t = e .tuple in
     elim (e .action) [
       | read ↦ visible start r t (seen past (e .transaction) r t)
+      | lock ↦ visible start r t (seen past (e .transaction) r t)
       | write ↦ visible start r t (writesOf r t past)
       | delete ↦ visible start r t (writesOf r t past)
       | insert ↦ true
@@ -133,11 +159,11 @@ meetsVisible start past e =
       | commit ↦ true
     ]
 
--- H11: no transaction writes a tuple between another's write of it and that one's commit
+-- H11, Req 03: no transaction writes or locks a tuple between another's write or lock of it and that one's commit
 unfoldable pub waits : List Event → Event → Bool
 waits past e =
-    not (isWrite (e .action))
-    || all (λ w. by (e .transaction) w || committed past (w .transaction)) (writesOf (e .relation) (e .tuple) past)
+    not (isClaim (e .action))
+    || all (λ w. by (e .transaction) w || committed past (w .transaction)) (keep (claims (e .relation) (e .tuple)) past)
 
 -- of one statement of one transaction
 unfoldable pub sameStatement : Event → Event → Bool

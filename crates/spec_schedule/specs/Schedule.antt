@@ -9,12 +9,12 @@ use lib.ListN.{length, getElem?}
 use Rattle.spec_base.specs.Basic.{all, keep}
 use Rattle.spec_text.specs.declared.Line.{Line}
 use Rattle.spec_text.specs.declared.StatementKind.{StatementKind}
-use Rattle.spec_text.specs.declared.StatementKind.the-variants.{Is, Ks, Ps, Ku, Pu, Kd, Pd}
+use Rattle.spec_text.specs.declared.StatementKind.the-variants.{Is, Ks, Ps, Ku, Pu, Kd, Pd, Kl}
 use Rattle.spec_graph.specs.Program.{Link, Program, programsOf}
 use Rattle.spec_graph.specs.Unfolding.{Execution, Occurrence, occurrences}
 use Rattle.spec_graph.specs.Edge.{W, R, T, hasTests, binds}
 use Rattle.spec_schedule.specs.Event.{Action, Event, by, allObey}
-use Rattle.spec_schedule.specs.Event.Action.{read, write, insert, delete, predicateRead, commit}
+use Rattle.spec_schedule.specs.Event.Action.{read, lock, write, insert, delete, predicateRead, commit}
 
 -- a tuple: relations have as many as there are numbers
 pub record Tuple : Type 0 where
@@ -38,6 +38,7 @@ chosen Ku one many = one ∷ []
 chosen Pu one many = many
 chosen Kd one many = one ∷ []
 chosen Pd one many = many
+chosen Kl one many = one ∷ []
 
 -- a statement of an execution with its place and tuples
 pub record Performed : Type 0 where
@@ -65,7 +66,7 @@ pub record Operation : Type 0 where
 abbrev pub everyAttribute : ℕ
 everyAttribute = 0xffff_ffff_ffff_ffff
 
--- H2: what each kind of statement does to one of its tuples
+-- H2, Req 03: what each kind of statement does to one of its tuples
 unfoldable pub onTuple : Performed → ℕ → List Operation
 onTuple p t =
     let s = p .occurrence .statement in
@@ -78,6 +79,7 @@ onTuple p t =
       | Pu ↦ does read (R s) ∷ does write (W s) ∷ []
       | Kd ↦ does delete everyAttribute ∷ []
       | Pd ↦ does delete everyAttribute ∷ []
+      | Kl ↦ does lock (R s) ∷ []
     ]
 
 -- H2: ps, pu and pd begin with a predicate read of the relation

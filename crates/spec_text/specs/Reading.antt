@@ -11,7 +11,7 @@ use Rattle.spec_text.specs.declared.Line.{Line}
 use Rattle.spec_text.specs.declared.LineKind.{LineKind}
 use Rattle.spec_text.specs.declared.LineKind.the-variants.{Rl, Fk, Pr, St, Lo, Br, El, En, Li}
 use Rattle.spec_text.specs.declared.StatementKind.{StatementKind}
-use Rattle.spec_text.specs.declared.StatementKind.the-variants.{Is, Ks, Ps, Ku, Pu, Kd, Pd}
+use Rattle.spec_text.specs.declared.StatementKind.the-variants.{Is, Ks, Ps, Ku, Pu, Kd, Pd, Kl}
 use Rattle.spec_text.specs.Text.{newline, space, dash, isDecimal, isLetter, same, linesIn, namesLine, lineOf, unusedLine}
 
 -- T6: the sorts of line in the order in which they stand: relations, keys, programs; in a program statements and flow, then links
@@ -193,7 +193,7 @@ named before l =
           && ltb (l .to) (count isStatement (program before))
     ]
 
--- R5, T9: reads of ks and writes of ku and pu are not 0; writes of is, kd, pd are the whole relation
+-- R5, T9, Req 03: reads of ks and kl and writes of ku and pu are not 0; writes of is, kd, pd are the whole relation
 unfoldable pub kindSets : ℕ → StatementKind → Line → Bool
 kindSets whole Is l = eqb (l .writes) whole
 kindSets whole Ks l = not (eqb (l .reads) 0)
@@ -202,6 +202,7 @@ kindSets whole Ku l = not (eqb (l .writes) 0)
 kindSets whole Pu l = not (eqb (l .writes) 0)
 kindSets whole Kd l = eqb (l .writes) whole
 kindSets whole Pd l = eqb (l .writes) whole
+kindSets whole Kl l = not (eqb (l .reads) 0)
 
 -- R5, T9: a relation has attributes; sets lie within the relation's
 unfoldable pub setsFit : List Line → Line → Bool
@@ -220,7 +221,7 @@ setsFit before l =
       | Li ↦ true
     ]
 
--- R8, T10: the kinds of a link's parent
+-- R8, T10, Req 03: the kinds of a link's parent
 unfoldable pub canBeParent : StatementKind → Bool
 canBeParent Is = true
 canBeParent Ks = true
@@ -229,6 +230,7 @@ canBeParent Ku = true
 canBeParent Pu = false
 canBeParent Kd = true
 canBeParent Pd = false
+canBeParent Kl = true
 
 -- R8, T11: each loop and each arm around the first statement is around the second
 unfoldable pub allAround : List Line → ℕ → ℕ → Bool

@@ -9,7 +9,7 @@ use Rattle.spec_base.specs.Basic.{all, first}
 use Rattle.spec_text.specs.declared.Line.{Line}
 use Rattle.spec_text.specs.declared.LineKind.{LineKind}
 use Rattle.spec_text.specs.declared.LineKind.the-variants.{Rl, Fk, Pr, St, Lo, Br, El, En, Li}
-use Rattle.spec_text.specs.declared.StatementKind.the-variants.{Is, Ks, Ps, Ku, Pu, Kd, Pd}
+use Rattle.spec_text.specs.declared.StatementKind.the-variants.{Is, Ks, Ps, Ku, Pu, Kd, Pd, Kl}
 
 -- the bytes that part lines and fields, and the dash
 abbrev pub newline : ℕ
@@ -122,6 +122,8 @@ wordOf (St Pu) = 0x70 ∷ 0x75 ∷ []
 wordOf (St Kd) = 0x6b ∷ 0x64 ∷ []
 -- pd
 wordOf (St Pd) = 0x70 ∷ 0x64 ∷ []
+-- kl (Req 03)
+wordOf (St Kl) = 0x6b ∷ 0x6c ∷ []
 -- lo
 wordOf Lo = 0x6c ∷ 0x6f ∷ []
 -- br
@@ -136,7 +138,7 @@ wordOf Li = 0x6c ∷ 0x69 ∷ []
 unfoldable pub kinds : List LineKind
 kinds =
     Rl ∷ Fk ∷ Pr
-    ∷ St Is ∷ St Ks ∷ St Ps ∷ St Ku ∷ St Pu ∷ St Kd ∷ St Pd
+    ∷ St Is ∷ St Ks ∷ St Ps ∷ St Ku ∷ St Pu ∷ St Kd ∷ St Pd ∷ St Kl
     ∷ Lo ∷ Br ∷ El ∷ En ∷ Li ∷ []
 
 -- T5: the kind whose word this is
@@ -159,6 +161,7 @@ formsOf (St Ku) = number ∷ number ∷ nothing ∷ set ∷ set ∷ nothing ∷ 
 formsOf (St Pu) = number ∷ number ∷ nothing ∷ set ∷ set ∷ set ∷ []
 formsOf (St Kd) = number ∷ number ∷ nothing ∷ nothing ∷ set ∷ nothing ∷ []
 formsOf (St Pd) = number ∷ number ∷ nothing ∷ nothing ∷ set ∷ set ∷ []
+formsOf (St Kl) = number ∷ number ∷ nothing ∷ set ∷ nothing ∷ nothing ∷ []
 formsOf Lo = nothing ∷ nothing ∷ nothing ∷ nothing ∷ nothing ∷ nothing ∷ []
 formsOf Br = nothing ∷ nothing ∷ nothing ∷ nothing ∷ nothing ∷ nothing ∷ []
 formsOf El = nothing ∷ nothing ∷ nothing ∷ nothing ∷ nothing ∷ nothing ∷ []

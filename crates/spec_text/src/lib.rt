@@ -1,6 +1,6 @@
 // The workload value: what a text is read into, as the values of its lines. Believed.
 
-// The seven kinds of statement.
+// The eight kinds of statement; Kl is document 02's, Req 03.
 pub enum StatementKind {
     Is,
     Ks,
@@ -9,9 +9,10 @@ pub enum StatementKind {
     Pu,
     Kd,
     Pd,
+    Kl,
 }
 
-// The kinds of line; St is a statement of one of the seven kinds.
+// The kinds of line; St is a statement of one of the eight kinds.
 pub enum LineKind {
     Rl,
     Fk,

@@ -12,7 +12,7 @@ use Rattle.law_base.specs.BoolLaws.{and-of, or-left, or-right}
 use Rattle.law_base.specs.ListLaws.{all-append}
 use Rattle.spec_text.specs.declared.LineKind.{LineKind}
 use Rattle.spec_text.specs.declared.LineKind.the-variants.{Rl, Fk, Pr, St, Lo, Br, El, En, Li}
-use Rattle.spec_text.specs.declared.StatementKind.the-variants.{Is, Ks, Ps, Ku, Pu, Kd, Pd}
+use Rattle.spec_text.specs.declared.StatementKind.the-variants.{Is, Ks, Ps, Ku, Pu, Kd, Pd, Kl}
 use Rattle.spec_text.specs.Text.{Form, newline, space, dash, isDecimal, isLetter, wordOf}
 use Rattle.spec_text.specs.Text.Form.{number, set, nothing}
 use Rattle.spec_text.specs.Reading.{isAllowed}
@@ -83,6 +83,7 @@ word-printable (St Ku) = refl
 word-printable (St Pu) = refl
 word-printable (St Kd) = refl
 word-printable (St Pd) = refl
+word-printable (St Kl) = refl
 word-printable Lo = refl
 word-printable Br = refl
 word-printable El = refl

@@ -16,7 +16,7 @@ use Rattle.law_base.specs.BoolLaws.{and-true, and-of, or-left, or-right, not-tr
 use Rattle.spec_text.specs.declared.Line.{Line}
 use Rattle.spec_text.specs.declared.LineKind.{LineKind}
 use Rattle.spec_text.specs.declared.LineKind.the-variants.{Rl, Fk, Pr, St, Lo, Br, El, En, Li}
-use Rattle.spec_text.specs.declared.StatementKind.the-variants.{Is, Ks, Ps, Ku, Pu, Kd, Pd}
+use Rattle.spec_text.specs.declared.StatementKind.the-variants.{Is, Ks, Ps, Ku, Pu, Kd, Pd, Kl}
 use Rattle.spec_text.specs.Text.{same, onFirst, fieldsIn, Form, formsOf, fieldOf, valuesOf, wordOf, kindOf, lineWith, lineOf}
 use Rattle.spec_text.specs.Text.Form.{number, set, nothing}
 use Rattle.spec_text.specs.Text.{space, dash, newline, isDecimal, isHexadecimal, digitsForm, digitValue, valueAfter, numberOf, setOf, dashOf}
@@ -446,6 +446,7 @@ word-no-space (St Ku) = refl
 word-no-space (St Pu) = refl
 word-no-space (St Kd) = refl
 word-no-space (St Pd) = refl
+word-no-space (St Kl) = refl
 word-no-space Lo = refl
 word-no-space Br = refl
 word-no-space El = refl
