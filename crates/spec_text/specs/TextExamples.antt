@@ -11,7 +11,7 @@ use Rattle.spec_base.specs.Basic.{all, any, keep, numbers, numbersFrom, has}
 use Rattle.spec_text.specs.declared.Line.{Line}
 use Rattle.spec_text.specs.declared.LineKind.{LineKind}
 use Rattle.spec_text.specs.declared.LineKind.the-variants.{Rl, Fk, Pr, St, Lo, Br, El, En, Li}
-use Rattle.spec_text.specs.declared.StatementKind.the-variants.{Is, Ks, Ps, Ku, Pu, Kd, Pd}
+use Rattle.spec_text.specs.declared.StatementKind.the-variants.{Is, Ks, Ps, Ku, Pu, Kd, Pd, Kl}
 use Rattle.spec_text.specs.declared.Workload.{Workload}
 use Rattle.spec_text.specs.Text.{
   isHexadecimal,
@@ -327,11 +327,11 @@ faults before [] = []
 faults before (l ∷ lines) = fault before l ∷ faults (before ++ (l ∷ [])) lines
 
 -- T6: the sorts of the kinds, and the kinds that are statements
-sorts : map sort kinds ≡ 0 ∷ 1 ∷ 2 ∷ 3 ∷ 3 ∷ 3 ∷ 3 ∷ 3 ∷ 3 ∷ 3 ∷ 3 ∷ 3 ∷ 3 ∷ 3 ∷ 4 ∷ []
+sorts : map sort kinds ≡ 0 ∷ 1 ∷ 2 ∷ 3 ∷ 3 ∷ 3 ∷ 3 ∷ 3 ∷ 3 ∷ 3 ∷ 3 ∷ 3 ∷ 3 ∷ 3 ∷ 3 ∷ 4 ∷ []
 unfolding readBytes
 sorts = refl
 
-statement-kinds : keep (isStatementOf (λ k. true)) kinds ≡ St Is ∷ St Ks ∷ St Ps ∷ St Ku ∷ St Pu ∷ St Kd ∷ St Pd ∷ []
+statement-kinds : keep (isStatementOf (λ k. true)) kinds ≡ St Is ∷ St Ks ∷ St Ps ∷ St Ku ∷ St Pu ∷ St Kd ∷ St Pd ∷ St Kl ∷ []
 unfolding readBytes
 statement-kinds = refl
 
@@ -359,7 +359,7 @@ shown blocks = map (λ b. (b .place, b .part)) blocks
 blocks-after
     : map (λ k. shown (blocksAfter k 9 (record { place = 3; part = 1 } ∷ record { place = 1; part = 0 } ∷ []))) kinds
     ≡ let same = (3, 1) ∷ (1, 0) ∷ [] in
-    replicate 10 same ++ (((9, 0) ∷ same) ∷ ((9, 1) ∷ same) ∷ ((3, 2) ∷ (1, 0) ∷ []) ∷ ((1, 0) ∷ []) ∷ same ∷ [])
+    replicate 11 same ++ (((9, 0) ∷ same) ∷ ((9, 1) ∷ same) ∷ ((3, 2) ∷ (1, 0) ∷ []) ∷ ((1, 0) ∷ []) ∷ same ∷ [])
 unfolding readBytes shown
 blocks-after = refl
 
@@ -429,9 +429,9 @@ flow-bound-others = refl
 sort-kinds
     : map (λ test. keep (λ k. test (lineWith k [])) kinds) (isRelation ∷ isKey ∷ isProgram ∷ isStatementOrFlow ∷ isLink ∷ isStatement ∷ [])
     ≡ (Rl ∷ []) ∷ (Fk ∷ []) ∷ (Pr ∷ [])
-    ∷ (St Is ∷ St Ks ∷ St Ps ∷ St Ku ∷ St Pu ∷ St Kd ∷ St Pd ∷ Lo ∷ Br ∷ El ∷ En ∷ [])
+    ∷ (St Is ∷ St Ks ∷ St Ps ∷ St Ku ∷ St Pu ∷ St Kd ∷ St Pd ∷ St Kl ∷ Lo ∷ Br ∷ El ∷ En ∷ [])
     ∷ (Li ∷ [])
-    ∷ (St Is ∷ St Ks ∷ St Ps ∷ St Ku ∷ St Pu ∷ St Kd ∷ St Pd ∷ []) ∷ []
+    ∷ (St Is ∷ St Ks ∷ St Ps ∷ St Ku ∷ St Pu ∷ St Kd ∷ St Pd ∷ St Kl ∷ []) ∷ []
 unfolding lineWith kinds sort isRelation isKey isProgram isStatementOrFlow isLink isStatementOf isStatement
 sort-kinds = refl
 
