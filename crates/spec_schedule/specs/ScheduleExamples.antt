@@ -11,7 +11,7 @@ use Rattle.spec_text.specs.declared.StatementKind.{StatementKind}
 use Rattle.spec_graph.specs.Program.{Statement, Program, statementOf, inFrontOf, runOf, linksOf, programsOf, Run}
 use Rattle.spec_graph.specs.Unfolding.{Occurrence, inside, occurrences}
 use Rattle.spec_graph.specs.Edge.{W, R, T, leads, binds}
-use Rattle.spec_schedule.specs.Event.{Action, Event, by, writesTo, pastAt, writesOf, committed, seen, source, existence, visible}
+use Rattle.spec_schedule.specs.Event.{Action, Event, by, writesTo, claims, pastAt, writesOf, committed, seen, source, existence, visible}
 use Rattle.spec_schedule.specs.Event.{insertsFirst, deletesLast, meetsVisible, waits, sameStatement, together, obeys, allObey}
 use Rattle.spec_schedule.specs.Serial.{serialRun, stateAt, SameRead, SamePredicateRead, SerialOrder}
 use Rattle.spec_schedule.specs.Schedule.{Tuple, Transaction, Performed, Operation, Schedule, everyAttribute, chosen}
@@ -23,17 +23,17 @@ use native.Mathlib.Omega.{arith}
 use native.Mathlib.Nat.{not-suc-le-zero, add-zero, zero-add}
 use lib.Dec.{eqb, ltb}
 use borrow.Author.Tests.{ltb-true}
-use lib.ListN.{length, getD, getElem?}
+use lib.ListN.{length, getD, getElem?, replicate}
 use Rattle.spec_base.specs.Basic.{all, keep, count}
 use Rattle.law_base.specs.BoolLaws.{true-false, false-of}
 use Rattle.law_base.specs.ListLaws.{all-true, some-injective}
-use Rattle.spec_text.specs.declared.StatementKind.the-variants.{Is, Ks, Ps, Ku, Pu, Kd, Pd}
+use Rattle.spec_text.specs.declared.StatementKind.the-variants.{Is, Ks, Ps, Ku, Pu, Kd, Pd, Kl}
 use Rattle.spec_graph.specs.Program.Item.{statement, loop, branch}
 use Rattle.spec_graph.specs.Program.Run.{done, next}
 use Rattle.spec_graph.specs.Unfolding.Execution.{end, step}
 use Rattle.spec_graph.specs.Unfolding.ItemExecution.{perform, turns, arm-one, arm-two}
 use Rattle.spec_graph.specs.Unfolding.Turns.{stop, turn}
-use Rattle.spec_schedule.specs.Event.Action.{read, write, insert, delete, predicateRead, commit}
+use Rattle.spec_schedule.specs.Event.Action.{read, lock, write, insert, delete, predicateRead, commit}
 
 -- a line of a workload: kind id rel to reads writes tests, 0 for a value that the kind does not have
 abbrev pub line : LineKind → ℕ → ℕ → ℕ → ℕ → ℕ → ℕ → Line
@@ -55,7 +55,7 @@ openWorkload = true
 
 -- opens what the rules on events and the serial run compute with
 unfoldable pub openRules : Bool
-unfolding flatMap serialRun stateAt writesTo pastAt writesOf committed seen source existence visible
+unfolding flatMap serialRun stateAt writesTo claims pastAt writesOf committed seen source existence visible
     insertsFirst deletesLast meetsVisible waits sameStatement together obeys allObey
 openRules = true
 
@@ -468,11 +468,11 @@ abbrev alone-rule : ((ℕ → ℕ → Bool) → List Event → Event → Bool) �
 alone-rule rule past =
     map
     (λ a. rule (λ r t. eqb r 3 && eqb t 2) past (event 1 0 0 a 3 2 1))
-    (read ∷ write ∷ insert ∷ delete ∷ predicateRead ∷ commit ∷ [])
+    (read ∷ lock ∷ write ∷ insert ∷ delete ∷ predicateRead ∷ commit ∷ [])
 
 -- H5: no insert after a write, nor where the tuple starts visible
 first-alone : map (alone-rule insertsFirst) ([] ∷ (event 0 0 0 delete 3 2 1 ∷ []) ∷ [])
-    ≡ (true ∷ true ∷ false ∷ true ∷ true ∷ true ∷ []) ∷ (true ∷ true ∷ false ∷ true ∷ true ∷ true ∷ []) ∷ []
+    ≡ (true ∷ true ∷ true ∷ false ∷ true ∷ true ∷ true ∷ []) ∷ (true ∷ true ∷ true ∷ false ∷ true ∷ true ∷ true ∷ []) ∷ []
 unfolding openRules
 first-alone = refl
 
@@ -488,39 +488,39 @@ last-alone : map (alone-rule (λ start. deletesLast))
     ∷ (event 0 1 1 commit 0 0 0 ∷ event 0 0 0 delete 3 2 1 ∷ [])
     ∷ (event 0 0 0 delete 2 3 1 ∷ event 0 0 0 write 3 2 1 ∷ [])
     ∷ [])
-    ≡ (true ∷ false ∷ false ∷ false ∷ true ∷ true ∷ [])
-    ∷ (true ∷ false ∷ false ∷ false ∷ true ∷ true ∷ [])
-    ∷ (true ∷ true ∷ true ∷ true ∷ true ∷ true ∷ [])
+    ≡ (true ∷ true ∷ false ∷ false ∷ false ∷ true ∷ true ∷ [])
+    ∷ (true ∷ true ∷ false ∷ false ∷ false ∷ true ∷ true ∷ [])
+    ∷ (true ∷ true ∷ true ∷ true ∷ true ∷ true ∷ true ∷ [])
     ∷ []
 unfolding openRules
 last-alone = refl
 
--- H6: a read meets the version seen, a write and a delete the latest; inserts, predicate reads and commits meet none
+-- H6, Req 03: a read and a lock meet the version seen, a write and a delete the latest; inserts, predicate reads and commits meet none
 visible-alone : map (alone-rule meetsVisible)
     ([] ∷ (event 0 0 0 delete 3 2 1 ∷ []) ∷ (event 0 1 1 commit 0 0 0 ∷ event 0 0 0 delete 3 2 1 ∷ []) ∷ [])
-    ≡ (true ∷ true ∷ true ∷ true ∷ true ∷ true ∷ [])
-    ∷ (true ∷ false ∷ true ∷ false ∷ true ∷ true ∷ [])
-    ∷ (false ∷ false ∷ true ∷ false ∷ true ∷ true ∷ [])
+    ≡ (true ∷ true ∷ true ∷ true ∷ true ∷ true ∷ true ∷ [])
+    ∷ (true ∷ true ∷ false ∷ true ∷ false ∷ true ∷ true ∷ [])
+    ∷ (false ∷ false ∷ false ∷ true ∷ false ∷ true ∷ true ∷ [])
     ∷ []
 unfolding openRules
 visible-alone = refl
 
--- H11: each write of the tuple that is another's and not committed bars writes, inserts and deletes, also below an own one
+-- H11, Req 03: each write or lock of the tuple that is another's and not committed bars locks, writes, inserts and deletes, also below an own one;
+-- neither what is done to other tuples nor a plain read does
 waits-alone : map (alone-rule (λ start. waits))
-    ((event 0 0 0 write 3 2 1 ∷ [])
+    ((event 0 0 0 lock 3 2 1 ∷ [])
+    ∷ (event 0 0 0 write 3 2 1 ∷ [])
     ∷ (event 0 0 0 insert 3 2 1 ∷ [])
     ∷ (event 0 0 0 delete 3 2 1 ∷ [])
     ∷ (event 1 0 0 write 3 2 1 ∷ event 0 0 0 write 3 2 1 ∷ [])
+    ∷ (event 1 0 0 lock 3 2 1 ∷ event 0 0 0 lock 3 2 1 ∷ [])
     ∷ (event 0 1 1 commit 0 0 0 ∷ event 0 0 0 write 3 2 1 ∷ event 1 0 0 write 3 2 1 ∷ [])
+    ∷ (event 0 1 1 commit 0 0 0 ∷ event 0 0 0 lock 3 2 1 ∷ event 1 0 0 lock 3 2 1 ∷ [])
     ∷ (event 0 0 0 write 2 3 1 ∷ event 0 0 0 write 3 3 1 ∷ event 0 0 0 write 2 2 1 ∷ event 0 0 0 read 3 2 1 ∷ [])
+    ∷ (event 0 0 0 lock 2 3 1 ∷ event 0 0 0 lock 3 3 1 ∷ event 0 0 0 lock 2 2 1 ∷ [])
     ∷ [])
-    ≡ (true ∷ false ∷ false ∷ false ∷ true ∷ true ∷ [])
-    ∷ (true ∷ false ∷ false ∷ false ∷ true ∷ true ∷ [])
-    ∷ (true ∷ false ∷ false ∷ false ∷ true ∷ true ∷ [])
-    ∷ (true ∷ false ∷ false ∷ false ∷ true ∷ true ∷ [])
-    ∷ (true ∷ true ∷ true ∷ true ∷ true ∷ true ∷ [])
-    ∷ (true ∷ true ∷ true ∷ true ∷ true ∷ true ∷ [])
-    ∷ []
+    ≡ replicate 6 (true ∷ false ∷ false ∷ false ∷ false ∷ true ∷ true ∷ [])
+    ++ replicate 4 (true ∷ true ∷ true ∷ true ∷ true ∷ true ∷ true ∷ [])
 unfolding openRules
 waits-alone = refl
 
@@ -659,9 +659,9 @@ link-kinds :
     map
     (λ p. all
     (λ c. keysKept byTen (linked 10 p c) && not (keysKept byTen (linked 11 p c)))
-    (Is ∷ Ks ∷ Ps ∷ Ku ∷ Pu ∷ Kd ∷ Pd ∷ []))
-    (Is ∷ Ks ∷ Ku ∷ Kd ∷ [])
-    ≡ true ∷ true ∷ true ∷ true ∷ []
+    (Is ∷ Ks ∷ Ps ∷ Ku ∷ Pu ∷ Kd ∷ Pd ∷ Kl ∷ []))
+    (Is ∷ Ks ∷ Ku ∷ Kd ∷ Kl ∷ [])
+    ≡ true ∷ true ∷ true ∷ true ∷ true ∷ []
 unfolding openWorkload
 link-kinds = refl
 
