@@ -37,7 +37,7 @@ use Rattle.soundness.specs.Visits.{Visit, At, Spot, Guard, guard-near, g
 -- what reads without lock
 plain-read : (a : Action) → isRead a ≡ true → isLock a ≡ false → a ≡ read
 plain-read read h n = refl
-plain-read lock h n = absurd (true-false n refl)
+plain-read lock h n = absurd (true-false h n)
 plain-read write h n = absurd (true-false h refl)
 plain-read insert h n = absurd (true-false h refl)
 plain-read delete h n = absurd (true-false h refl)

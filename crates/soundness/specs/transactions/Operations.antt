@@ -1,5 +1,5 @@
 -- The operations of one transaction: which statement each belongs to and what it does, in which order they stand.
-use mathlib.Core.Bool.{Bool, true, false, cond, _&&_}
+use mathlib.Core.Bool.{Bool, true, false, cond, not, _&&_}
 use mathlib.Core.List.{List, [], _∷_, _++_, map, flatMap, append-nil, List·Memᴰ, List·Memᴰ·head, List·Memᴰ·tail}
 use mathlib.Core.Logic.{_⊎_, inl, inr}
 use mathlib.Core.Option.{Option, some}
@@ -213,9 +213,13 @@ pub record Followed (o following : Operation) : Type 0 where
 update-actions : (k : StatementKind) → updates k ≡ true → actionsOf k ≡ read ∷ write ∷ []
 unfolding actionsOf
 update-actions k u =
-    rw
-    (u, kind-implies updates readsPlainly refl k u, kinds-apart updates locks refl k u, kinds-apart updates inserts refl k u,
-    kinds-apart updates deletes refl k u)
+    rw (
+      u,
+      kind-implies updates readsPlainly refl k u,
+      kinds-apart updates locks refl k u,
+      kinds-apart updates inserts refl k u,
+      kinds-apart updates deletes refl k u,
+    )
     refl
 
 -- in what an update does to a tuple the write stands after the read
