@@ -1,0 +1,207 @@
+-- Req 03, a lock makes the difference: a robust workload whose stations lock a contact before they judge it, an interleaved schedule of it and its
+-- serial order. With `ks` for `kl` the same programs are dangerous, and three schedules of them have no serial order. Each of the three is
+-- refused once the first read is a lock; two of them by one part of the ban alone, which demand 3 therefore needs: no write behind another's lock,
+-- no lock behind another's write. (No lock behind another's lock: LockedParent.)
+use mathlib.Core.Bool.{true, false}
+use mathlib.Core.List.{List, [], _∷_, map}
+use mathlib.Core.Option.{none, some}
+use mathlib.Core.Path.{_≡_, refl}
+use Rattle.spec_text.specs.declared.Line.{Line}
+use Rattle.spec_text.specs.declared.LineKind.the-variants.{Rl, Pr, St}
+use Rattle.spec_text.specs.declared.StatementKind.{StatementKind}
+use Rattle.spec_text.specs.declared.StatementKind.the-variants.{Ks, Ku, Kl}
+use Rattle.spec_text.specs.Value.{Given, valueOf}
+use Rattle.law_text.specs.Written.{written, rereads}
+use Rattle.law_text.specs.ValueLaws.{value-given}
+use Rattle.spec_graph.specs.Program.{Program}
+use Rattle.spec_graph.specs.Program.Item.{statement}
+use Rattle.spec_graph.specs.Program.Run.{done, next}
+use Rattle.spec_graph.specs.Unfolding.Execution.{end, step}
+use Rattle.spec_graph.specs.Unfolding.ItemExecution.{perform}
+use Rattle.law_walk.specs.Reach.{dangerTest}
+use Rattle.spec_report.specs.State.{Danger, Robust, summaryGraph}
+use Rattle.law_report.specs.Reports.{robust-of, danger-of}
+use Rattle.spec_schedule.specs.Event.{Action, Event, pastAt, seen, source, waits, allObey}
+use Rattle.spec_schedule.specs.Event.Action.{read, lock, write, commit}
+use Rattle.spec_schedule.specs.Schedule.{Transaction, Schedule}
+use Rattle.spec_schedule.specs.Serial.{Serialisable, SerialOrder}
+use Rattle.spec_schedule.specs.SerialTest.{serial-by-test}
+use Rattle.spec_schedule.specs.ScheduleExamples.{line, says, event, openWorkload, openRules}
+use Rattle.cases.specs.Computed.{allPass}
+use Rattle.witness.specs.Joined.{demand}
+use Rattle.witness.specs.Orders.{none-serves, one-serves, openOrders}
+use Rattle.witness.specs.Schedules.{scheduled, lockBehindLock, lockBehindWrite, writeBehindLock, allObeyBut, openParts}
+
+-- relation 0 is contacts; `kl`, or another kind in its place
+-- rl 0 - - 1 - -
+-- pr 0 - - - - -
+-- kl 0 0 - 1 - -
+-- ku 1 0 - 0 1 -
+-- pr 1 - - - - -
+-- ku 0 0 - 0 1 -
+-- pr 2 - - - - -
+-- ks 0 0 - 1 - -
+abbrev pub lines : StatementKind → List Line
+lines k =
+    line Rl 0 0 0 1 0 0
+    ∷ line Pr 0 0 0 0 0 0
+    ∷ line (St k) 0 0 0 1 0 0
+    ∷ line (St Ku) 1 0 0 0 1 0
+    ∷ line Pr 1 0 0 0 0 0
+    ∷ line (St Ku) 0 0 0 0 1 0
+    ∷ line Pr 2 0 0 0 0 0
+    ∷ line (St Ks) 0 0 0 1 0 0
+    ∷ []
+
+-- ---- the verdicts
+
+-- some accepted text gives the workload: what is written of its lines is read as these lines
+pub given : Given (valueOf (lines Kl))
+unfolding rereads
+given = value-given (written (lines Kl)) refl
+
+-- no dangerous closed walk of any length: a back edge leaves the one `ks` alone, which stands first, and no edge that enters it leaves a select
+tested : dangerTest (summaryGraph (lines Kl)) ≡ false
+unfolding allPass
+tested = refl
+
+pub robust : Robust (lines Kl)
+robust = robust-of (lines Kl) tested
+
+-- with `ks` for `kl` it is given and dangerous
+pub selected-given : Given (valueOf (lines Ks))
+unfolding rereads
+selected-given = value-given (written (lines Ks)) refl
+
+selected-tested : dangerTest (summaryGraph (lines Ks)) ≡ true
+unfolding allPass
+selected-tested = refl
+
+pub selected-dangerous : Danger (lines Ks)
+selected-dangerous = danger-of (lines Ks) selected-tested
+
+-- ---- the transactions
+
+-- locks a contact, then updates it; updates a contact; reads a contact: each on contact 0
+abbrev pub judging : StatementKind → Transaction
+judging k =
+    record {
+      program = record { body = next (statement (says k 0 0 1 0 0)) (next (statement (says Ku 1 0 0 1 0)) done); links = [] };
+      execution = step perform (step perform end);
+      tuple = λ i. 0;
+      tuples = λ i. [];
+    }
+
+abbrev pub logging : Transaction
+logging =
+    record {
+      program = record { body = next (statement (says Ku 0 0 0 1 0)) done; links = [] };
+      execution = step perform end;
+      tuple = λ i. 0;
+      tuples = λ i. [];
+    }
+
+abbrev pub showing : Transaction
+showing =
+    record {
+      program = record { body = next (statement (says Ks 0 0 1 0 0)) done; links = [] };
+      execution = step perform end;
+      tuple = λ i. 0;
+      tuples = λ i. [];
+    }
+
+-- ---- the schedule with locks
+
+-- one locks the contact; another reads it, which no lock bans; the first updates it and commits; then the second lock, an update and the commits
+abbrev pub events : List Event
+events =
+    event 0 0 0 lock 0 0 1
+    ∷ event 2 0 0 read 0 0 1
+    ∷ event 0 1 1 read 0 0 0
+    ∷ event 0 2 1 write 0 0 1
+    ∷ event 0 3 2 commit 0 0 0
+    ∷ event 1 0 0 lock 0 0 1
+    ∷ event 1 1 1 read 0 0 0
+    ∷ event 1 2 1 write 0 0 1
+    ∷ event 1 3 2 commit 0 0 0
+    ∷ event 2 1 1 commit 0 0 0
+    ∷ []
+
+pub locked : Schedule (lines Kl)
+unfolding openWorkload openRules
+locked = scheduled (lines Kl) (0 ∷ 0 ∷ 2 ∷ []) (judging Kl ∷ judging Kl ∷ showing ∷ []) (λ f t. t) events refl refl refl refl refl
+
+-- the second lock waits for the first one's commit, and sees what the first wrote
+waits-for-commit : map (λ n. waits (pastAt events n) (event 1 0 0 lock 0 0 1)) (0 ∷ 1 ∷ 4 ∷ 5 ∷ []) ≡ true ∷ false ∷ false ∷ true ∷ []
+unfolding openRules
+waits-for-commit = refl
+
+sees-update : source (seen (pastAt events 5) 1 0 0) 0 ≡ some (event 0 2 1 write 0 0 1)
+unfolding openRules
+sees-update = refl
+
+-- the one that reads comes first, though it commits last
+pub serialised : Serialisable locked
+unfolding openOrders locked
+serialised = serial-by-test 3 events (2 ∷ 0 ∷ 1 ∷ []) refl refl
+
+-- no other order serves
+pub only-order : (s : Serialisable locked) → s .order ≡ 2 ∷ 0 ∷ 1 ∷ []
+unfolding openOrders locked
+only-order = one-serves 3 events (2 ∷ 0 ∷ 1 ∷ []) refl
+
+-- demand 3 of this schedule: its workload is given and robust
+pub serialisable : Serialisable locked
+serialisable = demand (lines Kl) given robust locked
+
+-- ---- the same programs, read and not locked
+
+-- two judge: both read the contact, then the first updates it and commits, then the second
+abbrev pub twoJudge : Action → List Event
+twoJudge a =
+    event 0 0 0 a 0 0 1
+    ∷ event 1 0 0 a 0 0 1
+    ∷ event 0 1 1 read 0 0 0
+    ∷ event 0 2 1 write 0 0 1
+    ∷ event 0 3 2 commit 0 0 0
+    ∷ event 1 1 1 read 0 0 0
+    ∷ event 1 2 1 write 0 0 1
+    ∷ event 1 3 2 commit 0 0 0
+    ∷ []
+
+-- one reads the contact, another logs it and commits, the first updates it
+abbrev pub loggedBetween : Action → List Event
+loggedBetween a =
+    event 0 0 0 a 0 0 1
+    ∷ event 1 0 0 read 0 0 0
+    ∷ event 1 1 0 write 0 0 1
+    ∷ event 1 2 1 commit 0 0 0
+    ∷ event 0 1 1 read 0 0 0
+    ∷ event 0 2 1 write 0 0 1
+    ∷ event 0 3 2 commit 0 0 0
+    ∷ []
+
+-- one logs the contact, another reads it before the first commits and updates it after
+abbrev pub loggedBefore : Action → List Event
+loggedBefore a =
+    event 1 0 0 read 0 0 0
+    ∷ event 1 1 0 write 0 0 1
+    ∷ event 0 0 0 a 0 0 1
+    ∷ event 1 2 1 commit 0 0 0
+    ∷ event 0 1 1 read 0 0 0
+    ∷ event 0 2 1 write 0 0 1
+    ∷ event 0 3 2 commit 0 0 0
+    ∷ []
+
+-- with `ks` each meets every rule
+pub selectedTwo : Schedule (lines Ks)
+unfolding openWorkload openRules
+selectedTwo = scheduled (lines Ks) (0 ∷ 0 ∷ []) (judging Ks ∷ judging Ks ∷ []) (λ f t. t) (twoJudge read) refl refl refl refl refl
+
+pub selectedBetween : Schedule (lines Ks)
+unfolding openWorkload openRules
+selectedBetween = scheduled (lines Ks) (0 ∷ 1 ∷ []) (judging Ks ∷ logging ∷ []) (λ f t. t) (loggedBetween read) refl refl refl refl refl
+
+pub selectedBefore : Schedule (lines Ks)
+unfolding openWorkload openRules
+selectedBefore = scheduled (lines Ks) (0 ∷ 1 ∷ []) (judging Ks ∷ logging ∷ []) (λ f t. t) (loggedBefore read) refl refl refl refl refl
