@@ -1,21 +1,20 @@
 -- Req 02 gives more: a workload that is robust only because the far program may write the parent late, and a schedule of it with its serial order.
 -- One program shows a contact twice, after it has marked the panel; the other logs the contact first and its panel last, as our installers'
 -- programs do. Document 01's shield, which asks for the parent before the child on both sides, finds danger here; the shield as it is finds none.
-use mathlib.Core.Bool.{true, false}
-use mathlib.Core.List.{List, [], _∷_, map, List·Memᴰ}
-use mathlib.Core.List.List·Memᴰ.{List·Memᴰ·head, List·Memᴰ·tail}
-use mathlib.Core.Logic.{_⊎_, inl, inr}
+use mathlib.Core.Bool.{true, false, cond}
+use mathlib.Core.List.{List, [], _∷_, map}
 use mathlib.Core.Option.{none}
-use mathlib.Core.Path.{_≡_, refl, sym, subst}
+use mathlib.Core.Path.{_≡_, refl}
 use Prim.Native.Nat.{ℕ}
-use Rattle.law_base.specs.BoolLaws.{true-false}
 use Rattle.spec_text.specs.declared.Line.{Line}
 use Rattle.spec_text.specs.declared.LineKind.the-variants.{Rl, Fk, Pr, St, Li}
+use Rattle.spec_text.specs.declared.StatementKind.{StatementKind}
 use Rattle.spec_text.specs.declared.StatementKind.the-variants.{Ks, Ku}
 use Rattle.spec_text.specs.Value.{Given, valueOf}
 use Rattle.law_text.specs.Written.{written, rereads}
 use Rattle.law_text.specs.ValueLaws.{value-given}
-use Rattle.spec_graph.specs.Program.{Program, programsOf}
+use Rattle.spec_graph.specs.Edge.{hasWrites}
+use Rattle.spec_graph.specs.Program.{Statement}
 use Rattle.spec_graph.specs.Program.Item.{statement}
 use Rattle.spec_graph.specs.Program.Run.{done, next}
 use Rattle.spec_graph.specs.Unfolding.{nodesOf}
@@ -30,13 +29,22 @@ use Rattle.spec_schedule.specs.Event.{Event, pastAt, writesOf, seen, source, wa
 use Rattle.spec_schedule.specs.Event.Action.{read, write, commit}
 use Rattle.spec_schedule.specs.Schedule.{Tuple, Transaction, Schedule}
 use Rattle.spec_schedule.specs.Serial.{Serialisable}
-use Rattle.spec_schedule.specs.SerialTest.{serialTest, serial-by-test, test-by-serial, orders-of-two, openTest}
-use Rattle.spec_schedule.specs.ScheduleExamples.{line, says, event, openWorkload, openRules, no-program, one-program, wholes}
+use Rattle.spec_schedule.specs.SerialTest.{serial-by-test, openTest}
+use Rattle.spec_schedule.specs.ScheduleExamples.{line, says, event, openWorkload, openRules}
 use Rattle.cases.specs.Computed.{allPass}
 use Rattle.witness.specs.Joined.{demand}
+use Rattle.witness.specs.Orders.{one-serves, openOrders}
+use Rattle.witness.specs.Schedules.{allVisible, scheduled}
 use Rattle.witness.specs.Shields.{bothNear, graphBy, openShields}
 
--- relation 0 is panels, relation 1 contacts; key 0 leads from a contact to its panel
+-- a statement of this kind on panels: it writes attribute 1 where the kind writes, else it reads it
+abbrev pub onPanel : StatementKind → ℕ → Statement
+onPanel k i = says k i 0 (cond (hasWrites k) 0 2) (cond (hasWrites k) 2 0) 0
+
+abbrev pub onPanelLine : StatementKind → ℕ → Line
+onPanelLine k i = line (St k) i 0 0 (onPanel k i .reads) (onPanel k i .writes) 0
+
+-- relation 0 is panels, relation 1 contacts; key 0 leads from a contact to its panel. `ku`, or another kind in its place, on the panel
 -- rl 0 - - 3 - -
 -- rl 1 - - 3 - -
 -- fk 0 1 0 - - -
@@ -47,25 +55,29 @@ use Rattle.witness.specs.Shields.{bothNear, graphBy, openShields}
 -- li 0 1 0 - - -
 -- li 0 2 0 - - -
 -- pr 1 - - - - -
--- ku 0 1 - 0 2 -
--- ku 1 0 - 0 2 -
--- li 0 0 1 - - -
-abbrev pub lines : List Line
-lines =
+abbrev pub linesShown : StatementKind → List Line → List Line
+linesShown near more =
     line Rl 0 0 0 3 0 0
     ∷ line Rl 1 0 0 3 0 0
     ∷ line Fk 0 1 0 0 0 0
     ∷ line Pr 0 0 0 0 0 0
-    ∷ line (St Ku) 0 0 0 0 2 0
+    ∷ onPanelLine near 0
     ∷ line (St Ks) 1 1 0 2 0 0
     ∷ line (St Ks) 2 1 0 2 0 0
     ∷ line Li 0 1 0 0 0 0
     ∷ line Li 0 2 0 0 0 0
     ∷ line Pr 1 0 0 0 0 0
-    ∷ line (St Ku) 0 1 0 0 2 0
-    ∷ line (St Ku) 1 0 0 0 2 0
-    ∷ line Li 0 0 1 0 0 0
-    ∷ []
+    ∷ more
+
+-- and the panel last
+-- ku 0 1 - 0 2 -
+-- ku 1 0 - 0 2 -
+-- li 0 0 1 - - -
+abbrev pub linesLast : StatementKind → StatementKind → List Line
+linesLast near far = linesShown near (line (St Ku) 0 1 0 0 2 0 ∷ onPanelLine far 1 ∷ line Li 0 0 1 0 0 0 ∷ [])
+
+abbrev pub lines : List Line
+lines = linesLast Ku Ku
 
 -- ---- the verdict
 
@@ -91,37 +103,37 @@ before-dangerous =
 
 -- ---- the schedule
 
--- marks a panel, then reads two contacts of it
-abbrev pub shows : Program
-shows =
-    record {
-      body =
-          next (statement (says Ku 0 0 0 2 0)) (next (statement (says Ks 1 1 2 0 0)) (next (statement (says Ks 2 1 2 0 0)) done));
-      links = record { key = 0; child = 1; parent = 0 } ∷ record { key = 0; child = 2; parent = 0 } ∷ [];
-    }
-
--- writes a contact, then its panel
-abbrev pub logs : Program
-logs =
-    record {
-      body = next (statement (says Ku 0 1 0 2 0)) (next (statement (says Ku 1 0 0 2 0)) done);
-      links = record { key = 0; child = 0; parent = 1 } ∷ [];
-    }
-
-pub programs : programsOf lines ≡ shows ∷ logs ∷ []
-unfolding openWorkload
-programs = refl
-
 -- the panel of a contact
 abbrev pub panelOf : ℕ → Tuple → Tuple
 panelOf f t = record { relation = 0; number = t .number }
 
--- both on contact 0 and panel 0
-abbrev pub showing : Transaction
-showing = record { program = shows; execution = step perform (step perform (step perform end)); tuple = λ i. 0; tuples = λ i. [] }
+-- marks a panel, then reads two contacts of it: contact 0 twice, of panel 0
+abbrev pub showing : StatementKind → Transaction
+showing near =
+    record {
+      program =
+          record {
+            body = next (statement (onPanel near 0)) (next (statement (says Ks 1 1 2 0 0)) (next (statement (says Ks 2 1 2 0 0)) done));
+            links = record { key = 0; child = 1; parent = 0 } ∷ record { key = 0; child = 2; parent = 0 } ∷ [];
+          };
+      execution = step perform (step perform (step perform end));
+      tuple = λ i. 0;
+      tuples = λ i. [];
+    }
 
-abbrev pub logging : Transaction
-logging = record { program = logs; execution = step perform (step perform end); tuple = λ i. 0; tuples = λ i. [] }
+-- writes a contact, then its panel: contact 0 and panel 0
+abbrev pub logging : StatementKind → Transaction
+logging far =
+    record {
+      program =
+          record {
+            body = next (statement (says Ku 0 1 0 2 0)) (next (statement (onPanel far 1)) done);
+            links = record { key = 0; child = 0; parent = 1 } ∷ [];
+          };
+      execution = step perform (step perform end);
+      tuple = λ i. 0;
+      tuples = λ i. [];
+    }
 
 -- the contact is logged; the other marks the panel, reads the contact twice and commits; then the panel is logged
 abbrev pub events : List Event
@@ -140,21 +152,7 @@ events =
 
 pub logged : Schedule lines
 unfolding openWorkload openRules
-logged =
-    record {
-      transactions = showing ∷ logging ∷ [];
-      ofPrograms = λ x m. subst (List·Memᴰ (x .program)) (sym programs) (members x m);
-      start = λ r t. true;
-      key = panelOf;
-      kept = refl;
-      events = events;
-      known = refl;
-      whole = wholes events (showing ∷ logging ∷ []) refl;
-      obeyed = refl;
-    }
-  where
-    members : (x : Transaction) → List·Memᴰ x (showing ∷ logging ∷ []) → List·Memᴰ (x .program) (shows ∷ logs ∷ [])
-    members = one-program showing (List·Memᴰ·head refl) (one-program logging (List·Memᴰ·tail (List·Memᴰ·head refl)) no-program)
+logged = scheduled lines (0 ∷ 1 ∷ []) (showing Ku ∷ logging Ku ∷ []) allVisible panelOf events refl refl refl refl refl
 
 -- both reads of the contact see the start, though the logger has written it before
 written-before : writesOf 1 0 (pastAt events 4) ≡ event 1 1 0 write 1 0 2 ∷ []
@@ -184,12 +182,8 @@ serialised = serial-by-test 2 events (0 ∷ 1 ∷ []) refl refl
 
 -- no other order serves: there is one other, in which the contact would be read as logged, and its test fails
 pub only-order : (s : Serialisable logged) → s .order ≡ 0 ∷ 1 ∷ []
-unfolding openTest logged
-only-order s = go (orders-of-two (s .order) (s .eachOnce))
-  where
-    go : (s .order ≡ 0 ∷ 1 ∷ []) ⊎ (s .order ≡ 1 ∷ 0 ∷ []) → s .order ≡ 0 ∷ 1 ∷ []
-    go (inl e) = e
-    go (inr e) = absurd (true-false (subst (λ o. serialTest 2 events o ≡ true) e (test-by-serial 2 events s)) refl)
+unfolding openOrders logged
+only-order = one-serves 2 events (0 ∷ 1 ∷ []) refl
 
 -- demand 3 of this schedule: its workload is given and robust
 pub serialisable : Serialisable logged

@@ -6,3 +6,4 @@ pub mod LateNear
 pub mod Orders
 pub mod Schedules
 pub mod Locked
+pub mod LockedParent

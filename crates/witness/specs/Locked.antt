@@ -2,7 +2,7 @@
 -- serial order. With `ks` for `kl` the same programs are dangerous, and three schedules of them have no serial order. Each of the three is
 -- refused once the first read is a lock; two of them by one part of the ban alone, which demand 3 therefore needs: no write behind another's lock,
 -- no lock behind another's write. (No lock behind another's lock: LockedParent.)
-use mathlib.Core.Bool.{true, false}
+use mathlib.Core.Bool.{true, false, _||_}
 use mathlib.Core.List.{List, [], _∷_, map}
 use mathlib.Core.Option.{none, some}
 use mathlib.Core.Path.{_≡_, refl}
@@ -30,7 +30,7 @@ use Rattle.spec_schedule.specs.ScheduleExamples.{line, says, event, openWorkloa
 use Rattle.cases.specs.Computed.{allPass}
 use Rattle.witness.specs.Joined.{demand}
 use Rattle.witness.specs.Orders.{none-serves, one-serves, openOrders}
-use Rattle.witness.specs.Schedules.{scheduled, lockBehindLock, lockBehindWrite, writeBehindLock, allObeyBut, openParts}
+use Rattle.witness.specs.Schedules.{allVisible, scheduled, Needed, needed, lockBehindLock, lockBehindWrite, writeBehindLock, allObeyBut, openParts}
 
 -- relation 0 is contacts; `kl`, or another kind in its place
 -- rl 0 - - 1 - -
@@ -112,11 +112,14 @@ showing =
 
 -- ---- the schedule with locks
 
--- one locks the contact; another reads it, which no lock bans; the first updates it and commits; then the second lock, an update and the commits
+-- one logs the contact, another reads it, which nothing bans, and the first commits; then two judge it, each after the commit of the one before
 abbrev pub events : List Event
 events =
-    event 0 0 0 lock 0 0 1
+    event 3 0 0 read 0 0 0
+    ∷ event 3 1 0 write 0 0 1
     ∷ event 2 0 0 read 0 0 1
+    ∷ event 3 2 1 commit 0 0 0
+    ∷ event 0 0 0 lock 0 0 1
     ∷ event 0 1 1 read 0 0 0
     ∷ event 0 2 1 write 0 0 1
     ∷ event 0 3 2 commit 0 0 0
@@ -129,26 +132,34 @@ events =
 
 pub locked : Schedule (lines Kl)
 unfolding openWorkload openRules
-locked = scheduled (lines Kl) (0 ∷ 0 ∷ 2 ∷ []) (judging Kl ∷ judging Kl ∷ showing ∷ []) (λ f t. t) events refl refl refl refl refl
+locked =
+    scheduled (lines Kl) (0 ∷ 0 ∷ 2 ∷ 1 ∷ []) (judging Kl ∷ judging Kl ∷ showing ∷ logging ∷ []) allVisible (λ f t. t) events
+    refl refl refl refl refl
 
--- the second lock waits for the first one's commit, and sees what the first wrote
-waits-for-commit : map (λ n. waits (pastAt events n) (event 1 0 0 lock 0 0 1)) (0 ∷ 1 ∷ 4 ∷ 5 ∷ []) ≡ true ∷ false ∷ false ∷ true ∷ []
+-- the first lock waits for the commit of the one that has written, the second for that of the one that has locked
+first-waits : map (λ n. waits (pastAt events n) (event 0 0 0 lock 0 0 1)) (0 ∷ 2 ∷ 3 ∷ 4 ∷ []) ≡ true ∷ false ∷ false ∷ true ∷ []
 unfolding openRules
-waits-for-commit = refl
+first-waits = refl
 
-sees-update : source (seen (pastAt events 5) 1 0 0) 0 ≡ some (event 0 2 1 write 0 0 1)
+second-waits : map (λ n. waits (pastAt events n) (event 1 0 0 lock 0 0 1)) (4 ∷ 5 ∷ 7 ∷ 8 ∷ []) ≡ true ∷ false ∷ false ∷ true ∷ []
 unfolding openRules
-sees-update = refl
+second-waits = refl
+
+-- each lock sees what was written last
+sees-last : source (seen (pastAt events 4) 0 0 0) 0 ∷ source (seen (pastAt events 8) 1 0 0) 0 ∷ []
+    ≡ some (event 3 1 0 write 0 0 1) ∷ some (event 0 2 1 write 0 0 1) ∷ []
+unfolding openRules
+sees-last = refl
 
 -- the one that reads comes first, though it commits last
 pub serialised : Serialisable locked
 unfolding openOrders locked
-serialised = serial-by-test 3 events (2 ∷ 0 ∷ 1 ∷ []) refl refl
+serialised = serial-by-test 4 events (2 ∷ 3 ∷ 0 ∷ 1 ∷ []) refl refl
 
 -- no other order serves
-pub only-order : (s : Serialisable locked) → s .order ≡ 2 ∷ 0 ∷ 1 ∷ []
+pub only-order : (s : Serialisable locked) → s .order ≡ 2 ∷ 3 ∷ 0 ∷ 1 ∷ []
 unfolding openOrders locked
-only-order = one-serves 3 events (2 ∷ 0 ∷ 1 ∷ []) refl
+only-order = one-serves 4 events (2 ∷ 3 ∷ 0 ∷ 1 ∷ []) refl
 
 -- demand 3 of this schedule: its workload is given and robust
 pub serialisable : Serialisable locked
@@ -193,15 +204,53 @@ loggedBefore a =
     ∷ event 0 3 2 commit 0 0 0
     ∷ []
 
--- with `ks` each meets every rule
+-- with `ks` each meets every rule, and no order serves
 pub selectedTwo : Schedule (lines Ks)
 unfolding openWorkload openRules
-selectedTwo = scheduled (lines Ks) (0 ∷ 0 ∷ []) (judging Ks ∷ judging Ks ∷ []) (λ f t. t) (twoJudge read) refl refl refl refl refl
+selectedTwo =
+    scheduled (lines Ks) (0 ∷ 0 ∷ []) (judging Ks ∷ judging Ks ∷ []) allVisible (λ f t. t) (twoJudge read) refl refl refl refl refl
+
+pub no-order-of-two : Serialisable selectedTwo → ⊥
+unfolding openOrders selectedTwo
+no-order-of-two = none-serves 2 (twoJudge read) refl
 
 pub selectedBetween : Schedule (lines Ks)
 unfolding openWorkload openRules
-selectedBetween = scheduled (lines Ks) (0 ∷ 1 ∷ []) (judging Ks ∷ logging ∷ []) (λ f t. t) (loggedBetween read) refl refl refl refl refl
+selectedBetween =
+    scheduled (lines Ks) (0 ∷ 1 ∷ []) (judging Ks ∷ logging ∷ []) allVisible (λ f t. t) (loggedBetween read) refl refl refl refl refl
+
+pub no-order-between : Serialisable selectedBetween → ⊥
+unfolding openOrders selectedBetween
+no-order-between = none-serves 2 (loggedBetween read) refl
 
 pub selectedBefore : Schedule (lines Ks)
 unfolding openWorkload openRules
-selectedBefore = scheduled (lines Ks) (0 ∷ 1 ∷ []) (judging Ks ∷ logging ∷ []) (λ f t. t) (loggedBefore read) refl refl refl refl refl
+selectedBefore =
+    scheduled (lines Ks) (0 ∷ 1 ∷ []) (judging Ks ∷ logging ∷ []) allVisible (λ f t. t) (loggedBefore read) refl refl refl refl refl
+
+pub no-order-before : Serialisable selectedBefore → ⊥
+unfolding openOrders selectedBefore
+no-order-before = none-serves 2 (loggedBefore read) refl
+
+-- ---- the same events with locks are refused
+
+-- of the first, two parts of the ban refuse: the second lock is behind the first, and the first update behind the second lock
+pub two-refused : map (λ part. allObeyBut part allVisible [] (twoJudge lock))
+    ((λ w e. false) ∷ lockBehindLock ∷ lockBehindWrite ∷ writeBehindLock ∷ (λ w e. lockBehindLock w e || writeBehindLock w e) ∷ [])
+    ≡ false ∷ false ∷ false ∷ false ∷ true ∷ []
+unfolding openParts
+two-refused = refl
+
+-- of the second, that a write is behind another's lock
+pub no-write-behind-lock : Needed (lines Kl) writeBehindLock
+unfolding openParts
+no-write-behind-lock =
+    needed (lines Kl) writeBehindLock (0 ∷ 1 ∷ []) (judging Kl ∷ logging ∷ []) (λ f t. t) (loggedBetween lock)
+    refl refl refl refl refl refl refl
+
+-- of the third, that a lock is behind another's write
+pub no-lock-behind-write : Needed (lines Kl) lockBehindWrite
+unfolding openParts
+no-lock-behind-write =
+    needed (lines Kl) lockBehindWrite (0 ∷ 1 ∷ []) (judging Kl ∷ logging ∷ []) (λ f t. t) (loggedBefore lock)
+    refl refl refl refl refl refl refl

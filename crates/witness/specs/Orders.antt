@@ -80,17 +80,23 @@ orders-tested n events test h s =
     known i f (inr e) = absurd (f (s .eachOnce i ∙ ap (λ (b : Bool). cond b 1 0) e))
 
 -- no order serves: each fails its test
-pub none-serves : (n : ℕ) (events : List Event) → everyOrder (suc n) (numbers n) (λ o. not (serialTest n events o) || false) ≡ true
-    → SerialOrder n events → ⊥
+unfoldable pub noneServes : ℕ → List Event → Bool
+noneServes n events = everyOrder (suc n) (numbers n) (λ o. not (serialTest n events o) || false)
+
+pub none-serves : (n : ℕ) (events : List Event) → noneServes n events ≡ true → SerialOrder n events → ⊥
+unfolding noneServes
 none-serves n events h s = false≢true (orders-tested n events (λ o. false) h s)
 
--- this order alone serves: each other fails its test
-pub one-serves : (n : ℕ) (events : List Event) (order : List ℕ)
-    → everyOrder (suc n) (numbers n) (λ o. not (serialTest n events o) || same o order) ≡ true
+-- no order but this serves: each other fails its test
+unfoldable pub noOtherServes : ℕ → List Event → List ℕ → Bool
+noOtherServes n events order = everyOrder (suc n) (numbers n) (λ o. not (serialTest n events o) || same o order)
+
+pub one-serves : (n : ℕ) (events : List Event) (order : List ℕ) → noOtherServes n events order ≡ true
     → (s : SerialOrder n events) → s .order ≡ order
+unfolding noOtherServes
 one-serves n events order h s = same-equal (s .order) order (orders-tested n events (λ o. same o order) h s)
 
 -- opens what the tests of orders compute with
 unfoldable pub openOrders : Bool
-unfolding openTest everyOrder same
+unfolding openTest everyOrder same noneServes noOtherServes
 openOrders = true

@@ -14,8 +14,10 @@ use Rattle.spec_text.specs.declared.Line.{Line}
 use Rattle.spec_graph.specs.Program.{Program, programsOf}
 use Rattle.spec_schedule.specs.Event.{Event, by, isWrite, isLock, isClaim, claims, committed}
 use Rattle.spec_schedule.specs.Event.{insertsFirst, deletesLast, meetsVisible, waits, together, obeys, allObey}
-use Rattle.spec_schedule.specs.Schedule.{Tuple, Transaction, Schedule, keysKept}
-use Rattle.spec_schedule.specs.ScheduleExamples.{kept, wanted, wholes, no-program, one-program, openRules}
+use Rattle.spec_schedule.specs.Schedule.{Tuple, Transaction, Schedule, keysKept, eventsOf}
+use Rattle.spec_schedule.specs.Serial.{SerialOrder}
+use Rattle.spec_schedule.specs.ScheduleExamples.{kept, wanted, wholes, no-program, one-program, openWorkload}
+use Rattle.witness.specs.Orders.{noneServes, none-serves, openOrders}
 
 -- ---- a schedule
 
@@ -30,19 +32,24 @@ of-programs programs (n ∷ numbers) (y ∷ l) h =
     let rest : map (λ (x : Transaction). some (x .program)) l ≡ map (getElem? programs) numbers = cc in
     one-program y (getElem?-member programs n first) (of-programs programs numbers l rest)
 
--- all tuples start visible; `numbers` are those of the transactions' programs
-abbrev pub scheduled : (lines : List Line) (numbers : List ℕ) (transactions : List Transaction) (key : ℕ → Tuple → Tuple) (events : List Event)
+-- every tuple starts visible
+abbrev pub allVisible : ℕ → ℕ → Bool
+allVisible r t = true
+
+-- `numbers` are those of the transactions' programs
+abbrev pub scheduled : (lines : List Line) (numbers : List ℕ) (transactions : List Transaction) (start : ℕ → ℕ → Bool)
+    (key : ℕ → Tuple → Tuple) (events : List Event)
     → map (λ (x : Transaction). some (x .program)) transactions ≡ map (getElem? (programsOf lines)) numbers
     → all (keysKept key) transactions ≡ true
     → all (λ e. ltb (e .transaction) (length transactions)) events ≡ true
     → kept events 0 transactions ≡ wanted 0 transactions
-    → allObey (λ r t. true) [] events ≡ true
+    → allObey start [] events ≡ true
     → Schedule lines
-scheduled lines numbers transactions key events programs keys known whole obeyed =
+scheduled lines numbers transactions start key events programs keys known whole obeyed =
     record {
       transactions = transactions;
       ofPrograms = of-programs (programsOf lines) numbers transactions programs;
-      start = λ r t. true;
+      start = start;
       key = key;
       kept = keys;
       events = events;
@@ -84,7 +91,45 @@ unfolding allObeyBut obeysBut waitsBut allObey obeys waits
 same-rules start past [] = refl
 same-rules start past (e ∷ rest) = ap (λ (b : Bool). obeys start past e && b) (same-rules start (e ∷ past) rest)
 
+-- That a part of the ban is needed: a list of events that is a schedule of the workload but for pairs of this part alone, is refused for these, and
+-- has no serial order.
+pub record Needed (lines : List Line) (part : Event → Event → Bool) : Type 0 where
+  pub transactions : List Transaction
+  pub ofPrograms : (x : Transaction) → List·Memᴰ x transactions → List·Memᴰ (x .program) (programsOf lines)
+  pub key : ℕ → Tuple → Tuple
+  pub kept : all (keysKept key) transactions ≡ true
+  pub events : List Event
+  pub known : all (λ e. ltb (e .transaction) (length transactions)) events ≡ true
+  pub whole : (i : ℕ) (x : Transaction) → getElem? transactions i ≡ some x → keep (by i) events ≡ eventsOf i x
+  pub letThrough : allObeyBut part allVisible [] events ≡ true
+  pub refused : allObey allVisible [] events ≡ false
+  pub noOrder : SerialOrder (length transactions) events → ⊥
+
+pub needed : (lines : List Line) (part : Event → Event → Bool) (numbers : List ℕ) (transactions : List Transaction)
+    (key : ℕ → Tuple → Tuple) (events : List Event)
+    → map (λ (x : Transaction). some (x .program)) transactions ≡ map (getElem? (programsOf lines)) numbers
+    → all (keysKept key) transactions ≡ true
+    → all (λ e. ltb (e .transaction) (length transactions)) events ≡ true
+    → kept events 0 transactions ≡ wanted 0 transactions
+    → allObeyBut part allVisible [] events ≡ true
+    → allObey allVisible [] events ≡ false
+    → noneServes (length transactions) events ≡ true
+    → Needed lines part
+needed lines part numbers transactions key events programs keys known whole through refused none =
+    record {
+      transactions = transactions;
+      ofPrograms = of-programs (programsOf lines) numbers transactions programs;
+      key = key;
+      kept = keys;
+      events = events;
+      known = known;
+      whole = wholes events transactions whole;
+      letThrough = through;
+      refused = refused;
+      noOrder = none-serves (length transactions) events none;
+    }
+
 -- opens what the rules with pairs let through compute with
 unfoldable pub openParts : Bool
-unfolding openRules waitsBut obeysBut allObeyBut
+unfolding openWorkload openOrders waitsBut obeysBut allObeyBut
 openParts = true
