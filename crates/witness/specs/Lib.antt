@@ -7,3 +7,4 @@ pub mod Orders
 pub mod Schedules
 pub mod Locked
 pub mod LockedParent
+pub mod KindsClause
