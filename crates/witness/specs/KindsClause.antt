@@ -1,8 +1,8 @@
--- With locks the kinds clause of the dangerous pair (W4: the first edge leaves a ks, ps, pu or pd) is needed for demand 3: a workload that without it
--- would be robust, and a schedule of it that meets every rule and has no serial order. One program locks a panel, reads a contact of it and counts;
--- one logs the contact, reads a setting and locks the panel last; one writes the setting and counts. The read of the contact is shielded, so its edge
--- is no back edge, and it enters before the read of the setting: the pair is dangerous by its kind alone. With updates of the panel for the locks
--- it would be dangerous by its places too, since an update late in the second program is entered after that read.
+-- With locks the kinds clause of the dangerous pair (W4: the first edge leaves a ks, ps, pu or pd) is needed for demand 3: a workload that without
+-- it would be robust, and a schedule of it that meets every rule and has no serial order. One program locks a panel, reads a contact of it and
+-- counts; one logs the contact, reads a setting and locks the panel last; one writes the setting and counts. The read of the contact is shielded, so
+-- its edge is no back edge, and it enters before the read of the setting: the pair is dangerous by its kind alone. With updates of the panel for the
+-- locks it is dangerous by its places too, since an update late in the second program is entered after that read.
 use mathlib.Core.Bool.{Bool, true, false, not, _&&_, _||_, false≢true}
 use mathlib.Core.List.{List, [], _∷_}
 use mathlib.Core.Path.{_≡_, refl}
@@ -18,10 +18,6 @@ use Rattle.spec_text.specs.Value.{Given, valueOf}
 use Rattle.law_text.specs.Written.{written, rereads}
 use Rattle.law_text.specs.ValueLaws.{value-given}
 use Rattle.spec_graph.specs.Graph.{Flow, Graph, isBack}
-use Rattle.spec_graph.specs.Program.Item.{statement}
-use Rattle.spec_graph.specs.Program.Run.{done, next}
-use Rattle.spec_graph.specs.Unfolding.Execution.{end, step}
-use Rattle.spec_graph.specs.Unfolding.ItemExecution.{perform}
 use Rattle.spec_graph.specs.Walk.{Step, isEdge, dangerousPair, isDangerous, DangerousWalk}
 use Rattle.law_walk.specs.Reach.{Regular, dangerTest, danger-none}
 use Rattle.law_report.specs.ShownWalk.{summary-regular}
@@ -33,7 +29,7 @@ use Rattle.spec_schedule.specs.Serial.{Serialisable}
 use Rattle.spec_schedule.specs.ScheduleExamples.{line, says, event, openWorkload, openRules}
 use Rattle.witness.specs.LateParent.{onPanel, onPanelLine, panelOf}
 use Rattle.witness.specs.Orders.{none-serves, openOrders}
-use Rattle.witness.specs.Schedules.{allVisible, scheduled}
+use Rattle.witness.specs.Schedules.{link, inTurn, allVisible, interleaving, scheduled}
 use Rattle.witness.specs.Shields.{openShields}
 
 -- ---- graphs without the clause
@@ -142,14 +138,13 @@ given = value-given (written lines) refl
 -- both count
 pub dangerous : Danger lines
 unfolding openShields
-dangerous =
-    (
-      record { node = 0; leaves = 1; enters = 0; flow = Flow.forward }
-          ∷ record { node = 1; leaves = 1; enters = 0; flow = Flow.back }
-          ∷ record { node = 2; leaves = 1; enters = 2; flow = Flow.forward }
-          ∷ [],
-      refl,
-    )
+dangerous = (
+  record { node = 0; leaves = 1; enters = 0; flow = Flow.forward }
+      ∷ record { node = 1; leaves = 1; enters = 0; flow = Flow.back }
+      ∷ record { node = 2; leaves = 1; enters = 2; flow = Flow.forward }
+      ∷ [],
+  refl,
+)
 
 -- without the clause it has no dangerous closed walk of any length
 tested : dangerTest (leastLoose (summaryGraph lines)) ≡ false
@@ -162,52 +157,25 @@ let-through = none-by-places (summaryGraph lines) (summary-regular lines) tested
 -- with `ku` for `kl` it has: the panel that the first program updates is updated by the second after it has read the setting
 pub updated-dangerous : DangerousWalk (byPlaces (summaryGraph (linesWith Ku)))
 unfolding openShields
-updated-dangerous =
-    (
-      record { node = 0; leaves = 0; enters = 2; flow = Flow.forward }
-          ∷ record { node = 1; leaves = 1; enters = 0; flow = Flow.back }
-          ∷ record { node = 2; leaves = 1; enters = 2; flow = Flow.forward }
-          ∷ [],
-      refl,
-    )
+updated-dangerous = (
+  record { node = 0; leaves = 0; enters = 2; flow = Flow.forward }
+      ∷ record { node = 1; leaves = 1; enters = 0; flow = Flow.back }
+      ∷ record { node = 2; leaves = 1; enters = 2; flow = Flow.forward }
+      ∷ [],
+  refl,
+)
 
 -- ---- the schedule
 
--- each on tuple 0 of each relation
+-- locks a panel, reads a contact of it and counts; logs a contact, reads a setting and locks the panel; writes a setting and counts
 abbrev pub judging : Transaction
-judging =
-    record {
-      program =
-          record {
-            body = next (statement (onPanel Kl 0)) (next (statement (says Ks 1 1 2 0 0)) (next (statement (says Ku 2 2 0 2 0)) done));
-            links = record { key = 0; child = 1; parent = 0 } ∷ [];
-          };
-      execution = step perform (step perform (step perform end));
-      tuple = λ i. 0;
-      tuples = λ i. [];
-    }
+judging = inTurn (onPanel Kl 0 ∷ says Ks 1 1 2 0 0 ∷ says Ku 2 2 0 2 0 ∷ []) (link 0 1 0 ∷ [])
 
 abbrev pub logging : Transaction
-logging =
-    record {
-      program =
-          record {
-            body = next (statement (says Ku 0 1 0 2 0)) (next (statement (says Ks 1 3 2 0 0)) (next (statement (onPanel Kl 2)) done));
-            links = record { key = 0; child = 0; parent = 2 } ∷ [];
-          };
-      execution = step perform (step perform (step perform end));
-      tuple = λ i. 0;
-      tuples = λ i. [];
-    }
+logging = inTurn (says Ku 0 1 0 2 0 ∷ says Ks 1 3 2 0 0 ∷ onPanel Kl 2 ∷ []) (link 0 0 2 ∷ [])
 
 abbrev pub setting : Transaction
-setting =
-    record {
-      program = record { body = next (statement (says Ku 0 3 0 2 0)) (next (statement (says Ku 1 2 0 2 0)) done); links = [] };
-      execution = step perform (step perform end);
-      tuple = λ i. 0;
-      tuples = λ i. [];
-    }
+setting = inTurn (says Ku 0 3 0 2 0 ∷ says Ku 1 2 0 2 0 ∷ []) []
 
 -- the contact is read, then logged; the setting is read, then written; both count; the panel's second lock waits for the first one's commit
 abbrev pub events : List Event
@@ -231,7 +199,7 @@ events =
 
 pub judgedOld : Schedule lines
 unfolding openWorkload openRules
-judgedOld = scheduled lines (0 ∷ 1 ∷ 2 ∷ []) (judging ∷ logging ∷ setting ∷ []) allVisible panelOf events refl refl refl refl refl
+judgedOld = scheduled (interleaving lines (0 ∷ 1 ∷ 2 ∷ []) (judging ∷ logging ∷ setting ∷ []) allVisible panelOf events refl refl refl refl) refl
 
 -- no order serves: who judges comes before who logs, who logs before who sets, who sets before who judges; all six orders fail their test
 pub no-order : Serialisable judgedOld → ⊥

@@ -1,22 +1,16 @@
 -- Req 02 gives no more than it may: a schedule without any serial order, of a workload in which the near program writes the parent late. The shield
 -- as it is finds danger in it: it is document 01's example with ks before ku, its two programs in the other order. Were the parent let stand
 -- anywhere in the near program too, the workload would be called robust. So the near side's "before" is needed.
-use mathlib.Core.Bool.{true, false}
-use mathlib.Core.List.{List, [], _∷_, List·Memᴰ}
-use mathlib.Core.List.List·Memᴰ.{List·Memᴰ·head, List·Memᴰ·tail}
-use mathlib.Core.Path.{_≡_, refl, sym, subst}
+use mathlib.Core.Bool.{false}
+use mathlib.Core.List.{List, [], _∷_}
+use mathlib.Core.Path.{_≡_, refl}
 use Rattle.spec_text.specs.declared.Line.{Line}
 use Rattle.spec_text.specs.declared.LineKind.the-variants.{Rl, Fk, Pr, St, Li}
 use Rattle.spec_text.specs.declared.StatementKind.the-variants.{Ks, Ku}
 use Rattle.spec_text.specs.Value.{Given, valueOf}
 use Rattle.law_text.specs.Written.{written, rereads}
 use Rattle.law_text.specs.ValueLaws.{value-given}
-use Rattle.spec_graph.specs.Program.{Program, programsOf}
-use Rattle.spec_graph.specs.Program.Item.{statement}
-use Rattle.spec_graph.specs.Program.Run.{done, next}
 use Rattle.spec_graph.specs.Unfolding.{nodesOf}
-use Rattle.spec_graph.specs.Unfolding.Execution.{end, step}
-use Rattle.spec_graph.specs.Unfolding.ItemExecution.{perform}
 use Rattle.spec_graph.specs.Graph.Flow.{forward, back}
 use Rattle.spec_graph.specs.Walk.{DangerousWalk}
 use Rattle.law_walk.specs.Reach.{dangerTest, danger-none}
@@ -25,9 +19,10 @@ use Rattle.spec_schedule.specs.Event.{Event}
 use Rattle.spec_schedule.specs.Event.Action.{read, write, commit}
 use Rattle.spec_schedule.specs.Schedule.{Transaction, Schedule}
 use Rattle.spec_schedule.specs.Serial.{Serialisable}
-use Rattle.spec_schedule.specs.SerialTest.{none-of-two, openTest}
-use Rattle.spec_schedule.specs.ScheduleExamples.{line, says, event, openWorkload, openRules, no-program, one-program, wholes}
+use Rattle.spec_schedule.specs.ScheduleExamples.{line, says, event, openWorkload, openRules}
 use Rattle.witness.specs.LateParent.{panelOf}
+use Rattle.witness.specs.Orders.{none-serves, openOrders}
+use Rattle.witness.specs.Schedules.{link, inTurn, allVisible, interleaving, scheduled}
 use Rattle.witness.specs.Shields.{bothFar, graphBy, regular-by, openShields}
 
 -- relation 0 is panels, relation 1 contacts; key 0 leads from a contact to its panel
@@ -81,32 +76,13 @@ let-through = danger-none (graphBy bothFar (nodesOf lines)) (regular-by bothFar 
 
 -- ---- the schedule
 
--- reads a contact, then updates its panel
-abbrev pub judges : Program
-judges =
-    record {
-      body = next (statement (says Ks 0 1 2 0 0)) (next (statement (says Ku 1 0 2 2 0)) done);
-      links = record { key = 0; child = 0; parent = 1 } ∷ [];
-    }
-
--- updates a panel, then writes a contact of it
-abbrev pub logs : Program
-logs =
-    record {
-      body = next (statement (says Ku 0 0 2 2 0)) (next (statement (says Ku 1 1 0 2 0)) done);
-      links = record { key = 0; child = 1; parent = 0 } ∷ [];
-    }
-
-pub programs : programsOf lines ≡ judges ∷ logs ∷ []
-unfolding openWorkload
-programs = refl
-
--- both on contact 0 and panel 0
+-- reads a contact, then updates its panel: contact 0 of panel 0
 abbrev pub judging : Transaction
-judging = record { program = judges; execution = step perform (step perform end); tuple = λ i. 0; tuples = λ i. [] }
+judging = inTurn (says Ks 0 1 2 0 0 ∷ says Ku 1 0 2 2 0 ∷ []) (link 0 0 1 ∷ [])
 
+-- updates a panel, then writes a contact of it: panel 0 and contact 0
 abbrev pub logging : Transaction
-logging = record { program = logs; execution = step perform (step perform end); tuple = λ i. 0; tuples = λ i. [] }
+logging = inTurn (says Ku 0 0 2 2 0 ∷ says Ku 1 1 0 2 0 ∷ []) (link 0 1 0 ∷ [])
 
 -- the contact is read; then the other updates panel and contact and commits; then the first updates the panel
 abbrev pub events : List Event
@@ -125,23 +101,9 @@ events =
 -- it meets every rule: the keys are kept, and each event obeys Read Committed
 pub judgedOld : Schedule lines
 unfolding openWorkload openRules
-judgedOld =
-    record {
-      transactions = judging ∷ logging ∷ [];
-      ofPrograms = λ x m. subst (List·Memᴰ (x .program)) (sym programs) (members x m);
-      start = λ r t. true;
-      key = panelOf;
-      kept = refl;
-      events = events;
-      known = refl;
-      whole = wholes events (judging ∷ logging ∷ []) refl;
-      obeyed = refl;
-    }
-  where
-    members : (x : Transaction) → List·Memᴰ x (judging ∷ logging ∷ []) → List·Memᴰ (x .program) (judges ∷ logs ∷ [])
-    members = one-program judging (List·Memᴰ·head refl) (one-program logging (List·Memᴰ·tail (List·Memᴰ·head refl)) no-program)
+judgedOld = scheduled (interleaving lines (0 ∷ 1 ∷ []) (judging ∷ logging ∷ []) allVisible panelOf events refl refl refl refl) refl
 
 -- no order serves: the first has read the contact before it was logged, and the panel after; both orders fail their test
 pub no-order : Serialisable judgedOld → ⊥
-unfolding openTest judgedOld
-no-order = none-of-two events refl refl
+unfolding openOrders judgedOld
+no-order = none-serves 2 events refl

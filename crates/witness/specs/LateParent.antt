@@ -15,11 +15,7 @@ use Rattle.law_text.specs.Written.{written, rereads}
 use Rattle.law_text.specs.ValueLaws.{value-given}
 use Rattle.spec_graph.specs.Edge.{hasWrites}
 use Rattle.spec_graph.specs.Program.{Statement}
-use Rattle.spec_graph.specs.Program.Item.{statement}
-use Rattle.spec_graph.specs.Program.Run.{done, next}
 use Rattle.spec_graph.specs.Unfolding.{nodesOf}
-use Rattle.spec_graph.specs.Unfolding.Execution.{end, step}
-use Rattle.spec_graph.specs.Unfolding.ItemExecution.{perform}
 use Rattle.spec_graph.specs.Graph.Flow.{forward, back}
 use Rattle.spec_graph.specs.Walk.{DangerousWalk}
 use Rattle.law_walk.specs.Reach.{dangerTest}
@@ -34,7 +30,7 @@ use Rattle.spec_schedule.specs.ScheduleExamples.{line, says, event, openWorkloa
 use Rattle.cases.specs.Computed.{allPass}
 use Rattle.witness.specs.Joined.{demand}
 use Rattle.witness.specs.Orders.{one-serves, openOrders}
-use Rattle.witness.specs.Schedules.{allVisible, scheduled}
+use Rattle.witness.specs.Schedules.{link, inTurn, allVisible, interleaving, scheduled}
 use Rattle.witness.specs.Shields.{bothNear, graphBy, openShields}
 
 -- a statement of this kind on panels: it writes attribute 1 where the kind writes, else it reads it
@@ -109,31 +105,11 @@ panelOf f t = record { relation = 0; number = t .number }
 
 -- marks a panel, then reads two contacts of it: contact 0 twice, of panel 0
 abbrev pub showing : StatementKind → Transaction
-showing near =
-    record {
-      program =
-          record {
-            body = next (statement (onPanel near 0)) (next (statement (says Ks 1 1 2 0 0)) (next (statement (says Ks 2 1 2 0 0)) done));
-            links = record { key = 0; child = 1; parent = 0 } ∷ record { key = 0; child = 2; parent = 0 } ∷ [];
-          };
-      execution = step perform (step perform (step perform end));
-      tuple = λ i. 0;
-      tuples = λ i. [];
-    }
+showing near = inTurn (onPanel near 0 ∷ says Ks 1 1 2 0 0 ∷ says Ks 2 1 2 0 0 ∷ []) (link 0 1 0 ∷ link 0 2 0 ∷ [])
 
 -- writes a contact, then its panel: contact 0 and panel 0
 abbrev pub logging : StatementKind → Transaction
-logging far =
-    record {
-      program =
-          record {
-            body = next (statement (says Ku 0 1 0 2 0)) (next (statement (onPanel far 1)) done);
-            links = record { key = 0; child = 0; parent = 1 } ∷ [];
-          };
-      execution = step perform (step perform end);
-      tuple = λ i. 0;
-      tuples = λ i. [];
-    }
+logging far = inTurn (says Ku 0 1 0 2 0 ∷ onPanel far 1 ∷ []) (link 0 0 1 ∷ [])
 
 -- the contact is logged; the other marks the panel, reads the contact twice and commits; then the panel is logged
 abbrev pub events : List Event
@@ -152,7 +128,7 @@ events =
 
 pub logged : Schedule lines
 unfolding openWorkload openRules
-logged = scheduled lines (0 ∷ 1 ∷ []) (showing Ku ∷ logging Ku ∷ []) allVisible panelOf events refl refl refl refl refl
+logged = scheduled (interleaving lines (0 ∷ 1 ∷ []) (showing Ku ∷ logging Ku ∷ []) allVisible panelOf events refl refl refl refl) refl
 
 -- both reads of the contact see the start, though the logger has written it before
 written-before : writesOf 1 0 (pastAt events 4) ≡ event 1 1 0 write 1 0 2 ∷ []

@@ -4,7 +4,7 @@
 -- no lock behind another's write. (No lock behind another's lock: LockedParent.)
 use mathlib.Core.Bool.{true, false, _||_}
 use mathlib.Core.List.{List, [], _∷_, map}
-use mathlib.Core.Option.{none, some}
+use mathlib.Core.Option.{some}
 use mathlib.Core.Path.{_≡_, refl}
 use Rattle.spec_text.specs.declared.Line.{Line}
 use Rattle.spec_text.specs.declared.LineKind.the-variants.{Rl, Pr, St}
@@ -13,24 +13,20 @@ use Rattle.spec_text.specs.declared.StatementKind.the-variants.{Ks, Ku, Kl}
 use Rattle.spec_text.specs.Value.{Given, valueOf}
 use Rattle.law_text.specs.Written.{written, rereads}
 use Rattle.law_text.specs.ValueLaws.{value-given}
-use Rattle.spec_graph.specs.Program.{Program}
-use Rattle.spec_graph.specs.Program.Item.{statement}
-use Rattle.spec_graph.specs.Program.Run.{done, next}
-use Rattle.spec_graph.specs.Unfolding.Execution.{end, step}
-use Rattle.spec_graph.specs.Unfolding.ItemExecution.{perform}
 use Rattle.law_walk.specs.Reach.{dangerTest}
 use Rattle.spec_report.specs.State.{Danger, Robust, summaryGraph}
 use Rattle.law_report.specs.Reports.{robust-of, danger-of}
-use Rattle.spec_schedule.specs.Event.{Action, Event, pastAt, seen, source, waits, allObey}
+use Rattle.spec_schedule.specs.Event.{Action, Event, pastAt, seen, source, waits}
 use Rattle.spec_schedule.specs.Event.Action.{read, lock, write, commit}
 use Rattle.spec_schedule.specs.Schedule.{Transaction, Schedule}
-use Rattle.spec_schedule.specs.Serial.{Serialisable, SerialOrder}
+use Rattle.spec_schedule.specs.Serial.{Serialisable}
 use Rattle.spec_schedule.specs.SerialTest.{serial-by-test}
 use Rattle.spec_schedule.specs.ScheduleExamples.{line, says, event, openWorkload, openRules}
 use Rattle.cases.specs.Computed.{allPass}
 use Rattle.witness.specs.Joined.{demand}
 use Rattle.witness.specs.Orders.{none-serves, one-serves, openOrders}
-use Rattle.witness.specs.Schedules.{allVisible, scheduled, Needed, needed, lockBehindLock, lockBehindWrite, writeBehindLock, allObeyBut, openParts}
+use Rattle.witness.specs.Schedules.{inTurn, allVisible, interleaving, scheduled}
+use Rattle.witness.specs.Schedules.{lockBehindLock, lockBehindWrite, writeBehindLock, allObeyBut, Needed, openParts}
 
 -- relation 0 is contacts; `kl`, or another kind in its place
 -- rl 0 - - 1 - -
@@ -82,33 +78,15 @@ selected-dangerous = danger-of (lines Ks) selected-tested
 
 -- ---- the transactions
 
--- locks a contact, then updates it; updates a contact; reads a contact: each on contact 0
+-- locks a contact, then updates it; updates a contact; reads a contact
 abbrev pub judging : StatementKind → Transaction
-judging k =
-    record {
-      program = record { body = next (statement (says k 0 0 1 0 0)) (next (statement (says Ku 1 0 0 1 0)) done); links = [] };
-      execution = step perform (step perform end);
-      tuple = λ i. 0;
-      tuples = λ i. [];
-    }
+judging k = inTurn (says k 0 0 1 0 0 ∷ says Ku 1 0 0 1 0 ∷ []) []
 
 abbrev pub logging : Transaction
-logging =
-    record {
-      program = record { body = next (statement (says Ku 0 0 0 1 0)) done; links = [] };
-      execution = step perform end;
-      tuple = λ i. 0;
-      tuples = λ i. [];
-    }
+logging = inTurn (says Ku 0 0 0 1 0 ∷ []) []
 
 abbrev pub showing : Transaction
-showing =
-    record {
-      program = record { body = next (statement (says Ks 0 0 1 0 0)) done; links = [] };
-      execution = step perform end;
-      tuple = λ i. 0;
-      tuples = λ i. [];
-    }
+showing = inTurn (says Ks 0 0 1 0 0 ∷ []) []
 
 -- ---- the schedule with locks
 
@@ -133,8 +111,9 @@ events =
 pub locked : Schedule (lines Kl)
 unfolding openWorkload openRules
 locked =
-    scheduled (lines Kl) (0 ∷ 0 ∷ 2 ∷ 1 ∷ []) (judging Kl ∷ judging Kl ∷ showing ∷ logging ∷ []) allVisible (λ f t. t) events
-    refl refl refl refl refl
+    scheduled
+    (interleaving (lines Kl) (0 ∷ 0 ∷ 2 ∷ 1 ∷ []) (judging Kl ∷ judging Kl ∷ showing ∷ logging ∷ []) allVisible (λ f t. t) events refl refl refl refl)
+    refl
 
 -- the first lock waits for the commit of the one that has written, the second for that of the one that has locked
 first-waits : map (λ n. waits (pastAt events n) (event 0 0 0 lock 0 0 1)) (0 ∷ 2 ∷ 3 ∷ 4 ∷ []) ≡ true ∷ false ∷ false ∷ true ∷ []
@@ -208,7 +187,7 @@ loggedBefore a =
 pub selectedTwo : Schedule (lines Ks)
 unfolding openWorkload openRules
 selectedTwo =
-    scheduled (lines Ks) (0 ∷ 0 ∷ []) (judging Ks ∷ judging Ks ∷ []) allVisible (λ f t. t) (twoJudge read) refl refl refl refl refl
+    scheduled (interleaving (lines Ks) (0 ∷ 0 ∷ []) (judging Ks ∷ judging Ks ∷ []) allVisible (λ f t. t) (twoJudge read) refl refl refl refl) refl
 
 pub no-order-of-two : Serialisable selectedTwo → ⊥
 unfolding openOrders selectedTwo
@@ -217,7 +196,7 @@ no-order-of-two = none-serves 2 (twoJudge read) refl
 pub selectedBetween : Schedule (lines Ks)
 unfolding openWorkload openRules
 selectedBetween =
-    scheduled (lines Ks) (0 ∷ 1 ∷ []) (judging Ks ∷ logging ∷ []) allVisible (λ f t. t) (loggedBetween read) refl refl refl refl refl
+    scheduled (interleaving (lines Ks) (0 ∷ 1 ∷ []) (judging Ks ∷ logging ∷ []) allVisible (λ f t. t) (loggedBetween read) refl refl refl refl) refl
 
 pub no-order-between : Serialisable selectedBetween → ⊥
 unfolding openOrders selectedBetween
@@ -226,7 +205,7 @@ no-order-between = none-serves 2 (loggedBetween read) refl
 pub selectedBefore : Schedule (lines Ks)
 unfolding openWorkload openRules
 selectedBefore =
-    scheduled (lines Ks) (0 ∷ 1 ∷ []) (judging Ks ∷ logging ∷ []) allVisible (λ f t. t) (loggedBefore read) refl refl refl refl refl
+    scheduled (interleaving (lines Ks) (0 ∷ 1 ∷ []) (judging Ks ∷ logging ∷ []) allVisible (λ f t. t) (loggedBefore read) refl refl refl refl) refl
 
 pub no-order-before : Serialisable selectedBefore → ⊥
 unfolding openOrders selectedBefore
@@ -245,12 +224,24 @@ two-refused = refl
 pub no-write-behind-lock : Needed (lines Kl) writeBehindLock
 unfolding openParts
 no-write-behind-lock =
-    needed (lines Kl) writeBehindLock (0 ∷ 1 ∷ []) (judging Kl ∷ logging ∷ []) (λ f t. t) (loggedBetween lock)
-    refl refl refl refl refl refl refl
+    record {
+      given = given;
+      robust = robust;
+      unbanned = interleaving (lines Kl) (0 ∷ 1 ∷ []) (judging Kl ∷ logging ∷ []) allVisible (λ f t. t) (loggedBetween lock) refl refl refl refl;
+      letThrough = refl;
+      refused = refl;
+      noOrder = none-serves 2 (loggedBetween lock) refl;
+    }
 
 -- of the third, that a lock is behind another's write
 pub no-lock-behind-write : Needed (lines Kl) lockBehindWrite
 unfolding openParts
 no-lock-behind-write =
-    needed (lines Kl) lockBehindWrite (0 ∷ 1 ∷ []) (judging Kl ∷ logging ∷ []) (λ f t. t) (loggedBefore lock)
-    refl refl refl refl refl refl refl
+    record {
+      given = given;
+      robust = robust;
+      unbanned = interleaving (lines Kl) (0 ∷ 1 ∷ []) (judging Kl ∷ logging ∷ []) allVisible (λ f t. t) (loggedBefore lock) refl refl refl refl;
+      letThrough = refl;
+      refused = refl;
+      noOrder = none-serves 2 (loggedBefore lock) refl;
+    }

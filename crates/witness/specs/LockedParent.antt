@@ -4,7 +4,6 @@
 -- lock behind another's lock, which demand 3 therefore needs.
 use mathlib.Core.Bool.{true, false}
 use mathlib.Core.List.{List, [], _∷_, map}
-use mathlib.Core.Option.{none}
 use mathlib.Core.Path.{_≡_, refl}
 use Rattle.spec_text.specs.declared.Line.{Line}
 use Rattle.spec_text.specs.declared.LineKind.the-variants.{St, Li}
@@ -17,7 +16,7 @@ use Rattle.spec_graph.specs.Graph.Flow.{forward, back}
 use Rattle.law_walk.specs.Reach.{dangerTest}
 use Rattle.spec_report.specs.State.{Danger, Robust, summaryGraph}
 use Rattle.law_report.specs.Reports.{robust-of}
-use Rattle.spec_schedule.specs.Event.{Action, Event, pastAt, seen, source, waits}
+use Rattle.spec_schedule.specs.Event.{Action, Event, pastAt, waits}
 use Rattle.spec_schedule.specs.Event.Action.{read, lock, write, commit}
 use Rattle.spec_schedule.specs.Schedule.{Schedule}
 use Rattle.spec_schedule.specs.Serial.{Serialisable}
@@ -27,7 +26,7 @@ use Rattle.cases.specs.Computed.{allPass}
 use Rattle.witness.specs.Joined.{demand}
 use Rattle.witness.specs.LateParent.{onPanelLine, linesShown, linesLast, panelOf, showing, logging}
 use Rattle.witness.specs.Orders.{none-serves, one-serves, openOrders}
-use Rattle.witness.specs.Schedules.{allVisible, scheduled, Needed, needed, lockBehindLock, openParts}
+use Rattle.witness.specs.Schedules.{allVisible, interleaving, scheduled, Needed, lockBehindLock, openParts}
 use Rattle.witness.specs.Shields.{openShields}
 
 -- kl 0 0 - 2 - - first in program 0, kl 1 0 - 2 - - last in program 1
@@ -83,7 +82,7 @@ events =
 
 pub locked : Schedule lines
 unfolding openWorkload openRules
-locked = scheduled lines (0 ∷ 1 ∷ []) (showing Kl ∷ logging Kl ∷ []) allVisible panelOf events refl refl refl refl refl
+locked = scheduled (interleaving lines (0 ∷ 1 ∷ []) (showing Kl ∷ logging Kl ∷ []) allVisible panelOf events refl refl refl refl) refl
 
 -- what the shield rests on: the logger cannot lock the panel between the two reads, and can after the other's commit
 waits-between : map (λ n. waits (pastAt events n) (event 1 2 1 lock 0 0 2)) (2 ∷ 3 ∷ 4 ∷ 5 ∷ 6 ∷ []) ≡ true ∷ false ∷ false ∷ false ∷ true ∷ []
@@ -132,7 +131,9 @@ loggedBetween a =
 pub selected : Schedule (linesLast Ks Ks)
 unfolding openWorkload openRules
 selected =
-    scheduled (linesLast Ks Ks) (0 ∷ 1 ∷ []) (showing Ks ∷ logging Ks ∷ []) allVisible panelOf (loggedBetween read) refl refl refl refl refl
+    scheduled
+    (interleaving (linesLast Ks Ks) (0 ∷ 1 ∷ []) (showing Ks ∷ logging Ks ∷ []) allVisible panelOf (loggedBetween read) refl refl refl refl)
+    refl
 
 pub no-order : Serialisable selected → ⊥
 unfolding openOrders selected
@@ -142,4 +143,11 @@ no-order = none-serves 2 (loggedBetween read) refl
 pub no-lock-behind-lock : Needed lines lockBehindLock
 unfolding openParts
 no-lock-behind-lock =
-    needed lines lockBehindLock (0 ∷ 1 ∷ []) (showing Kl ∷ logging Kl ∷ []) panelOf (loggedBetween lock) refl refl refl refl refl refl refl
+    record {
+      given = given;
+      robust = robust;
+      unbanned = interleaving lines (0 ∷ 1 ∷ []) (showing Kl ∷ logging Kl ∷ []) allVisible panelOf (loggedBetween lock) refl refl refl refl;
+      letThrough = refl;
+      refused = refl;
+      noOrder = none-serves 2 (loggedBetween lock) refl;
+    }

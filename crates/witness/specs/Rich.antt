@@ -3,10 +3,9 @@
 -- and deletes, tuples that one transaction inserts and others update, read and delete, deletes in plenty, and predicate statements on three tuples.
 -- Parents of kinds is, ks and kd stand before their children within a turn. A pd stands in no robust workload: see `AllKinds` in crate spec_schedule.
 use mathlib.Core.Bool.{Bool, true, cond, not, _&&_, _||_}
-use mathlib.Core.List.{List, [], _∷_, map, List·Memᴰ}
-use mathlib.Core.List.List·Memᴰ.{List·Memᴰ·head, List·Memᴰ·tail}
+use mathlib.Core.List.{List, [], _∷_, map}
 use mathlib.Core.Option.{some}
-use mathlib.Core.Path.{_≡_, refl, sym, subst}
+use mathlib.Core.Path.{_≡_, refl}
 use Prim.Native.Nat.{ℕ, _/_, _%_}
 use lib.Dec.{eqb, ltb}
 use lib.ListN.{length, getD}
@@ -14,7 +13,7 @@ use Rattle.spec_base.specs.Basic.{keep, count}
 use Rattle.spec_text.specs.declared.Line.{Line}
 use Rattle.spec_text.specs.declared.LineKind.the-variants.{Rl, Fk, Pr, St, Lo, En, Li}
 use Rattle.spec_text.specs.declared.StatementKind.the-variants.{Is, Ks, Ps, Ku, Pu, Kd}
-use Rattle.spec_graph.specs.Program.{Program, programsOf}
+use Rattle.spec_graph.specs.Program.{Program}
 use Rattle.spec_graph.specs.Program.Item.{statement, loop}
 use Rattle.spec_graph.specs.Program.Run.{done, next}
 use Rattle.spec_graph.specs.Unfolding.{occurrences}
@@ -26,7 +25,8 @@ use Rattle.spec_schedule.specs.Event.Action.{read, write, insert, delete, predi
 use Rattle.spec_schedule.specs.Schedule.{Tuple, Transaction, Schedule, everyAttribute, eventsOf}
 use Rattle.spec_schedule.specs.Serial.{Serialisable}
 use Rattle.spec_schedule.specs.SerialTest.{serial-by-test, openTest, actionNumber}
-use Rattle.spec_schedule.specs.ScheduleExamples.{line, says, event, openWorkload, openRules, no-program, one-program, wholes}
+use Rattle.spec_schedule.specs.ScheduleExamples.{line, says, event, openWorkload, openRules}
+use Rattle.witness.specs.Schedules.{interleaving, scheduled}
 
 -- rl 0 - - 1 - -
 -- rl 1 - - 1 - -
@@ -155,13 +155,6 @@ lists = record { body = next (statement (says Ps 0 1 1 0 1)) done; links = [] }
 abbrev pub restocks : Program
 restocks = record { body = next (statement (says Pu 0 2 2 2 1)) done; links = [] }
 
-abbrev all-programs : List Program
-all-programs = opens ∷ cancels ∷ amends ∷ lists ∷ restocks ∷ []
-
-pub programs : programsOf lines ≡ opens ∷ cancels ∷ amends ∷ lists ∷ restocks ∷ []
-unfolding openWorkload
-programs = refl
-
 -- the order of a line, and its article
 abbrev pub keyOf : ℕ → Tuple → Tuple
 keyOf f t =
@@ -287,39 +280,7 @@ events =
 
 pub rich : Schedule lines
 unfolding openWorkload openRules
-rich =
-    record {
-      transactions = transactions;
-      ofPrograms = λ x m. subst (List·Memᴰ (x .program)) (sym programs) (members x m);
-      start = start;
-      key = keyOf;
-      kept = refl;
-      events = events;
-      known = refl;
-      whole = wholes events transactions refl;
-      obeyed = refl;
-    }
-  where
-    first : List·Memᴰ opens all-programs
-    first = List·Memᴰ·head refl
-
-    second : List·Memᴰ cancels all-programs
-    second = List·Memᴰ·tail (List·Memᴰ·head refl)
-
-    third : List·Memᴰ amends all-programs
-    third = List·Memᴰ·tail (List·Memᴰ·tail (List·Memᴰ·head refl))
-
-    fourth : List·Memᴰ lists all-programs
-    fourth = List·Memᴰ·tail (List·Memᴰ·tail (List·Memᴰ·tail (List·Memᴰ·head refl)))
-
-    fifth : List·Memᴰ restocks all-programs
-    fifth = List·Memᴰ·tail (List·Memᴰ·tail (List·Memᴰ·tail (List·Memᴰ·tail (List·Memᴰ·head refl))))
-
-    members : (x : Transaction) → List·Memᴰ x transactions → List·Memᴰ (x .program) all-programs
-    members =
-        one-program opening first
-        (one-program idling first (one-program cancelling second (one-program amendingOwn third
-        (one-program listing fourth (one-program restocking fifth (one-program amendingOther third no-program))))))
+rich = scheduled (interleaving lines (0 ∷ 0 ∷ 1 ∷ 2 ∷ 3 ∷ 4 ∷ 2 ∷ []) transactions start keyOf events refl refl refl refl) refl
 
 -- an order that serves: the one that lists comes fifth, though it commits last
 pub serialised : Serialisable rich
