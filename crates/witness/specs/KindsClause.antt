@@ -6,6 +6,7 @@
 use mathlib.Core.Bool.{Bool, true, false, not, _&&_, _||_, false≢true}
 use mathlib.Core.List.{List, [], _∷_}
 use mathlib.Core.Path.{_≡_, refl}
+use Prim.Native.Nat.{ℕ}
 use lib.Dec.{ltb}
 use Rattle.spec_base.specs.Basic.{any, all, around, numbers}
 use Rattle.law_base.specs.BoolLaws.{and-true, and-of}
@@ -34,19 +35,17 @@ use Rattle.witness.specs.Shields.{openShields}
 
 -- ---- graphs without the clause
 
--- the graph without the clause: no edge makes a pair dangerous by its kind
-abbrev pub byPlaces : Graph → Graph
-byPlaces g = record { size = g .size; places = g .places; edge = g .edge; loose = λ m i. false }
+-- the graph with the clause over these places: an edge that leaves one makes a pair dangerous by its kind
+abbrev pub withLoose : (ℕ → ℕ → Bool) → Graph → Graph
+withLoose loose g = record { size = g .size; places = g .places; edge = g .edge; loose = loose }
 
--- and with no more of it than the computed test needs: an edge does where it leaves a place that a back edge leaves
+-- over none: without the clause
+abbrev pub byPlaces : Graph → Graph
+byPlaces g = withLoose (λ m i. false) g
+
+-- over no more than the computed test needs: the places that a back edge leaves
 abbrev leastLoose : Graph → Graph
-leastLoose g =
-    record {
-      size = g .size;
-      places = g .places;
-      edge = g .edge;
-      loose = λ m i. any (λ n. any (λ j. g .edge m i n j Flow.back) (numbers (g .places n))) (numbers (g .size));
-    }
+leastLoose g = withLoose (λ m i. any (λ n. any (λ j. g .edge m i n j Flow.back) (numbers (g .places n))) (numbers (g .size))) g
 
 least-regular : (g : Graph) → Regular g → Regular (leastLoose g)
 least-regular g r =

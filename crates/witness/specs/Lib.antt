@@ -8,3 +8,4 @@ pub mod Schedules
 pub mod Locked
 pub mod LockedParent
 pub mod KindsClause
+pub mod LockedFirst

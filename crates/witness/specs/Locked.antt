@@ -90,14 +90,14 @@ showing = inTurn (says Ks 0 0 1 0 0 ∷ []) []
 
 -- ---- the schedule with locks
 
--- one logs the contact, another reads it, which nothing bans, and the first commits; then two judge it, each after the commit of the one before
+-- one logs the contact; then one locks it, another reads it, which no lock bans, and the first updates it; then the second lock and update
 abbrev pub events : List Event
 events =
     event 3 0 0 read 0 0 0
     ∷ event 3 1 0 write 0 0 1
-    ∷ event 2 0 0 read 0 0 1
     ∷ event 3 2 1 commit 0 0 0
     ∷ event 0 0 0 lock 0 0 1
+    ∷ event 2 0 0 read 0 0 1
     ∷ event 0 1 1 read 0 0 0
     ∷ event 0 2 1 write 0 0 1
     ∷ event 0 3 2 commit 0 0 0
@@ -108,37 +108,37 @@ events =
     ∷ event 2 1 1 commit 0 0 0
     ∷ []
 
+abbrev pub stations : List Transaction
+stations = judging Kl ∷ judging Kl ∷ showing ∷ logging ∷ []
+
 pub locked : Schedule (lines Kl)
 unfolding openWorkload openRules
-locked =
-    scheduled
-    (interleaving (lines Kl) (0 ∷ 0 ∷ 2 ∷ 1 ∷ []) (judging Kl ∷ judging Kl ∷ showing ∷ logging ∷ []) allVisible (λ f t. t) events refl refl refl refl)
-    refl
+locked = scheduled (interleaving (lines Kl) (0 ∷ 0 ∷ 2 ∷ 1 ∷ []) stations allVisible (λ f t. t) events refl refl refl refl) refl
 
 -- the first lock waits for the commit of the one that has written, the second for that of the one that has locked
-first-waits : map (λ n. waits (pastAt events n) (event 0 0 0 lock 0 0 1)) (0 ∷ 2 ∷ 3 ∷ 4 ∷ []) ≡ true ∷ false ∷ false ∷ true ∷ []
+first-waits : map (λ n. waits (pastAt events n) (event 0 0 0 lock 0 0 1)) (0 ∷ 2 ∷ 3 ∷ []) ≡ true ∷ false ∷ true ∷ []
 unfolding openRules
 first-waits = refl
 
-second-waits : map (λ n. waits (pastAt events n) (event 1 0 0 lock 0 0 1)) (4 ∷ 5 ∷ 7 ∷ 8 ∷ []) ≡ true ∷ false ∷ false ∷ true ∷ []
+second-waits : map (λ n. waits (pastAt events n) (event 1 0 0 lock 0 0 1)) (3 ∷ 4 ∷ 7 ∷ 8 ∷ []) ≡ true ∷ false ∷ false ∷ true ∷ []
 unfolding openRules
 second-waits = refl
 
--- each lock sees what was written last
-sees-last : source (seen (pastAt events 4) 0 0 0) 0 ∷ source (seen (pastAt events 8) 1 0 0) 0 ∷ []
-    ≡ some (event 3 1 0 write 0 0 1) ∷ some (event 0 2 1 write 0 0 1) ∷ []
+-- each lock, and the read behind the first, sees what was committed last
+sees-last : source (seen (pastAt events 3) 0 0 0) 0 ∷ source (seen (pastAt events 4) 2 0 0) 0 ∷ source (seen (pastAt events 8) 1 0 0) 0 ∷ []
+    ≡ some (event 3 1 0 write 0 0 1) ∷ some (event 3 1 0 write 0 0 1) ∷ some (event 0 2 1 write 0 0 1) ∷ []
 unfolding openRules
 sees-last = refl
 
--- the one that reads comes first, though it commits last
+-- the one that reads comes second, though it commits last
 pub serialised : Serialisable locked
 unfolding openOrders locked
-serialised = serial-by-test 4 events (2 ∷ 3 ∷ 0 ∷ 1 ∷ []) refl refl
+serialised = serial-by-test 4 events (3 ∷ 2 ∷ 0 ∷ 1 ∷ []) refl refl
 
 -- no other order serves
-pub only-order : (s : Serialisable locked) → s .order ≡ 2 ∷ 3 ∷ 0 ∷ 1 ∷ []
+pub only-order : (s : Serialisable locked) → s .order ≡ 3 ∷ 2 ∷ 0 ∷ 1 ∷ []
 unfolding openOrders locked
-only-order = one-serves 4 events (2 ∷ 3 ∷ 0 ∷ 1 ∷ []) refl
+only-order = one-serves 4 events (3 ∷ 2 ∷ 0 ∷ 1 ∷ []) refl
 
 -- demand 3 of this schedule: its workload is given and robust
 pub serialisable : Serialisable locked
