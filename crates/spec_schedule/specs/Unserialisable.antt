@@ -2,9 +2,10 @@
 -- read before either writes. So `SerialOrder` is no empty demand, and Read Committed alone does not give it.
 -- With a lock in place of the read (Req 03) they must wait for one another, and have an order.
 use mathlib.Core.Bool.{true, false, _&&_}
-use mathlib.Core.List.{List, [], _∷_, map, List·Memᴰ}
+use mathlib.Core.List.{List, [], _∷_, _++_, map, List·Memᴰ}
 use mathlib.Core.List.List·Memᴰ.{List·Memᴰ·head}
 use mathlib.Core.Path.{_≡_, refl}
+use Prim.Native.Nat.{ℕ}
 use lib.ListN.{getD}
 use Rattle.spec_base.specs.Basic.{all, numbers}
 use Rattle.spec_text.specs.declared.Line.{Line}
@@ -20,7 +21,7 @@ use Rattle.spec_graph.specs.Program.Item.{statement}
 use Rattle.spec_graph.specs.Program.Run.{done, next}
 use Rattle.spec_graph.specs.Unfolding.Execution.{end, step}
 use Rattle.spec_graph.specs.Unfolding.ItemExecution.{perform}
-use Rattle.spec_schedule.specs.Event.{Event, pastAt, insertsFirst, deletesLast, meetsVisible, waits, together, allObey}
+use Rattle.spec_schedule.specs.Event.{Action, Event, pastAt, insertsFirst, deletesLast, meetsVisible, waits, together, allObey}
 use Rattle.spec_schedule.specs.Event.Action.{read, lock, write, commit}
 use Rattle.spec_schedule.specs.Schedule.{Transaction, Schedule}
 use Rattle.spec_schedule.specs.Serial.{Serialisable, SerialOrder}
@@ -48,18 +49,16 @@ dangerous =
 abbrev pub run : Transaction
 run = record { program = program; execution = step perform (step perform end); tuple = λ i. 0; tuples = λ i. [] }
 
--- both read, then the first writes and commits, then the second
+-- what run i does after its first read: it writes and commits
+abbrev pub overwrites : ℕ → List Event
+overwrites i = event i 1 1 read 0 0 0 ∷ event i 2 1 write 0 0 1 ∷ event i 3 2 commit 0 0 0 ∷ []
+
+-- both read, by this action, then the first writes and commits, then the second
+abbrev pub bothFirst : Action → List Event
+bothFirst action = event 0 0 0 action 0 0 1 ∷ event 1 0 0 action 0 0 1 ∷ overwrites 0 ++ overwrites 1
+
 abbrev pub events : List Event
-events =
-    event 0 0 0 read 0 0 1
-    ∷ event 1 0 0 read 0 0 1
-    ∷ event 0 1 1 read 0 0 0
-    ∷ event 0 2 1 write 0 0 1
-    ∷ event 0 3 2 commit 0 0 0
-    ∷ event 1 1 1 read 0 0 0
-    ∷ event 1 2 1 write 0 0 1
-    ∷ event 1 3 2 commit 0 0 0
-    ∷ []
+events = bothFirst read
 
 pub lostUpdate : Schedule lines
 unfolding openWorkload openRules
@@ -85,20 +84,10 @@ no-order = none-of-two events refl refl
 
 -- ---- Req 03: a lock in place of the select
 
--- two such runs that both lock before either writes
 abbrev locked : List Event
-locked =
-    event 0 0 0 lock 0 0 1
-    ∷ event 1 0 0 lock 0 0 1
-    ∷ event 0 1 1 read 0 0 0
-    ∷ event 0 2 1 write 0 0 1
-    ∷ event 0 3 2 commit 0 0 0
-    ∷ event 1 1 1 read 0 0 0
-    ∷ event 1 2 1 write 0 0 1
-    ∷ event 1 3 2 commit 0 0 0
-    ∷ []
+locked = bothFirst lock
 
--- these would have no serial order either
+-- where both lock before either writes, there is no serial order either
 locked-no-order : SerialOrder 2 locked → ⊥
 unfolding openTest
 locked-no-order = none-of-two locked refl refl
@@ -118,16 +107,7 @@ locked-forbidden = (refl, refl)
 
 -- where the second waits for the first's commit, they are lawful and have an order
 abbrev inTurn : List Event
-inTurn =
-    event 0 0 0 lock 0 0 1
-    ∷ event 0 1 1 read 0 0 0
-    ∷ event 0 2 1 write 0 0 1
-    ∷ event 0 3 2 commit 0 0 0
-    ∷ event 1 0 0 lock 0 0 1
-    ∷ event 1 1 1 read 0 0 0
-    ∷ event 1 2 1 write 0 0 1
-    ∷ event 1 3 2 commit 0 0 0
-    ∷ []
+inTurn = event 0 0 0 lock 0 0 1 ∷ overwrites 0 ++ (event 1 0 0 lock 0 0 1 ∷ overwrites 1)
 
 in-turn-lawful : allObey (λ r t. true) [] inTurn ≡ true
 unfolding openRules
