@@ -440,8 +440,19 @@ lock-own : map (λ c. rules (does 0 0 (c .0) 0 ∷ does 0 1 (c .1) 0 ∷ [])) cl
 unfolding openRules
 lock-own = refl
 
--- H11, Req 03: another's lock lasts until its own commit, whoever else commits; an own one does not take it away
-lock-lasts : map (λ i. rules (does 0 0 lock 0 ∷ does 2 0 read 0 ∷ does 2 1 commit 0 ∷ does i 1 lock 0 ∷ [])) (0 ∷ 1 ∷ []) ≡ true ∷ false ∷ []
+-- H11, Req 03: another's lock lasts until its commit, whatever it does in between, and whoever else commits
+lock-lasts :
+    map
+    (λ between. rules (does 0 0 lock 0 ∷ between ++ (does 1 0 lock 0 ∷ [])))
+    ((does 0 1 read 0 ∷ [])
+    ∷ (does 0 1 lock 0 ∷ [])
+    ∷ (does 0 1 write 0 ∷ [])
+    ∷ (does 0 1 insert 1 ∷ does 0 2 write 1 ∷ [])
+    ∷ (event 0 1 1 lock 3 0 1 ∷ [])
+    ∷ (does 2 0 read 0 ∷ does 2 1 commit 0 ∷ [])
+    ∷ (does 0 1 insert 1 ∷ does 0 2 commit 0 ∷ [])
+    ∷ [])
+    ≡ replicate 6 false ++ (true ∷ [])
 unfolding openRules
 lock-lasts = refl
 
