@@ -2,3 +2,4 @@ pub mod BoolLaws
 pub mod ListLaws
 pub mod SetLaws
 pub mod PositionLaws
+pub mod EveryValue

@@ -3,8 +3,8 @@ use mathlib.Core.Bool.{Bool, true, false, not, _||_}
 use mathlib.Core.List.{List, [], _∷_, List·Memᴰ}
 use mathlib.Core.Path.{_≡_, refl}
 use Rattle.spec_base.specs.Basic.{all}
-use Rattle.law_base.specs.BoolLaws.{not-true, implied}
-use Rattle.law_base.specs.ListLaws.{all-true, getElem?-member}
+use Rattle.law_base.specs.ListLaws.{getElem?-member}
+use Rattle.law_base.specs.EveryValue.{every-value, value-implies, values-apart}
 use Rattle.spec_text.specs.declared.StatementKind.{StatementKind}
 use Rattle.spec_text.specs.declared.StatementKind.the-variants.{Is, Ks, Ps, Ku, Pu, Kd, Pd, Kl}
 
@@ -24,12 +24,12 @@ kind-listed Kl = getElem?-member kinds 7 refl
 
 -- a test that the listed kinds pass, every kind passes
 pub every-kind : (test : StatementKind → Bool) → all test kinds ≡ true → (k : StatementKind) → test k ≡ true
-every-kind test h k = all-true test h (kind-listed k)
+every-kind = every-value kinds kind-listed
 
 -- a kind that passes the first test passes the second
 pub kind-implies : (f g : StatementKind → Bool) → all (λ k. not (f k) || g k) kinds ≡ true → (k : StatementKind) → f k ≡ true → g k ≡ true
-kind-implies f g h k = implied (f k) (g k) (every-kind (λ k. not (f k) || g k) h k)
+kind-implies = value-implies kinds kind-listed
 
 -- a kind that passes the first test fails the second
 pub kinds-apart : (f g : StatementKind → Bool) → all (λ k. not (f k) || not (g k)) kinds ≡ true → (k : StatementKind) → f k ≡ true → g k ≡ false
-kinds-apart f g h k e = not-true (g k) (kind-implies f (λ k. not (g k)) h k e)
+kinds-apart = values-apart kinds kind-listed

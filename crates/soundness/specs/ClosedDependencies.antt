@@ -19,10 +19,10 @@ use Rattle.spec_graph.specs.Graph.{Flow}
 use Rattle.spec_graph.specs.Edge.{at, stands, loosens, graphOf}
 use Rattle.spec_graph.specs.Walk.{DangerousWalk}
 use Rattle.spec_schedule.specs.Event.{Action, Event, isRead, isWrite, isPredicateRead, isCommit}
-use Rattle.spec_schedule.specs.Event.Action.{read, write, insert, delete, predicateRead, commit}
 use Rattle.spec_schedule.specs.Schedule.{Transaction, Schedule}
 use Rattle.soundness.specs.dependency.Dependency.{before}
 use Rattle.soundness.specs.dependency.DependencyLaws.{before-found}
+use Rattle.soundness.specs.committing.EveryAction.{actions-apart}
 use Rattle.soundness.specs.committing.Rules.{statement-whole}
 use Rattle.soundness.specs.committing.Letters.{Dependency, dependency-cases}
 use Rattle.soundness.specs.committing.Letters.Dependency.{write-write, write-read, write-predicate, read-write, predicate-write}
@@ -37,28 +37,13 @@ use Rattle.soundness.specs.Edges.{forward-edge, back-edge, firm, early}
 
 -- what reads, writes or tests is no commit
 write-goes : (a : Action) → isWrite a ≡ true → isCommit a ≡ false
-write-goes read h = refl
-write-goes write h = refl
-write-goes insert h = refl
-write-goes delete h = refl
-write-goes predicateRead h = refl
-write-goes commit h = absurd (true-false h refl)
+write-goes = actions-apart isWrite isCommit refl
 
 read-goes : (a : Action) → isRead a ≡ true → isCommit a ≡ false
-read-goes read h = refl
-read-goes write h = refl
-read-goes insert h = refl
-read-goes delete h = refl
-read-goes predicateRead h = refl
-read-goes commit h = absurd (true-false h refl)
+read-goes = actions-apart isRead isCommit refl
 
 predicate-goes : (a : Action) → isPredicateRead a ≡ true → isCommit a ≡ false
-predicate-goes read h = refl
-predicate-goes write h = refl
-predicate-goes insert h = refl
-predicate-goes delete h = refl
-predicate-goes predicateRead h = refl
-predicate-goes commit h = absurd (true-false h refl)
+predicate-goes = actions-apart isPredicateRead isCommit refl
 
 -- the events of a dependency are no commits, and of different transactions
 pub parts : {events : List Event} {m n : ℕ} {b a : Event} → Dependency events m b n a

@@ -10,10 +10,11 @@ use Rattle.spec_text.specs.declared.StatementKind.{StatementKind}
 use Rattle.spec_graph.specs.Program.{Statement}
 use Rattle.spec_graph.specs.Edge.{W, R, T, holds, hasReads, hasWrites, hasTests, inserts, deletes}
 use Rattle.spec_graph.specs.Edge.Letter.{A, B, C, D, E}
-use Rattle.spec_schedule.specs.Event.{Action, isRead, isWrite, isPredicateRead, isInsert, isDelete}
+use Rattle.spec_schedule.specs.Event.{Action, isRead, isWrite, isPredicateRead, isInsert, isDelete, isLock}
 use Rattle.spec_schedule.specs.Schedule.{Performed, Operation}
 use Rattle.law_walk.specs.EveryKind.{kind-implies, kinds-apart}
-use Rattle.soundness.specs.transactions.Operations.{Does, does-test, does-read, does-write, does-insert, does-delete, updates, statementDone}
+use Rattle.soundness.specs.transactions.Operations.{Does, does-test, does-read, does-lock, does-write, does-insert, does-delete}
+use Rattle.soundness.specs.transactions.Operations.{updates, locks, readsPlainly, statementDone}
 
 -- ---- T9: what is known of a statement's sets, given the set of each relation
 pub record Sets (set : ℕ → ℕ) (s : Statement) : Type 0 where
@@ -92,17 +93,29 @@ module _ {p : Performed} {o : Operation} where
   does-write-what (does-delete a u t m) w = (all-attributes (or-right (inserts (kindOf p)) u), kind-implies deletes hasWrites refl (kindOf p) u)
   does-write-what (does-test a u t) w = absurd (other isWrite a refl w)
   does-write-what (does-read a u t m) w = absurd (other isWrite a refl w)
+  does-write-what (does-lock a u t m) w = absurd (other isWrite a refl w)
 
   pub does-read-what : Does p o → isRead (o .action) ≡ true → (o .attributes ≡ R (statementDone p)) × (hasReads (kindOf p) ≡ true)
-  does-read-what (does-read a u t m) r = (t, u)
+  does-read-what (does-read a u t m) r = (t, kind-implies readsPlainly hasReads refl (kindOf p) u)
+  does-read-what (does-lock a u t m) r = (t, kind-implies locks hasReads refl (kindOf p) u)
   does-read-what (does-write a u t m) r = absurd (other isRead a refl r)
   does-read-what (does-insert a u t m) r = absurd (other isRead a refl r)
   does-read-what (does-delete a u t m) r = absurd (other isRead a refl r)
   does-read-what (does-test a u t) r = absurd (other isRead a refl r)
 
+  -- what reads without lock is of a statement that does
+  pub does-plainly : Does p o → isRead (o .action) ≡ true → isLock (o .action) ≡ false → readsPlainly (kindOf p) ≡ true
+  does-plainly (does-read a u t m) r n = u
+  does-plainly (does-lock a u t m) r n = absurd (true-false (ap isLock a) n)
+  does-plainly (does-write a u t m) r n = absurd (other isRead a refl r)
+  does-plainly (does-insert a u t m) r n = absurd (other isRead a refl r)
+  does-plainly (does-delete a u t m) r n = absurd (other isRead a refl r)
+  does-plainly (does-test a u t) r n = absurd (other isRead a refl r)
+
   pub does-test-what : Does p o → isPredicateRead (o .action) ≡ true → (o .attributes ≡ T (statementDone p)) × (hasTests (kindOf p) ≡ true)
   does-test-what (does-test a u t) r = (t, u)
   does-test-what (does-read a u t m) r = absurd (other isPredicateRead a refl r)
+  does-test-what (does-lock a u t m) r = absurd (other isPredicateRead a refl r)
   does-test-what (does-write a u t m) r = absurd (other isPredicateRead a refl r)
   does-test-what (does-insert a u t m) r = absurd (other isPredicateRead a refl r)
   does-test-what (does-delete a u t m) r = absurd (other isPredicateRead a refl r)
@@ -113,6 +126,7 @@ module _ {p : Performed} {o : Operation} where
   does-insert-what (does-delete a u t m) w = ap isInsert a ∙ sym (kinds-apart deletes inserts refl (kindOf p) u)
   does-insert-what (does-test a u t) w = absurd (other isWrite a refl w)
   does-insert-what (does-read a u t m) w = absurd (other isWrite a refl w)
+  does-insert-what (does-lock a u t m) w = absurd (other isWrite a refl w)
 
   pub does-delete-what : Does p o → isWrite (o .action) ≡ true → isDelete (o .action) ≡ deletes (kindOf p)
   does-delete-what (does-delete a u t m) w = ap isDelete a ∙ sym u
@@ -120,6 +134,7 @@ module _ {p : Performed} {o : Operation} where
   does-delete-what (does-insert a u t m) w = ap isDelete a ∙ sym (kinds-apart inserts deletes refl (kindOf p) u)
   does-delete-what (does-test a u t) w = absurd (other isWrite a refl w)
   does-delete-what (does-read a u t m) w = absurd (other isWrite a refl w)
+  does-delete-what (does-lock a u t m) w = absurd (other isWrite a refl w)
 
   -- what a write writes where it neither inserts nor deletes
   pub does-update-what : Does p o → isWrite (o .action) ≡ true → inserts (kindOf p) ≡ false → deletes (kindOf p) ≡ false
@@ -129,6 +144,7 @@ module _ {p : Performed} {o : Operation} where
   does-update-what (does-delete a u t m) w i d = absurd (true-false u d)
   does-update-what (does-test a u t) w i d = absurd (other isWrite a refl w)
   does-update-what (does-read a u t m) w i d = absurd (other isWrite a refl w)
+  does-update-what (does-lock a u t m) w i d = absurd (other isWrite a refl w)
 
 -- ---- the letters
 

@@ -9,55 +9,40 @@ use Prim.Native.Nat.{ℕ, _≤_, _<_}
 use native.Mathlib.Omega.{arith}
 use lib.ListN.{getElem?}
 use borrow.Author.Tests.{eq-eqb}
-use Rattle.law_base.specs.BoolLaws.{and-true, and-of, or-left, or-right, true-false, not-of-false, false-of}
+use Rattle.law_base.specs.BoolLaws.{and-true, and-of, or-left, or-right, true-false, true-of, not-of-false, false-of}
 use Rattle.law_base.specs.ListLaws.{any-true, getElem?-member}
 use Rattle.spec_text.specs.declared.Line.{Line}
 use Rattle.spec_text.specs.declared.StatementKind.{StatementKind}
 use Rattle.spec_graph.specs.Program.{Statement}
 use Rattle.spec_graph.specs.Unfolding.{Occurrence, occurrences}
 use Rattle.spec_graph.specs.Edge.{Letter, at, holds, sameRelation, guardedNear, guardedFar, shielded}
-use Rattle.spec_graph.specs.Edge.{forward, back, stands, hasReads, hasTests, selects, loosens}
+use Rattle.spec_graph.specs.Edge.{forward, back, stands, hasTests, selects, loosens}
 use Rattle.spec_graph.specs.Edge.Letter.{A, B, C, D, E}
-use Rattle.spec_schedule.specs.Event.{Action, Event, isRead, isWrite, isPredicateRead}
-use Rattle.spec_schedule.specs.Event.Action.{read, write, insert, delete, predicateRead, commit}
+use Rattle.spec_schedule.specs.Event.{Action, Event, isRead, isWrite, isPredicateRead, isLock}
+use Rattle.spec_schedule.specs.Event.Action.{read, lock, write, insert, delete, predicateRead, commit}
 use Rattle.spec_schedule.specs.Schedule.{Transaction, Performed, Schedule}
+use Rattle.soundness.specs.committing.EveryAction.{actions-apart}
 use Rattle.soundness.specs.committing.Rules.{CommitsAt, SameTuple}
 use Rattle.soundness.specs.committing.Letters.{Dependency}
 use Rattle.soundness.specs.committing.Letters.Dependency.{write-write, write-read, write-predicate, read-write, predicate-write}
-use Rattle.soundness.specs.committing.Commits.{write-left, update-left, back-not-write, read-left, shield}
+use Rattle.soundness.specs.committing.Commits.{write-left, update-left, lock-left, back-not-write, read-left, shield}
 use Rattle.soundness.specs.committing.WriteKinds.{write-write-kinds, write-read-kinds, read-write-kinds}
-use Rattle.soundness.specs.transactions.Operations.{Does, updates, statementDone}
+use Rattle.soundness.specs.transactions.Operations.{Does, updates, readsPlainly, statementDone}
 use Rattle.soundness.specs.transactions.Events.{schedule-lawful}
 use Rattle.soundness.specs.transactions.Statements.{Stated, operationOf, update-next, place-order}
-use Rattle.law_walk.specs.EveryKind.{kind-implies}
-use Rattle.soundness.specs.EdgeLetters.{Sets, letter-A, letter-B, letter-C, letter-D, letter-E, does-read-what, does-test-what}
+use Rattle.law_walk.specs.EveryKind.{kind-implies, kinds-apart}
+use Rattle.soundness.specs.EdgeLetters.{Sets, letter-A, letter-B, letter-C, letter-D, letter-E, does-plainly, does-test-what}
 use Rattle.soundness.specs.Visits.{Visit, At, Spot, Guard, guard-near, guard-far, performed-occurrence}
 
--- ---- what a test of an action says of it
-
-read-action : (a : Action) → isRead a ≡ true → a ≡ read
-read-action read h = refl
-read-action write h = absurd (true-false h refl)
-read-action insert h = absurd (true-false h refl)
-read-action delete h = absurd (true-false h refl)
-read-action predicateRead h = absurd (true-false h refl)
-read-action commit h = absurd (true-false h refl)
-
-read-tests : (a : Action) → isRead a ≡ true → isPredicateRead a ≡ false
-read-tests read h = refl
-read-tests write h = refl
-read-tests insert h = refl
-read-tests delete h = refl
-read-tests predicateRead h = absurd (true-false h refl)
-read-tests commit h = refl
-
-write-tests : (a : Action) → isWrite a ≡ true → isPredicateRead a ≡ false
-write-tests read h = refl
-write-tests write h = refl
-write-tests insert h = refl
-write-tests delete h = refl
-write-tests predicateRead h = absurd (true-false h refl)
-write-tests commit h = refl
+-- what reads without lock
+plain-read : (a : Action) → isRead a ≡ true → isLock a ≡ false → a ≡ read
+plain-read read h n = refl
+plain-read lock h n = absurd (true-false h n)
+plain-read write h n = absurd (true-false h refl)
+plain-read insert h n = absurd (true-false h refl)
+plain-read delete h n = absurd (true-false h refl)
+plain-read predicateRead h n = absurd (true-false h refl)
+plain-read commit h n = absurd (true-false h refl)
 
 module _ {lines : List Line} (s : Schedule lines) (set : ℕ → ℕ)
     (sets : (x : Transaction) → List·Memᴰ x (s .transactions) → (j : ℕ) (o : Occurrence) → getElem? (occurrences (x .execution) 0) j ≡ some o
@@ -141,12 +126,23 @@ module _ {lines : List Line} (s : Schedule lines) (set : ℕ → ℕ)
         (subst (λ (y : Statement). holds (t .1) (statementDone P) y ≡ true) (sym (q .statement)) (t .2))))
 
     -- ---- the update's write stands right after its read, so such a dependency is never back
-    update-commits : isRead (b .action) ≡ true → updates (statementDone P .kind) ≡ true → v .commit < n
-    update-commits rb u =
-        let f = p .stated .follows u (read-action (b .action) rb) in
+    update-commits : isRead (b .action) ≡ true → isLock (b .action) ≡ false → updates (statementDone P .kind) ≡ true → v .commit < n
+    update-commits rb nl u =
+        let f = p .stated .follows u (plain-read (b .action) rb nl) in
         let x = update-next s i (v .found) m b atB ofB (f .0) (f .1) (f .2 .place) in
         update-left (schedule-lawful s) atB atA dependency rb x (rw (f .2 .writes)) (sym ofB)
         (record { relation = sym (f .2 .relation); tuple = sym (f .2 .tuple) }) commit-b commit-a
+
+    -- what leaves a read of no select waits for the commit: it locks, or it is of an update
+    read-waits : isRead (b .action) ≡ true → selects (statementDone P .kind) ≡ false → v .commit < n
+    read-waits rb ns = go (isLock (b .action)) refl
+      where
+        go : (l : Bool) → isLock (b .action) ≡ l → v .commit < n
+        go true l = lock-left (schedule-lawful s) atB atA dependency l commit-b commit-a
+        go false l =
+            update-commits rb l
+            (kind-implies (λ k. readsPlainly k && not (selects k)) updates refl (statementDone P .kind)
+            (and-of (does-plainly doesB rb l) (not-of-false ns)))
 
     -- what leaves no loose place waits for the commit
     pub firm : loosens (statementDone P .kind) ≡ false → v .commit < n
@@ -160,8 +156,7 @@ module _ {lines : List Line} (s : Schedule lines) (set : ℕ → ℕ)
         go (write-read apart wb ra t x see) = write-left (schedule-lawful s) atB atA dependency wb commit-b
         go (write-predicate apart wb pa t see) = write-left (schedule-lawful s) atB atA dependency wb commit-b
         go (read-write apart rb wa t x see) =
-            update-commits rb
-            (kind-implies (λ k. hasReads k && not (loosens k)) updates refl k (and-of (does-read-what doesB rb .1) (not-of-false h)))
+            read-waits rb (kinds-apart (λ k. not (loosens k)) selects refl k (not-of-false h))
         go (predicate-write apart pb wa t see) =
             absurd (true-false (kind-implies hasTests loosens refl k (does-test-what doesB pb .1)) h)
 
@@ -169,7 +164,7 @@ module _ {lines : List Line} (s : Schedule lines) (set : ℕ → ℕ)
     pub early : w .commit < v .commit → m < w .commit
     early h = read-left (schedule-lawful s) atB atA dependency commit-b commit-a h
 
-    -- ---- the shield: two writing parents of one tuple, both before the second commit, the near one since it stands before b, cannot be
+    -- ---- the shield: two parents that write or lock one tuple, both before the second commit, the near one since it stands before b, cannot be
     shield-holds : w .commit < v .commit → SameTuple b a → isPredicateRead (b .action) ≡ false → isPredicateRead (a .action) ≡ false
         → b .transaction ≢ a .transaction → shielded (p .spot) (q .spot) ≡ true → ⊥
     unfolding shielded
@@ -194,7 +189,7 @@ module _ {lines : List Line} (s : Schedule lines) (set : ℕ → ℕ)
                   ∙ ap (λ (x : ℕ). s .key key (record { relation = a .relation; number = x }) .number) (t .tuple)
                   ∙ k .tuple;
             } in
-            shield (schedule-lawful s) (g .position) (k .position) atB atA dependency apart (g .stands) (k .stands) (g .writes) (k .writes) same
+            shield (schedule-lawful s) (g .position) (k .position) atB atA dependency apart (g .stands) (k .stands) (g .claims) (k .claims) same
             (g .own ∙ sym ofB) (k .own ∙ sym ofA)
             (place-order s i (v .found) (g .position) m (g .event) b (g .stands) atB (g .own) ofB earlier) commit-b commit-a h
 
@@ -219,12 +214,7 @@ module _ {lines : List Line} (s : Schedule lines) (set : ℕ → ℕ)
         late = commit-a .last n a atA refl
 
         selecting : isRead (b .action) ≡ true → selects k ≡ true
-        selecting rb = choose (updates k) refl
-          where
-            choose : (u : Bool) → updates k ≡ u → selects k ≡ true
-            choose true u = let c = update-commits rb u in absurd (omega (arith, late))
-            choose false u =
-                kind-implies (λ k. hasReads k && not (updates k)) selects refl k (and-of (does-read-what doesB rb .1) (not-of-false u))
+        selecting rb = true-of (selects k) (λ ns. let c = read-waits rb ns in omega (arith, late))
 
         go : Dependency (s .events) m b n a
             → holds E (at (p .spot)) (at (q .spot))
@@ -240,7 +230,8 @@ module _ {lines : List Line} (s : Schedule lines) (set : ℕ → ℕ)
             (letter-D set doesB doesA (over (t .relation)) (event-sets v b (p .stated)) (event-sets w a (q .stated)) rb wa
             (read-write-kinds (schedule-lawful s) atB atA dependency rb wa) x)))
             (not-of-false
-            (false-of (shielded (p .spot) (q .spot)) (shield-holds h t (read-tests (b .action) rb) (write-tests (a .action) wa) apart))))
+            (false-of (shielded (p .spot) (q .spot)) (shield-holds h t (actions-apart isRead isPredicateRead refl (b .action) rb)
+            (actions-apart isWrite isPredicateRead refl (a .action) wa) apart))))
         go (predicate-write apart pb wa t see) =
             or-left (selects (at (p .spot) .kind) && holds D (at (p .spot)) (at (q .spot)) && not (shielded (p .spot) (q .spot)))
             (spots E (letter-E doesB doesA pb wa (t .changes)))

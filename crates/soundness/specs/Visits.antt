@@ -17,13 +17,14 @@ use Rattle.spec_text.specs.declared.Line.{Line}
 use Rattle.spec_graph.specs.Program.{Statement, Link}
 use Rattle.spec_graph.specs.Unfolding.{Occurrence, Node, occurrences, nodesOf}
 use Rattle.spec_graph.specs.Edge.{Place, at, placeAt, binds, leads, hasParent, guardedNear, guardedFar, shields}
-use Rattle.spec_schedule.specs.Event.{Event, isWrite, isPredicateRead}
+use Rattle.spec_schedule.specs.Event.{Event, isClaim, isPredicateRead}
 use Rattle.spec_schedule.specs.Schedule.{Transaction, Performed, Operation, Schedule, performed, linkKept, keysKept}
 use Rattle.soundness.specs.committing.Rules.{CommitsAt}
 use Rattle.soundness.specs.transactions.Operations.{
   Does,
   does-test,
   does-read,
+  does-lock,
   does-write,
   does-insert,
   does-delete,
@@ -48,6 +49,7 @@ occurrence-performed x j h = at-performed x 0 (occurrences (x .execution) 0) j h
 -- an operation on a tuple is on one of its statement's tuples
 pub does-tuple : {p : Performed} {o : Operation} → Does p o → isPredicateRead (o .action) ≡ false → List·Memᴰ (o .tuple) (p .tuples)
 does-tuple (does-read a u t m) n = m
+does-tuple (does-lock a u t m) n = m
 does-tuple (does-write a u t m) n = m
 does-tuple (does-insert a u t m) n = m
 does-tuple (does-delete a u t m) n = m
@@ -101,8 +103,8 @@ module _ {lines : List Line} (s : Schedule lines) where
             (ap (λ (k : ℕ). getElem? (occurrences (v .transaction .execution) 0) k) (a .to) ∙ p .0);
       }
 
-  -- what a guarded place says of its event: its transaction writes the key's image of the event's tuple, in the statement that the parent's place in
-  -- the node stands for
+  -- what a guarded place says of its event: its transaction writes or locks the key's image of the event's tuple, in the statement that the
+  -- parent's place in the node stands for
   pub record Guard {i : ℕ} (v : Visit i) (key : ℕ) (e : Event) : Type 0 where
     pub position : ℕ
     pub event : Event
@@ -110,7 +112,7 @@ module _ {lines : List Line} (s : Schedule lines) where
     pub own : event .transaction ≡ i
     pub parent : ℕ
     pub to : v .folded .to parent ≡ event .place
-    pub writes : isWrite (event .action) ≡ true
+    pub claims : isClaim (event .action) ≡ true
     pub relation : s .key key (record { relation = e .relation; number = e .tuple }) .relation ≡ event .relation
     pub tuple : s .key key (record { relation = e .relation; number = e .tuple }) .number ≡ event .tuple
 
@@ -161,7 +163,7 @@ module _ {lines : List Line} (s : Schedule lines) where
           go (inl n) = absurd (true-false b (not-true (binds l (child .occurrence) (parent .occurrence)) n))
           go (inr h) = h
 
-  -- a place that has a parent among some places of its node has its guard, at one of them: the parent's statement writes what the link says
+  -- a place that has a parent among some places of its node has its guard, at one of them: the parent's statement claims what the link says
   guard-among : {i : ℕ} (v : Visit i) (place key : ℕ) (e : Event) (p : Spot v place e) → At v place e → isPredicateRead (e .action) ≡ false
       → (Among : ℕ → Type 0) (among : List Occurrence)
       → ((k : ℕ) (o : Occurrence) → getElem? among k ≡ some o → Among k × (getElem? (p .spot .node .places) k ≡ some o))
@@ -214,7 +216,7 @@ module _ {lines : List Line} (s : Schedule lines) where
             own = w .3;
             parent = k;
             to = sym (w .4);
-            writes = w .5;
+            claims = w .5;
             relation =
                 subst (λ (r : ℕ). s .key key (record { relation = r; number = e .tuple }) .relation ≡ w .1 .relation) rel
                 (subst (λ (f : ℕ). s .key f (record { relation = statementDone child .relation; number = e .tuple }) .relation ≡ w .1 .relation)

@@ -1,3 +1,4 @@
+pub mod EveryAction
 pub mod Past
 pub mod Rules
 pub mod SeenWrites

@@ -8,9 +8,9 @@ use Prim.Native.Nat.{ℕ, zero, suc, _+_, _*_, _%_}
 use lib.Dec.{eqb}
 use lib.ListN.{length, getD}
 use Rattle.spec_base.specs.Basic.{all, numbers}
-use Rattle.spec_schedule.specs.Event.{Action, Event, isRead, isPredicateRead, isInsert, isDelete, isCommit, isWrite}
+use Rattle.spec_schedule.specs.Event.{Action, Event, isRead, isPredicateRead, isInsert, isDelete, isCommit, isWrite, isLock, isClaim}
 use Rattle.spec_schedule.specs.Event.{committed, obeys, allObey}
-use Rattle.spec_schedule.specs.Event.Action.{read, write, insert, delete, predicateRead, commit}
+use Rattle.spec_schedule.specs.Event.Action.{read, lock, write, insert, delete, predicateRead, commit}
 use Rattle.spec_schedule.specs.ScheduleExamples.{event, openRules}
 
 abbrev y : Bool
@@ -21,24 +21,28 @@ n = false
 
 -- what is done to tuples
 abbrev accesses : List Action
-accesses = read ∷ write ∷ insert ∷ delete ∷ predicateRead ∷ []
+accesses = read ∷ lock ∷ write ∷ insert ∷ delete ∷ predicateRead ∷ []
 
 abbrev actions : List Action
 actions = accesses ++ (commit ∷ [])
 
--- H2: each action is what its name says, and a write, an insert and a delete write
+-- H2, Req 03: each action is what its name says; a read and a lock read, a write, an insert and a delete write, and all but the plain reads and
+-- the commit claim
 what-actions-are :
-    map (λ (is : Action → Bool). map is actions) (isRead ∷ isWrite ∷ isInsert ∷ isDelete ∷ isPredicateRead ∷ isCommit ∷ [])
-    ≡ (y ∷ n ∷ n ∷ n ∷ n ∷ n ∷ [])
-    ∷ (n ∷ y ∷ y ∷ y ∷ n ∷ n ∷ [])
-    ∷ (n ∷ n ∷ y ∷ n ∷ n ∷ n ∷ [])
-    ∷ (n ∷ n ∷ n ∷ y ∷ n ∷ n ∷ [])
-    ∷ (n ∷ n ∷ n ∷ n ∷ y ∷ n ∷ [])
-    ∷ (n ∷ n ∷ n ∷ n ∷ n ∷ y ∷ [])
+    map (λ (is : Action → Bool). map is actions)
+    (isRead ∷ isLock ∷ isWrite ∷ isInsert ∷ isDelete ∷ isPredicateRead ∷ isCommit ∷ isClaim ∷ [])
+    ≡ (y ∷ y ∷ n ∷ n ∷ n ∷ n ∷ n ∷ [])
+    ∷ (n ∷ y ∷ n ∷ n ∷ n ∷ n ∷ n ∷ [])
+    ∷ (n ∷ n ∷ y ∷ y ∷ y ∷ n ∷ n ∷ [])
+    ∷ (n ∷ n ∷ n ∷ y ∷ n ∷ n ∷ n ∷ [])
+    ∷ (n ∷ n ∷ n ∷ n ∷ y ∷ n ∷ n ∷ [])
+    ∷ (n ∷ n ∷ n ∷ n ∷ n ∷ y ∷ n ∷ [])
+    ∷ (n ∷ n ∷ n ∷ n ∷ n ∷ n ∷ y ∷ [])
+    ∷ (n ∷ y ∷ y ∷ y ∷ y ∷ n ∷ n ∷ [])
     ∷ []
 what-actions-are = refl
 
--- ---- H4 to H6, H10, H11: two accesses of one tuple
+-- ---- H4 to H6, H10, H11, Req 03: two accesses of one tuple
 
 -- H4: of relation 0 the even tuples start visible and the odd ones unborn; of the others, all of an odd relation start visible, of an even one unborn
 abbrev starts : ℕ → ℕ → Bool
@@ -61,38 +65,41 @@ table test = map (λ a. map (test a) actions) accesses
 
 -- what a transaction may do to a tuple that it has accessed itself
 own-tuple : table (λ a b. lawful (acts 0 0 a 0 (fitting a) ∷ acts 0 1 b 0 (fitting a) ∷ []))
-    ≡ (y ∷ y ∷ n ∷ y ∷ y ∷ y ∷ [])
-    ∷ (y ∷ y ∷ n ∷ y ∷ y ∷ y ∷ [])
-    ∷ (y ∷ y ∷ n ∷ y ∷ y ∷ y ∷ [])
-    ∷ (n ∷ n ∷ n ∷ n ∷ y ∷ y ∷ [])
-    ∷ (y ∷ y ∷ n ∷ y ∷ y ∷ y ∷ [])
+    ≡ (y ∷ y ∷ y ∷ n ∷ y ∷ y ∷ y ∷ [])
+    ∷ (y ∷ y ∷ y ∷ n ∷ y ∷ y ∷ y ∷ [])
+    ∷ (y ∷ y ∷ y ∷ n ∷ y ∷ y ∷ y ∷ [])
+    ∷ (y ∷ y ∷ y ∷ n ∷ y ∷ y ∷ y ∷ [])
+    ∷ (n ∷ n ∷ n ∷ n ∷ n ∷ y ∷ y ∷ [])
+    ∷ (y ∷ y ∷ y ∷ n ∷ y ∷ y ∷ y ∷ [])
     ∷ []
 unfolding openRules
 own-tuple = refl
 
 -- to one that another has accessed and not committed
 others-tuple : table (λ a b. lawful (acts 0 0 a 0 (fitting a) ∷ acts 1 0 b 0 (fitting a) ∷ []))
-    ≡ (y ∷ y ∷ n ∷ y ∷ y ∷ y ∷ [])
-    ∷ (y ∷ n ∷ n ∷ n ∷ y ∷ y ∷ [])
-    ∷ (n ∷ n ∷ n ∷ n ∷ y ∷ y ∷ [])
-    ∷ (y ∷ n ∷ n ∷ n ∷ y ∷ y ∷ [])
-    ∷ (y ∷ y ∷ n ∷ y ∷ y ∷ y ∷ [])
+    ≡ (y ∷ y ∷ y ∷ n ∷ y ∷ y ∷ y ∷ [])
+    ∷ (y ∷ n ∷ n ∷ n ∷ n ∷ y ∷ y ∷ [])
+    ∷ (y ∷ n ∷ n ∷ n ∷ n ∷ y ∷ y ∷ [])
+    ∷ (n ∷ n ∷ n ∷ n ∷ n ∷ y ∷ y ∷ [])
+    ∷ (y ∷ n ∷ n ∷ n ∷ n ∷ y ∷ y ∷ [])
+    ∷ (y ∷ y ∷ y ∷ n ∷ y ∷ y ∷ y ∷ [])
     ∷ []
 unfolding openRules
 others-tuple = refl
 
 -- to one that another has accessed and committed
 committed-tuple : table (λ a b. lawful (acts 0 0 a 0 (fitting a) ∷ acts 0 1 commit 0 0 ∷ acts 1 0 b 0 (fitting a) ∷ []))
-    ≡ (y ∷ y ∷ n ∷ y ∷ y ∷ y ∷ [])
-    ∷ (y ∷ y ∷ n ∷ y ∷ y ∷ y ∷ [])
-    ∷ (y ∷ y ∷ n ∷ y ∷ y ∷ y ∷ [])
-    ∷ (n ∷ n ∷ n ∷ n ∷ y ∷ y ∷ [])
-    ∷ (y ∷ y ∷ n ∷ y ∷ y ∷ y ∷ [])
+    ≡ (y ∷ y ∷ y ∷ n ∷ y ∷ y ∷ y ∷ [])
+    ∷ (y ∷ y ∷ y ∷ n ∷ y ∷ y ∷ y ∷ [])
+    ∷ (y ∷ y ∷ y ∷ n ∷ y ∷ y ∷ y ∷ [])
+    ∷ (y ∷ y ∷ y ∷ n ∷ y ∷ y ∷ y ∷ [])
+    ∷ (n ∷ n ∷ n ∷ n ∷ n ∷ y ∷ y ∷ [])
+    ∷ (y ∷ y ∷ y ∷ n ∷ y ∷ y ∷ y ∷ [])
     ∷ []
 unfolding openRules
 committed-tuple = refl
 
--- ---- H4 to H6, H10, H11: one tuple as a machine
+-- ---- H4 to H6, H10, H11, Req 03: one tuple as a machine
 
 pub data Life : Type 0 where
   unborn visible deleted : Life
@@ -107,7 +114,7 @@ isUnborn unborn = true
 isUnborn visible = false
 isUnborn deleted = false
 
--- what is committed, and what the transaction sees that has written the tuple and not committed
+-- what is committed, and what the transaction sees that has written or locked the tuple and not committed
 record State : Type 0 where
   settled : Life
   pending : Option (ℕ × Life)
@@ -121,15 +128,16 @@ latest s = elim (s .pending) [ none ↦ s .settled | some w ↦ w .1 ]
 abbrev free : State → ℕ → Bool
 free s i = elim (s .pending) [ none ↦ true | some w ↦ eqb (w .0) i ]
 
-abbrev writes : State → ℕ → Bool → Life → Option State
-writes s i fits life = cond (free s i && fits) (some (record { settled = s .settled; pending = some (i, life) })) none
+abbrev takes : State → ℕ → Bool → Life → Option State
+takes s i fits life = cond (free s i && fits) (some (record { settled = s .settled; pending = some (i, life) })) none
 
 -- the next state, where transaction i may do this
 abbrev goesOn : State → ℕ → Action → Option State
 goesOn s i read = cond (isVisible (sees s i)) (some s) none
-goesOn s i write = writes s i (isVisible (latest s)) visible
-goesOn s i insert = writes s i (isUnborn (latest s)) visible
-goesOn s i delete = writes s i (isVisible (latest s)) deleted
+goesOn s i lock = takes s i (isVisible (sees s i)) (sees s i)
+goesOn s i write = takes s i (isVisible (latest s)) visible
+goesOn s i insert = takes s i (isUnborn (latest s)) visible
+goesOn s i delete = takes s i (isVisible (latest s)) deleted
 goesOn s i predicateRead = some s
 goesOn s i commit = some (cond (free s i) (record { settled = latest s; pending = none }) s)
 
@@ -142,7 +150,7 @@ agrees t (suc k) s past =
     (λ a.
     let obeyed = obeys starts past (acts i (length past) a 0 t) in
     elim (goesOn s i a) [ none ↦ not obeyed | some next ↦ obeyed && agrees t k next (acts i (length past) a 0 t ∷ past) ])
-    (read ∷ write ∷ insert ∷ delete ∷ commit ∷ []))
+    (read ∷ lock ∷ write ∷ insert ∷ delete ∷ commit ∷ []))
     (0 ∷ 1 ∷ [])
 
 visible-tuple : agrees 0 4 (record { settled = visible; pending = none }) [] ≡ true
@@ -153,12 +161,13 @@ unborn-tuple : agrees 1 4 (record { settled = unborn; pending = none }) [] ≡ t
 unfolding openRules agrees
 unborn-tuple = refl
 
--- a tuple may have a long life: inserted and updated by one transaction, read and updated twice by each of five others in turn, deleted by one more
+-- a tuple may have a long life: inserted and updated by one transaction; read, locked and updated twice by each of five others in turn; deleted by
+-- one more
 long-life :
     lawful
     ((acts 0 0 insert 0 1 ∷ acts 0 1 write 0 1 ∷ acts 0 2 write 0 1 ∷ acts 0 3 write 0 1 ∷ acts 0 4 commit 0 0 ∷ [])
     ++ flatMap
-    (λ i. acts i 0 read 0 1 ∷ acts i 1 write 0 1 ∷ acts i 2 write 0 1 ∷ acts i 3 commit 0 0 ∷ [])
+    (λ i. acts i 0 read 0 1 ∷ acts i 1 lock 0 1 ∷ acts i 2 write 0 1 ∷ acts i 3 write 0 1 ∷ acts i 4 commit 0 0 ∷ [])
     (1 ∷ 2 ∷ 3 ∷ 4 ∷ 5 ∷ [])
     ++ (acts 6 0 read 0 1 ∷ acts 6 1 delete 0 1 ∷ acts 6 2 predicateRead 0 0 ∷ acts 6 3 commit 0 0 ∷ acts 7 0 predicateRead 0 0 ∷ []))
     ≡ true

@@ -20,7 +20,7 @@ use Rattle.law_base.specs.ListLaws.{all-numbers, all-numbers-of, any-numbers, a
 use Rattle.law_base.specs.SetLaws.{has-below, has-past, has-every}
 use Rattle.spec_schedule.specs.Event.{Action, Event, by, isWrite, isRead, isPredicateRead}
 use Rattle.spec_schedule.specs.Event.{writesTo, pastAt, writesOf, seen, source, existence}
-use Rattle.spec_schedule.specs.Event.Action.{read, write, insert, delete, predicateRead, commit}
+use Rattle.spec_schedule.specs.Event.Action.{read, lock, write, insert, delete, predicateRead, commit}
 use Rattle.spec_schedule.specs.Schedule.{everyAttribute}
 use Rattle.spec_schedule.specs.ScheduleExamples.{openRules}
 use Rattle.spec_schedule.specs.Serial.{serialRun, stateAt, SameRead, SamePredicateRead, SerialOrder}
@@ -29,23 +29,26 @@ use Rattle.spec_schedule.specs.Serial.{serialRun, stateAt, SameRead, Sam
 
 abbrev pub actionNumber : Action → ℕ
 actionNumber read = 0
-actionNumber write = 1
-actionNumber insert = 2
-actionNumber delete = 3
-actionNumber predicateRead = 4
-actionNumber commit = 5
+actionNumber lock = 1
+actionNumber write = 2
+actionNumber insert = 3
+actionNumber delete = 4
+actionNumber predicateRead = 5
+actionNumber commit = 6
 
 abbrev actionFrom : ℕ → Action
 actionFrom zero = read
-actionFrom (suc zero) = write
-actionFrom (suc (suc zero)) = insert
-actionFrom (suc (suc (suc zero))) = delete
-actionFrom (suc (suc (suc (suc zero)))) = predicateRead
-actionFrom (suc (suc (suc (suc (suc n))))) = commit
+actionFrom (suc zero) = lock
+actionFrom (suc (suc zero)) = write
+actionFrom (suc (suc (suc zero))) = insert
+actionFrom (suc (suc (suc (suc zero)))) = delete
+actionFrom (suc (suc (suc (suc (suc zero))))) = predicateRead
+actionFrom (suc (suc (suc (suc (suc (suc n)))))) = commit
 
 -- the number tells the action
 action-number : (a : Action) → actionFrom (actionNumber a) ≡ a
 action-number read = refl
+action-number lock = refl
 action-number write = refl
 action-number insert = refl
 action-number delete = refl

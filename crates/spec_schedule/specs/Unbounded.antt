@@ -20,9 +20,10 @@ use Rattle.spec_text.specs.declared.LineKind.the-variants.{Pr}
 use Rattle.spec_graph.specs.Program.{programsOf}
 use Rattle.spec_graph.specs.Program.Run.{done}
 use Rattle.spec_graph.specs.Unfolding.Execution.{end}
-use Rattle.spec_schedule.specs.Event.{Action, Event, by, isInsert, isDelete, isWrite, writesTo, writesOf, committed, seen, visible, existence}
+use Rattle.spec_schedule.specs.Event.{Action, Event, by, isInsert, isDelete, isWrite, isClaim, writesTo, claims, writesOf}
+use Rattle.spec_schedule.specs.Event.{committed, seen, visible, existence}
 use Rattle.spec_schedule.specs.Event.{insertsFirst, deletesLast, meetsVisible, waits, sameStatement, together, obeys, allObey}
-use Rattle.spec_schedule.specs.Event.Action.{read, write, insert, delete, predicateRead, commit}
+use Rattle.spec_schedule.specs.Event.Action.{read, lock, write, insert, delete, predicateRead, commit}
 use Rattle.spec_schedule.specs.Schedule.{Transaction, Schedule, eventsOf, keysKept}
 use Rattle.spec_schedule.specs.ScheduleExamples.{line, event, openWorkload, no-program, one-program}
 
@@ -33,6 +34,7 @@ unfoldable pub fits : (ℕ → ℕ → Bool) → Event → Bool
 fits start e =
     elim (e .action) [
       | read ↦ start (e .relation) (e .tuple)
+      | lock ↦ start (e .relation) (e .tuple)
       | write ↦ start (e .relation) (e .tuple)
       | insert ↦ not (start (e .relation) (e .tuple))
       | delete ↦ start (e .relation) (e .tuple)
@@ -40,22 +42,40 @@ fits start e =
       | commit ↦ true
     ]
 
--- nothing before has written the tuple or is of the same statement
+-- nothing before has written or locked the tuple or is of the same statement
 unfoldable pub apart : List Event → Event → Bool
-apart past e = not (any (writesTo (e .relation) (e .tuple)) past) && not (any (sameStatement e) past)
+apart past e = not (any (claims (e .relation) (e .tuple)) past) && not (any (sameStatement e) past)
 
 -- so it is of each event of the list
 unfoldable pub allApart : (ℕ → ℕ → Bool) → List Event → List Event → Bool
 allApart start past [] = true
 allApart start past (e ∷ rest) = fits start e && apart past e && allApart start (e ∷ past) rest
 
+-- what neither writes nor locks a tuple does not write it
+unclaimed : (r t : ℕ) (w : Event) → claims r t w ≡ false → writesTo r t w ≡ false
+unfolding claims writesTo
+unclaimed r t w h = go (isWrite (w .action)) refl
+  where
+    go : (b : Bool) → isWrite (w .action) ≡ b → writesTo r t w ≡ false
+    go true k = rw k (rw k at h)
+    go false k = rw k
+
 module _ (start : ℕ → ℕ → Bool) (past : List Event) (e : Event) (fit : fits start e ≡ true) (away : apart past e ≡ true) where
-  parts : (not (any (writesTo (e .relation) (e .tuple)) past) ≡ true) × (not (any (sameStatement e) past) ≡ true)
+  parts : (not (any (claims (e .relation) (e .tuple)) past) ≡ true) × (not (any (sameStatement e) past) ≡ true)
   unfolding apart
-  parts = and-true (not (any (writesTo (e .relation) (e .tuple)) past)) (not (any (sameStatement e) past)) away
+  parts = and-true (not (any (claims (e .relation) (e .tuple)) past)) (not (any (sameStatement e) past)) away
+
+  none-claimed : any (claims (e .relation) (e .tuple)) past ≡ false
+  none-claimed = not-true (any (claims (e .relation) (e .tuple)) past) (parts .0)
+
+  -- the tuple has neither writes nor locks
+  none-kept : keep (claims (e .relation) (e .tuple)) past ≡ []
+  none-kept = keep-none (claims (e .relation) (e .tuple)) past (λ w m. any-false (claims (e .relation) (e .tuple)) none-claimed m)
 
   none-written : any (writesTo (e .relation) (e .tuple)) past ≡ false
-  none-written = not-true (any (writesTo (e .relation) (e .tuple)) past) (parts .0)
+  none-written =
+      any-none (writesTo (e .relation) (e .tuple)) past
+      (λ w m. unclaimed (e .relation) (e .tuple) w (any-false (claims (e .relation) (e .tuple)) none-claimed m))
 
   -- the tuple has no writes
   none-of : writesOf (e .relation) (e .tuple) past ≡ []
@@ -68,6 +88,7 @@ module _ (start : ℕ → ℕ → Bool) (past : List Event) (e : Event) (fit : f
     where
       go : (a : Action) → e .action ≡ a → insertsFirst start past e ≡ true
       go read h = rw h
+      go lock h = rw h
       go write h = rw h
       go insert h = rw h (and-of (not-of-false none-written) (rw h at fit))
       go delete h = rw h
@@ -86,6 +107,7 @@ module _ (start : ℕ → ℕ → Bool) (past : List Event) (e : Event) (fit : f
     where
       go : (a : Action) → e .action ≡ a → meetsVisible start past e ≡ true
       go read h = rw (h, none-of) (rw h at fit)
+      go lock h = rw (h, none-of) (rw h at fit)
       go write h = rw (h, none-of) (rw h at fit)
       go insert h = rw h
       go delete h = rw (h, none-of) (rw h at fit)
@@ -95,8 +117,9 @@ module _ (start : ℕ → ℕ → Bool) (past : List Event) (e : Event) (fit : f
   waits-met : waits past e ≡ true
   unfolding waits
   waits-met =
-      let h : all (λ w. by (e .transaction) w || committed past (w .transaction)) (writesOf (e .relation) (e .tuple) past) ≡ true = rw none-of in
-      or-right (not (isWrite (e .action))) h
+      let claimed = keep (claims (e .relation) (e .tuple)) past in
+      let h : all (λ w. by (e .transaction) w || committed past (w .transaction)) claimed ≡ true = rw none-kept in
+      or-right (not (isClaim (e .action))) h
 
   together-met : together past e ≡ true
   unfolding together
@@ -203,13 +226,13 @@ commits-keep a (suc n) i l m = go (λ k. commits-keep (suc a) n i k (omega arith
 
 -- they obey the rules after what lower transactions have done
 commits-apart : (start : ℕ → ℕ → Bool) (a n : ℕ) (past : List Event)
-    → ((d : Event) → List·Memᴰ d past → (d .transaction < a) × (isWrite (d .action) ≡ false)) → allApart start past (commits a n) ≡ true
-unfolding commits allApart fits apart writesTo sameStatement
+    → ((d : Event) → List·Memᴰ d past → (d .transaction < a) × (isClaim (d .action) ≡ false)) → allApart start past (commits a n) ≡ true
+unfolding commits allApart fits apart claims sameStatement
 commits-apart start a zero past f = refl
 commits-apart start a (suc n) past f =
     and-of
     (and-of
-    (not-of-false (any-none (writesTo 0 0) past (λ d m. and-left (eqb (d .tuple) 0) (and-left (eqb (d .relation) 0) (f d m .1)))))
+    (not-of-false (any-none (claims 0 0) past (λ d m. and-left (eqb (d .tuple) 0) (and-left (eqb (d .relation) 0) (f d m .1)))))
     (not-of-false (any-none (sameStatement e) past
     (λ d m. and-left (eqb (d .place) 0) (ne-eqb (d .transaction) a (λ q. let t = f d m in omega arith))))))
     (commits-apart start (suc a) n (e ∷ past) (λ d m. go d (List·Memᴰ·cases-cons m)))
@@ -217,8 +240,8 @@ commits-apart start a (suc n) past f =
     e : Event
     e = event a 0 0 commit 0 0 0
 
-    go : (d : Event) → (d ≡ event a 0 0 commit 0 0 0) ⊎ List·Memᴰ d past → (d .transaction < suc a) × (isWrite (d .action) ≡ false)
-    go d (inl h) = let k : d .transaction ≡ a = ap (λ c. c .transaction) h in (omega arith, ap (λ c. isWrite (c .action)) h)
+    go : (d : Event) → (d ≡ event a 0 0 commit 0 0 0) ⊎ List·Memᴰ d past → (d .transaction < suc a) × (isClaim (d .action) ≡ false)
+    go d (inl h) = let k : d .transaction ≡ a = ap (λ c. c .transaction) h in (omega arith, ap (λ c. isClaim (c .action)) h)
     go d (inr m) = let t = f d m in (omega arith, t .1)
 
 -- H8: n empty transactions

@@ -11,16 +11,17 @@ use native.Mathlib.Decide.{ℕ-discrete, decLt}
 use borrow.Author.Tests.{eqb-true, eq-eqb}
 use lib.Dec.{eqb}
 use lib.ListN.{getElem?, take}
-use Rattle.spec_base.specs.Basic.{any, all}
+use Rattle.spec_base.specs.Basic.{any, all, keep}
 use Rattle.law_base.specs.BoolLaws.{true-false, implied, and-true, and-of, or-true, not-true}
 use Rattle.law_base.specs.ListLaws.{some-injective, getElem?-same, getElem?-found, getElem?-lt, any-of}
 use Rattle.law_base.specs.ListLaws.{any-false, any-true, all-true, member-keep}
-use Rattle.spec_schedule.specs.Event.{Action, Event, by, isRead, isWrite, isInsert, isDelete, isCommit, isPredicateRead}
-use Rattle.spec_schedule.specs.Event.{writesTo, pastAt, writesOf, committed, seen, visible}
+use Rattle.spec_schedule.specs.Event.{Action, Event, by, isRead, isWrite, isInsert, isDelete, isCommit, isPredicateRead, isLock, isClaim}
+use Rattle.spec_schedule.specs.Event.{writesTo, claims, pastAt, writesOf, committed, seen, visible}
 use Rattle.spec_schedule.specs.Event.{insertsFirst, deletesLast, meetsVisible, waits, sameStatement, together, obeys, allObey}
-use Rattle.spec_schedule.specs.Event.Action.{read, write, insert, delete, predicateRead, commit}
+use Rattle.spec_schedule.specs.Event.Action.{read, lock, write, insert, delete, predicateRead, commit}
 use Rattle.soundness.specs.dependency.Dependency.{Numbered}
 use Rattle.soundness.specs.dependency.Positions.{writesTo-of, past-position, position-past}
+use Rattle.soundness.specs.committing.EveryAction.{action-implies, actions-apart}
 use Rattle.soundness.specs.committing.Past.{past-next}
 
 -- a list of events that obeys the rules of Read Committed, its events numbered in each transaction
@@ -81,57 +82,31 @@ rules-at {start} {events} lawful n e at =
 
 -- a write is no read
 pub write-not-read : (a : Action) → isWrite a ≡ true → isRead a ≡ true → ⊥
-write-not-read read h k = false≢true h
-write-not-read write h k = false≢true k
-write-not-read insert h k = false≢true k
-write-not-read delete h k = false≢true k
-write-not-read predicateRead h k = false≢true h
-write-not-read commit h k = false≢true h
+write-not-read a h k = true-false k (actions-apart isWrite isRead refl a h)
 
 -- a write is no predicate read
 pub write-not-predicate : (a : Action) → isWrite a ≡ true → isPredicateRead a ≡ true → ⊥
-write-not-predicate read h k = false≢true h
-write-not-predicate write h k = false≢true k
-write-not-predicate insert h k = false≢true k
-write-not-predicate delete h k = false≢true k
-write-not-predicate predicateRead h k = false≢true h
-write-not-predicate commit h k = false≢true h
+write-not-predicate a h k = true-false k (actions-apart isWrite isPredicateRead refl a h)
 
 -- a read is no predicate read
 pub read-not-predicate : (a : Action) → isRead a ≡ true → isPredicateRead a ≡ true → ⊥
-read-not-predicate read h k = false≢true k
-read-not-predicate write h k = false≢true h
-read-not-predicate insert h k = false≢true h
-read-not-predicate delete h k = false≢true h
-read-not-predicate predicateRead h k = false≢true h
-read-not-predicate commit h k = false≢true h
-
--- a write is no commit
-pub write-not-commit : (a : Action) → isWrite a ≡ true → isCommit a ≡ true → ⊥
-write-not-commit read h k = false≢true h
-write-not-commit write h k = false≢true k
-write-not-commit insert h k = false≢true k
-write-not-commit delete h k = false≢true k
-write-not-commit predicateRead h k = false≢true h
-write-not-commit commit h k = false≢true h
+read-not-predicate a h k = true-false k (actions-apart isRead isPredicateRead refl a h)
 
 -- an insert is no delete
 pub insert-not-delete : (a : Action) → isInsert a ≡ true → isDelete a ≡ true → ⊥
-insert-not-delete read h k = false≢true h
-insert-not-delete write h k = false≢true h
-insert-not-delete insert h k = false≢true k
-insert-not-delete delete h k = false≢true h
-insert-not-delete predicateRead h k = false≢true h
-insert-not-delete commit h k = false≢true h
+insert-not-delete a h k = true-false k (actions-apart isInsert isDelete refl a h)
 
 -- an insert is a write
 pub insert-is-write : (a : Action) → isInsert a ≡ true → isWrite a ≡ true
-insert-is-write read h = h
-insert-is-write write h = refl
-insert-is-write insert h = refl
-insert-is-write delete h = refl
-insert-is-write predicateRead h = h
-insert-is-write commit h = h
+insert-is-write = action-implies isInsert isWrite refl
+
+-- a write claims its tuple
+pub write-claims : (a : Action) → isWrite a ≡ true → isClaim a ≡ true
+write-claims = action-implies isWrite isClaim refl
+
+-- so does a lock
+pub lock-claims : (a : Action) → isLock a ≡ true → isClaim a ≡ true
+lock-claims = action-implies isLock isClaim refl
 
 -- ---- writes of a tuple
 
@@ -142,6 +117,14 @@ unfolding writesOf
 earlier-write events m n w e h at k s =
     member-keep (writesTo (e .relation) (e .tuple)) (position-past events n m h at)
     (writesTo-of (e .relation) (e .tuple) w k (s .relation) (s .tuple))
+
+-- Req 03: a write or lock of e's tuple at an earlier position is among those that e waits for
+earlier-claim : (events : List Event) (m n : ℕ) (w e : Event) → m < n → getElem? events m ≡ some w
+    → isClaim (w .action) ≡ true → SameTuple w e → List·Memᴰ w (keep (claims (e .relation) (e .tuple)) (pastAt events n))
+unfolding claims
+earlier-claim events m n w e h at k s =
+    member-keep (claims (e .relation) (e .tuple)) (position-past events n m h at)
+    (and-of (and-of k (eq-eqb (w .relation) (e .relation) (s .relation))) (eq-eqb (w .tuple) (e .tuple) (s .tuple)))
 
 -- ---- commits
 
@@ -165,9 +148,9 @@ module _ {events : List Event} {i c : ℕ} (commit-i : CommitsAt events i c) whe
       any-of (λ e. isCommit (e .action) && by i e) (position-past events n c h (commit-i .stands))
       (and-of (commit-i .commits) (eq-eqb (commit-i .event .transaction) i (commit-i .own)))
 
-  -- a write of the transaction stands before its commit
-  pub write-before : (n : ℕ) (e : Event) → getElem? events n ≡ some e → e .transaction ≡ i → isWrite (e .action) ≡ true → n < c
-  write-before n e at o w = go (ℕ-discrete n c)
+  -- a write or lock of the transaction stands before its commit
+  pub claim-before : (n : ℕ) (e : Event) → getElem? events n ≡ some e → e .transaction ≡ i → isClaim (e .action) ≡ true → n < c
+  claim-before n e at o w = go (ℕ-discrete n c)
     where
       bound : n ≤ c
       bound = commit-i .last n e at o
@@ -175,7 +158,8 @@ module _ {events : List Event} {i c : ℕ} (commit-i : CommitsAt events i c) whe
       go : Dec (n ≡ c) → n < c
       go (yes q) =
           let same : e ≡ commit-i .event = getElem?-same events n at (ap (getElem? events) q ∙ commit-i .stands) in
-          absurd (write-not-commit (e .action) w (ap (λ (x : Event). isCommit (x .action)) same ∙ commit-i .commits))
+          absurd
+          (true-false (ap (λ (x : Event). isCommit (x .action)) same ∙ commit-i .commits) (actions-apart isClaim isCommit refl (e .action) w))
       go (no d) = omega (arith, bound)
 
   -- no event of another transaction stands where this one commits
@@ -228,18 +212,19 @@ module _ {start : ℕ → ℕ → Bool} {events : List Event} (lawful : Lawful s
       (rules-at lawful n e ate .2) r
     where
       asked : (a : Action) (x y : Bool)
-          → elim a as (λ z. Bool) [ read ↦ x | write ↦ y | delete ↦ y | insert ↦ true | predicateRead ↦ true | commit ↦ true ] ≡ true
+          → elim a as (λ z. Bool) [ read ↦ x | lock ↦ x | write ↦ y | delete ↦ y | insert ↦ true | predicateRead ↦ true | commit ↦ true ] ≡ true
           → isRead a ≡ true → x ≡ true
       asked read x y h k = h
+      asked lock x y h k = h
       asked write x y h k = absurd (false≢true k)
       asked insert x y h k = absurd (false≢true k)
       asked delete x y h k = absurd (false≢true k)
       asked predicateRead x y h k = absurd (false≢true k)
       asked commit x y h k = absurd (false≢true k)
 
-  -- H11: no write of a tuple falls between another transaction's write of it and that one's commit
+  -- H11, Req 03: no write or lock of a tuple falls between another transaction's write or lock of it and that one's commit
   pub no-dirty : {m n c : ℕ} {w e : Event} → m < n → getElem? events m ≡ some w → getElem? events n ≡ some e
-      → isWrite (w .action) ≡ true → isWrite (e .action) ≡ true → SameTuple w e → w .transaction ≢ e .transaction
+      → isClaim (w .action) ≡ true → isClaim (e .action) ≡ true → SameTuple w e → w .transaction ≢ e .transaction
       → CommitsAt events (w .transaction) c → c < n
   unfolding waits
   no-dirty {m} {n} {c} {w} {e} h atw ate ww we s d commits =
@@ -254,8 +239,8 @@ module _ {start : ℕ → ℕ → Bool} {events : List Event} (lawful : Lawful s
       waited : by (e .transaction) w || committed past (w .transaction) ≡ true
       waited =
           all-true test
-          (implied (isWrite (e .action)) (all test (writesOf (e .relation) (e .tuple) past)) (rules-at lawful n e ate .3) we)
-          (earlier-write events m n w e h atw ww s)
+          (implied (isClaim (e .action)) (all test (keep (claims (e .relation) (e .tuple)) past)) (rules-at lawful n e ate .3) we)
+          (earlier-claim events m n w e h atw ww s)
 
       done : (by (e .transaction) w ≡ true) ⊎ (committed past (w .transaction) ≡ true) → committed past (w .transaction) ≡ true
       done (inl q) = absurd (d (eqb-true (w .transaction) (e .transaction) q))

@@ -16,12 +16,12 @@ use Rattle.law_base.specs.PositionLaws.{keep-position, position-keep}
 use Rattle.law_base.specs.ListLaws.{all-true, getElem?-lt, getElem?-member, getElem?-found, getElem?-same, some-injective}
 use Rattle.spec_text.specs.declared.Line.{Line}
 use Rattle.spec_schedule.specs.Event.{Action, Event, by, isInsert, isDelete, isCommit}
-use Rattle.spec_schedule.specs.Event.Action.{read, write, insert, delete, predicateRead, commit}
+use Rattle.spec_schedule.specs.Event.Action.{read, lock, write, insert, delete, predicateRead, commit}
 use Rattle.spec_schedule.specs.Schedule.{Transaction, Performed, Operation, Schedule, everyAttribute, operations, numbered, eventsOf, performed}
 use Rattle.soundness.specs.dependency.Dependency.{Numbered, Filled, Known}
 use Rattle.soundness.specs.dependency.Positions.{number-grows, one-position}
 use Rattle.soundness.specs.committing.Rules.{CommitsAt, Lawful}
-use Rattle.soundness.specs.transactions.Operations.{Does, does-test, does-read, does-write, does-insert, does-delete}
+use Rattle.soundness.specs.transactions.Operations.{Does, does-test, does-read, does-lock, does-write, does-insert, does-delete}
 use Rattle.soundness.specs.transactions.Operations.{InStatement, operation-cases, commit-at}
 
 -- the event that an operation of a transaction makes
@@ -60,6 +60,7 @@ pub record Operates (x : Transaction) (e : Event) : Type 0 where
 no-commit : {p : Performed} {o : Operation} → Does p o → o .action ≡ commit → ⊥
 no-commit (does-test a h t) c = let z : _≡_ {A = ℕ} 0 1 = cc in omega arith
 no-commit (does-read a h t m) c = let z : _≡_ {A = ℕ} 0 1 = cc in omega arith
+no-commit (does-lock a h t m) c = let z : _≡_ {A = ℕ} 0 1 = cc in omega arith
 no-commit (does-write a h t m) c = let z : _≡_ {A = ℕ} 0 1 = cc in omega arith
 no-commit (does-insert a h t m) c = let z : _≡_ {A = ℕ} 0 1 = cc in omega arith
 no-commit (does-delete a h t m) c = let z : _≡_ {A = ℕ} 0 1 = cc in omega arith
@@ -67,6 +68,7 @@ no-commit (does-delete a h t m) c = let z : _≡_ {A = ℕ} 0 1 = cc in omega ar
 commit-action : (a : Action) → isCommit a ≡ true → a ≡ commit
 commit-action commit h = refl
 commit-action read h = let z : _≡_ {A = ℕ} 0 1 = cc in absurd (omega arith)
+commit-action lock h = let z : _≡_ {A = ℕ} 0 1 = cc in absurd (omega arith)
 commit-action write h = let z : _≡_ {A = ℕ} 0 1 = cc in absurd (omega arith)
 commit-action insert h = let z : _≡_ {A = ℕ} 0 1 = cc in absurd (omega arith)
 commit-action delete h = let z : _≡_ {A = ℕ} 0 1 = cc in absurd (omega arith)
@@ -80,6 +82,8 @@ does-filled {o} (does-test a h t) c =
     let q : isInsert predicateRead || isDelete predicateRead ≡ true = rw a at c in let z : _≡_ {A = ℕ} 0 1 = cc in absurd (omega arith)
 does-filled (does-read a h t m) c =
     let q : isInsert read || isDelete read ≡ true = rw a at c in let z : _≡_ {A = ℕ} 0 1 = cc in absurd (omega arith)
+does-filled (does-lock a h t m) c =
+    let q : isInsert lock || isDelete lock ≡ true = rw a at c in let z : _≡_ {A = ℕ} 0 1 = cc in absurd (omega arith)
 does-filled (does-write a h t m) c =
     let q : isInsert write || isDelete write ≡ true = rw a at c in let z : _≡_ {A = ℕ} 0 1 = cc in absurd (omega arith)
 

@@ -1,5 +1,5 @@
 -- The operations of one transaction: which statement each belongs to and what it does, in which order they stand.
-use mathlib.Core.Bool.{Bool, true, false, cond, _&&_}
+use mathlib.Core.Bool.{Bool, true, false, cond, not, _&&_}
 use mathlib.Core.List.{List, [], _∷_, _++_, map, flatMap, append-nil, List·Memᴰ, List·Memᴰ·head, List·Memᴰ·tail}
 use mathlib.Core.Logic.{_⊎_, inl, inr}
 use mathlib.Core.Option.{Option, some}
@@ -14,13 +14,13 @@ use Rattle.law_base.specs.BoolLaws.{true-false}
 use Rattle.law_base.specs.ListLaws.{any-true, all-true, getElem?-lt, getElem?-append-left, some-injective, getElem?-middle}
 use Rattle.law_base.specs.ListLaws.{getElem?-member, member-getElem?, getElem?-of-map, getElem?-map-some}
 use Rattle.spec_text.specs.declared.StatementKind.{StatementKind}
-use Rattle.spec_text.specs.declared.StatementKind.the-variants.{Is, Ks, Ps, Ku, Pu, Kd, Pd}
+use Rattle.spec_text.specs.declared.StatementKind.the-variants.{Is, Ks, Ps, Ku, Pu, Kd, Pd, Kl}
 use Rattle.spec_graph.specs.Program.{Statement}
 use Rattle.spec_graph.specs.Unfolding.{Occurrence, occurrences}
 use Rattle.spec_graph.specs.Edge.{W, R, T, hasTests, hasReads, hasWrites, inserts, deletes, shields}
 use Rattle.law_walk.specs.EveryKind.{every-kind, kind-implies, kinds-apart}
-use Rattle.spec_schedule.specs.Event.{Action, isWrite}
-use Rattle.spec_schedule.specs.Event.Action.{read, write, insert, delete, predicateRead, commit}
+use Rattle.spec_schedule.specs.Event.{Action, isClaim}
+use Rattle.spec_schedule.specs.Event.Action.{read, lock, write, insert, delete, predicateRead, commit}
 use Rattle.spec_schedule.specs.Schedule.{Transaction, Performed, Operation, chosen, performedFrom, performed}
 use Rattle.spec_schedule.specs.Schedule.{everyAttribute, onTuple, operationsOf, operations}
 
@@ -28,13 +28,23 @@ use Rattle.spec_schedule.specs.Schedule.{everyAttribute, onTuple, operationsOf,
 abbrev pub updates : StatementKind → Bool
 updates k = hasReads k && hasWrites k
 
+-- Req 03: the statements that read their tuple with lock: of those that read and do not write, the ones that shield
+abbrev pub locks : StatementKind → Bool
+locks k = hasReads k && not (hasWrites k) && shields k
+
+-- the statements that read without lock
+abbrev pub readsPlainly : StatementKind → Bool
+readsPlainly k = hasReads k && not (locks k)
+
 abbrev pub statementDone : Performed → Statement
 statementDone p = p .occurrence .statement
 
 -- what an operation of a performed statement does
 pub data Does (p : Performed) (o : Operation) : Type 0 where
   does-test : o .action ≡ predicateRead → hasTests (statementDone p .kind) ≡ true → o .attributes ≡ T (statementDone p) → Does p o
-  does-read : o .action ≡ read → hasReads (statementDone p .kind) ≡ true → o .attributes ≡ R (statementDone p)
+  does-read : o .action ≡ read → readsPlainly (statementDone p .kind) ≡ true → o .attributes ≡ R (statementDone p)
+      → List·Memᴰ (o .tuple) (p .tuples) → Does p o
+  does-lock : o .action ≡ lock → locks (statementDone p .kind) ≡ true → o .attributes ≡ R (statementDone p)
       → List·Memᴰ (o .tuple) (p .tuples) → Does p o
   does-write : o .action ≡ write → updates (statementDone p .kind) ≡ true → o .attributes ≡ W (statementDone p)
       → List·Memᴰ (o .tuple) (p .tuples) → Does p o
@@ -52,7 +62,8 @@ pub record Belongs (p : Performed) (o : Operation) : Type 0 where
 -- what a statement of each kind does to a tuple, in this order
 actionsOf : StatementKind → List Action
 actionsOf k =
-    cond (hasReads k) (read ∷ []) []
+    cond (readsPlainly k) (read ∷ []) []
+    ++ cond (locks k) (lock ∷ []) []
     ++ cond (updates k) (write ∷ []) []
     ++ cond (inserts k) (insert ∷ []) []
     ++ cond (deletes k) (delete ∷ []) []
@@ -60,6 +71,7 @@ actionsOf k =
 -- the attributes that an action of a statement is of
 attributesOf : Statement → Action → ℕ
 attributesOf s read = R s
+attributesOf s lock = R s
 attributesOf s write = W s
 attributesOf s insert = everyAttribute
 attributesOf s delete = everyAttribute
@@ -98,10 +110,12 @@ onTuple-actions p t = go (statementDone p .kind)
     go Pu = refl
     go Kd = refl
     go Pd = refl
+    go Kl = refl
 
 -- the kinds that have an action
 doneBy : Action → StatementKind → Bool
-doneBy read k = hasReads k
+doneBy read k = readsPlainly k
+doneBy lock k = locks k
 doneBy write k = updates k
 doneBy insert k = inserts k
 doneBy delete k = deletes k
@@ -117,6 +131,7 @@ module _ (p : Performed) (t : ℕ) (mem : List·Memᴰ t (p .tuples)) where
   operation-does : (a : Action) → doneBy a (statementDone p .kind) ≡ true → Does p (operationOf p t a)
   unfolding doneBy attributesOf operationOf
   operation-does read h = does-read refl h refl mem
+  operation-does lock h = does-lock refl h refl mem
   operation-does write h = does-write refl h refl mem
   operation-does insert h = does-insert refl h refl mem
   operation-does delete h = does-delete refl h refl mem
@@ -198,7 +213,14 @@ pub record Followed (o following : Operation) : Type 0 where
 update-actions : (k : StatementKind) → updates k ≡ true → actionsOf k ≡ read ∷ write ∷ []
 unfolding actionsOf
 update-actions k u =
-    rw (u, kind-implies updates hasReads refl k u, kinds-apart updates inserts refl k u, kinds-apart updates deletes refl k u) refl
+    rw (
+      u,
+      kind-implies updates readsPlainly refl k u,
+      kinds-apart updates locks refl k u,
+      kinds-apart updates inserts refl k u,
+      kinds-apart updates deletes refl k u,
+    )
+    refl
 
 -- in what an update does to a tuple the write stands after the read
 update-on-tuple : (p : Performed) (t : ℕ) (k : ℕ) {o : Operation} → updates (statementDone p .kind) ≡ true → getElem? (onTuple p t) k ≡ some o
@@ -376,30 +398,30 @@ single p t h e =
     ∙ ap (λ (l : List ℕ). flatMap (onTuple p) l) e
     ∙ append-nil (onTuple p t)
 
--- a statement of a kind that shields writes its tuple
+-- a statement of a kind that shields writes or locks its tuple
 module _ (p : Performed) (t : ℕ) (tuples : p .tuples ≡ t ∷ []) where
-  Writes : Type 0
-  Writes = (k : ℕ) × (o : Operation) × (getElem? (operationsOf p) k ≡ some o) × (isWrite (o .action) ≡ true) × List·Memᴰ (o .tuple) (p .tuples)
+  Claims : Type 0
+  Claims = (k : ℕ) × (o : Operation) × (getElem? (operationsOf p) k ≡ some o) × (isClaim (o .action) ≡ true) × List·Memᴰ (o .tuple) (p .tuples)
 
   -- the operation at this position of what the statement does to its tuple
-  writing : (k : ℕ) (o : Operation) → hasTests (statementDone p .kind) ≡ false → getElem? (onTuple p t) k ≡ some o
-      → isWrite (o .action) ≡ true → o .tuple ≡ t → Writes
-  unfolding Writes
-  writing k o h e w q = (
+  claiming : (k : ℕ) (o : Operation) → hasTests (statementDone p .kind) ≡ false → getElem? (onTuple p t) k ≡ some o
+      → isClaim (o .action) ≡ true → o .tuple ≡ t → Claims
+  unfolding Claims
+  claiming k o h e c q = (
     k,
     o,
     subst (λ (l : List Operation). getElem? l k ≡ some o) (sym (single p t h tuples)) e,
-    w,
+    c,
     subst (λ (l : List ℕ). List·Memᴰ (o .tuple) l) (sym tuples) (List·Memᴰ·head q),
   )
 
-  shielding : shields (statementDone p .kind) ≡ true → Writes
+  shielding : shields (statementDone p .kind) ≡ true → Claims
   unfolding actionsOf operationOf
   shielding h =
       let k = statementDone p .kind in
-      let a = any-true isWrite (actionsOf k) (kind-implies shields (λ k. any isWrite (actionsOf k)) refl k h) in
+      let a = any-true isClaim (actionsOf k) (kind-implies shields (λ k. any isClaim (actionsOf k)) refl k h) in
       let i = member-getElem? (a .1) in
-      writing (i .0) (operationOf p t (a .0)) (kinds-apart shields hasTests refl k h)
+      claiming (i .0) (operationOf p t (a .0)) (kinds-apart shields hasTests refl k h)
       (ap (λ (l : List Operation). getElem? l (i .0)) (onTuple-actions p t) ∙ getElem?-map-some (operationOf p t) (actionsOf k) (i .0) (i .1))
       (a .2) refl
 
@@ -412,12 +434,13 @@ one-tuple Ku a l = refl
 one-tuple Pu a l = refl
 one-tuple Kd a l = refl
 one-tuple Pd a l = refl
+one-tuple Kl a l = refl
 
-pub shield-writes : (x : Transaction) (j : ℕ) {p : Performed} → getElem? (performed x) j ≡ some p → shields (statementDone p .kind) ≡ true
-    → (k : ℕ) × (o : Operation) × (getElem? (operations x) k ≡ some o) × (o .place ≡ j) × (isWrite (o .action) ≡ true)
+pub shield-claims : (x : Transaction) (j : ℕ) {p : Performed} → getElem? (performed x) j ≡ some p → shields (statementDone p .kind) ≡ true
+    → (k : ℕ) × (o : Operation) × (getElem? (operations x) k ≡ some o) × (o .place ≡ j) × (isClaim (o .action) ≡ true)
     × (o .relation ≡ statementDone p .relation) × List·Memᴰ (o .tuple) (p .tuples)
-unfolding operations Writes
-shield-writes x j {p} e sh =
+unfolding operations Claims
+shield-claims x j {p} e sh =
     let t = x .tuple (p .place) in
     let tuples : p .tuples ≡ t ∷ [] =
     performed-tuples x j e ∙ one-tuple (statementDone p .kind) t (x .tuples (p .place))

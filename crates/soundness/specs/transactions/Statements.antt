@@ -12,7 +12,7 @@ use Rattle.law_base.specs.BoolLaws.{true-false}
 use Rattle.law_base.specs.ListLaws.{getElem?-lt, getElem?-found, getElem?-same}
 use Rattle.spec_text.specs.declared.Line.{Line}
 use Rattle.spec_graph.specs.Edge.{shields}
-use Rattle.spec_schedule.specs.Event.{Event, isWrite, isCommit}
+use Rattle.spec_schedule.specs.Event.{Event, isClaim, isCommit}
 use Rattle.spec_schedule.specs.Event.Action.{read, commit}
 use Rattle.spec_schedule.specs.Schedule.{Transaction, Performed, Operation, Schedule, operations, performed}
 use Rattle.soundness.specs.dependency.Positions.{number-grows}
@@ -25,7 +25,7 @@ use Rattle.soundness.specs.transactions.Operations.{
   statementDone,
   operation-cases,
   places-rise,
-  shield-writes,
+  shield-claims,
 }
 use Rattle.soundness.specs.transactions.Events.{Operates, eventAt, own-operates, operation-event, schedule-numbered, schedule-lawful}
 
@@ -119,12 +119,12 @@ module _ {lines : List Line} (s : Schedule lines) where
               let z : suc (e .number) ≡ e .number = ap (λ (e : Event). e .number) same in
               absurd (omega arith)
 
-  -- a statement of a kind that shields has an event that writes its tuple
+  -- a statement of a kind that shields has an event that writes or locks its tuple
   pub shield-event : (i : ℕ) {x : Transaction} → getElem? (s .transactions) i ≡ some x → (j : ℕ) {p : Performed} → getElem? (performed x) j ≡ some p
       → shields (statementDone p .kind) ≡ true
-      → (n : ℕ) × (e : Event) × (getElem? (s .events) n ≡ some e) × (e .transaction ≡ i) × (e .place ≡ j) × (isWrite (e .action) ≡ true)
+      → (n : ℕ) × (e : Event) × (getElem? (s .events) n ≡ some e) × (e .transaction ≡ i) × (e .place ≡ j) × (isClaim (e .action) ≡ true)
       × (e .relation ≡ statementDone p .relation) × List·Memᴰ (e .tuple) (p .tuples)
   shield-event i {x} t j h sh =
-      let w = shield-writes x j h sh in
+      let w = shield-claims x j h sh in
       let e = operation-event s i t (w .0) (w .2) in
       (e .0, eventAt i (w .0) (w .1), e .1, refl, w .3, w .4, w .5, w .6)
