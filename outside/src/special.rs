@@ -29,12 +29,12 @@ pub fn linked(random: &mut Random) -> Vec<Line> {
 }
 
 fn linked_parent(random: &mut Random, id: usize) -> Line {
-    let kind = *random.pick(&[KU, KU, KU, KU, IS, KD, KS]);
+    let kind = pick_kind(random, &[KU, KU, KU, KU, IS, KD, KS]);
     statement(kind, id, 0, random.between(1, 3) as u64, if matches!(kind, IS | KD) { 3 } else { random.between(1, 3) as u64 }, 0)
 }
 
 fn linked_child(random: &mut Random, id: usize) -> Line {
-    let kind = *random.pick(&[KS, KS, KS, KU, KU, PS, IS, KD]);
+    let kind = pick_kind(random, &[KS, KS, KS, KU, KU, PS, IS, KD]);
     let writes = if matches!(kind, IS | KD) { 3 } else { random.between(1, 3) as u64 };
     statement(kind, id, 1, random.between(1, 3) as u64, writes, random.below(4) as u64)
 }
@@ -231,7 +231,7 @@ pub fn many_unfoldings(random: &mut Random) -> Vec<Line> {
 
 fn add_updates(random: &mut Random, lines: &mut Vec<Line>, first: usize, count: usize) -> usize {
     for id in first..first + count {
-        let kind = *random.pick(&[KU, KU, KU, KS, PS]);
+        let kind = pick_kind(random, &[KU, KU, KU, KS, PS]);
         lines.push(statement(kind, id, 0, random.between(1, 3) as u64, random.between(1, 3) as u64, 1));
     }
     first + count
