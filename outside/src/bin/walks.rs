@@ -1,5 +1,5 @@
-//! `walks SEED COUNT [TEXT...] [--locks]`: the first walk, found fast, against the same found by the definition alone: on COUNT random graphs and COUNT
-//! random workloads, each also on random parts of its nodes, and on parts of its programs read as a text of their own. All lists
+//! `walks SEED COUNT [TEXT...] [--locks]`: the first walk, found fast, against the same found by the definition alone: on COUNT random graphs and
+//! COUNT random workloads, each also on random parts of its nodes, and on parts of its programs read as a text of their own. All lists
 //! of steps are tried where they are not too many; longer walks are found by what can still be closed; where both are tried, all
 //! must agree. The same on the texts, of any size. How many walks were of which kind is printed, so that a comparison which meets
 //! none is noticed.
