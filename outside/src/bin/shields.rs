@@ -1,6 +1,6 @@
 //! `shields SEED COUNT [TEXT...] [--locks]`: what document 02, Req 02, changed: reports and edges by the shield and by document 01's, on COUNT
-//! texts as `compare` draws them, on COUNT small ones with late parents, and on the texts. Back edges may only vanish, every other record must stay, and
-//! no robust verdict may turn into danger. How many reports changed is printed; of the texts, which.
+//! texts as `compare` draws them, on COUNT small ones with late parents, and on the texts. Back edges may only vanish, every other record must stay,
+//! and no robust verdict may turn into danger. How many reports changed is printed; of the texts, which.
 
 use outside::arguments::words_and_locks;
 use outside::edges::*;
