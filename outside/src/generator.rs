@@ -217,7 +217,7 @@ impl Draft<'_> {
         let kind = match self.style {
             Style::Wild => pick_kind(self.random, &[IS, KS, KS, PS, KU, KU, KU, PU, KD, PD]),
             Style::Calm => pick_kind(self.random, &[KU, KU, KU, KU, KU, KU, KU, IS, KD]),
-            Style::Linked if body.statements.is_empty() => if self.random.locks() { pick_kind(self.random, &[KU]) } else { KU },
+            Style::Linked if body.statements.is_empty() => kind_or_lock(self.random, KU),
             Style::Linked => pick_kind(self.random, &[KU, KU, KU, KU, KS, KS, KS, IS, KD, PS]),
         };
         let rel = self.draw_relation(body);

@@ -67,3 +67,8 @@ pub fn pick_kind(random: &mut Random, kinds: &[u8]) -> u8 {
     };
     if random.chance(part, 4) { KL } else { kind }
 }
+
+/// This kind, or where locks are drawn perhaps kl.
+pub fn kind_or_lock(random: &mut Random, kind: u8) -> u8 {
+    if random.locks() { pick_kind(random, &[kind]) } else { kind }
+}

@@ -133,9 +133,9 @@ fn try_loosened(random: &mut Random, count: usize) {
 
 // ---- the ban's parts
 
-/// The next drawn text that is robust, and dangerous with ks for its kl.
+/// The next drawn text that is robust, and dangerous with ks for its kl; about one in five is.
 fn draw_by_locks(random: &mut Random) -> Vec<u8> {
-    loop {
+    for _ in 0..100_000 {
         let lines = match random.below(3) {
             0 => valid(random, Size::Tiny),
             1 => linked(random),
@@ -146,6 +146,8 @@ fn draw_by_locks(random: &mut Random) -> Vec<u8> {
             return text;
         }
     }
+    println!("NO WORKLOAD is robust and dangerous with ks for its kl");
+    std::process::exit(1);
 }
 
 fn try_weakened(random: &mut Random, count: usize) {
