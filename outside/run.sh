@@ -1,8 +1,9 @@
 #!/bin/sh
-# run.sh PROGRAM [SEED [INSPECT]]: everything but the timings, some two minutes (with RATTLE_LIB also the exports, by `records`): builds, checks this
+# run.sh PROGRAM [SEED [INSPECT]]: everything but the timings, some four minutes (with RATTLE_LIB also the exports, by `records`): builds, checks this
 # implementation against itself, its shield against document 01's and its first walks against the definition, then the program on all examples and
-# vectors and on 20,000 generated texts, every report, edge record and unfolding of 2,000 of them by the program inspect (beside PROGRAM unless named),
-# then brute force against demand 3; texts that arrive in pieces and inputs and outputs that fail; and the script judge, with a stand-in for rt.
+# vectors and on 40,000 generated texts, every report, edge record and unfolding of 4,000 of them by the program inspect (beside PROGRAM unless
+# named), then brute force against demand 3; texts that arrive in pieces and inputs and outputs that fail; and the script judge, with a stand-in
+# for rt. Half of the texts and workloads are drawn without kl, as before document 02, Req 03, the other half with it.
 here="$(CDPATH= cd -- "$(dirname -- "$0")" && pwd)"
 program="${1:?usage: run.sh PROGRAM [SEED [INSPECT]]}"
 seed="${2:-1}"
@@ -12,23 +13,26 @@ edges="$here/listing.sh $inspect edges"
 reports="$here/listing.sh $inspect report"
 "$here/build.sh" || exit 1
 failed=0
-"$here/target/selfcheck" "$seed" 5000 "$here/../examples/tpcc.txt" || failed=1
-"$here/target/shields" "$seed" 3000 || failed=1
-"$here/target/walks" "$seed" 1000 "$here"/../examples/*.txt "$here"/../vectors/verdict/*.txt || failed=1
 "$here/check.sh" "$program" "$unfoldings" "$edges" || failed=1
-"$here/target/compare" "$program" "$seed" 20000 || failed=1
-"$here/target/compare" "$reports" "$seed" 2000 || failed=1
-"$here/target/compare" "$edges" "$seed" 2000 edges || failed=1
-"$here/target/compare" "$unfoldings" "$seed" 2000 unfoldings || failed=1
-"$here/target/brute" "$seed" 3000 || failed=1
-"$here/target/brute" "$seed" 2000 --late || failed=1
-"$here/target/brute" "$seed" 1000 --loosened || failed=1
+for locks in "" --locks; do
+    "$here/target/selfcheck" "$seed" 5000 "$here/../examples/tpcc.txt" $locks || failed=1
+    "$here/target/shields" "$seed" 3000 $locks || failed=1
+    "$here/target/walks" "$seed" 1000 "$here"/../examples/*.txt "$here"/../vectors/verdict/*.txt $locks || failed=1
+    "$here/target/compare" "$program" "$seed" 20000 $locks || failed=1
+    "$here/target/compare" "$reports" "$seed" 2000 $locks || failed=1
+    "$here/target/compare" "$edges" "$seed" 2000 edges $locks || failed=1
+    "$here/target/compare" "$unfoldings" "$seed" 2000 unfoldings $locks || failed=1
+    "$here/target/brute" "$seed" 3000 $locks || failed=1
+    "$here/target/brute" "$seed" 2000 --late $locks || failed=1
+    "$here/target/brute" "$seed" 1000 --loosened $locks || failed=1
+    [ -z "${RATTLE_LIB:-}" ] || "$here/target/records" "$seed" 300 $locks || failed=1
+done
+"$here/target/brute" "$seed" 500 --weakened || failed=1
 texts="$here/../examples"
 data="$here/../crates/inspect/data"
 "$here/target/pieces" "$program" "$texts/contact.txt" "$texts/contact-robust.txt" "$texts/tpcc.txt" "$texts/station-empty.txt" \
     "$texts/station-predicate-twice.txt" "$texts/station-17-programs.txt" \
     "$data/read-bytes-32768.txt" "$data/read-bytes-32769.txt" "$data/read-bytes-70000.txt" || failed=1
 "$here/judge-test.sh" || failed=1
-[ -z "${RATTLE_LIB:-}" ] || "$here/target/records" "$seed" 300 || failed=1
 [ $failed = 0 ] && echo "all passed" || echo "SOMETHING FAILED, see above"
 exit $failed

@@ -29,17 +29,26 @@ pub fn damaged_lines(random: &mut Random, size: Size) -> Vec<u8> {
         5 | 6 => change_set(random, &mut lines),
         7 | 8 => change_link(random, &mut lines),
         9 => {
-            let kind = random.below(15) as u8;
-            lines[at].kind = kind;
+            lines[at].kind = any_kind(random);
         }
         10 => {
             let kinds = [RL, FK, PR, LI, KS, KU];
-            let line = Line { rel: 0, to: 0, reads: 1, writes: 1, ..plain(*random.pick(&kinds), random.below(3)) };
+            let line = Line { rel: 0, to: 0, reads: 1, writes: 1, ..plain(pick_kind(random, &kinds), random.below(3)) };
             lines.insert(at, line);
         }
         _ => drop_block_line(random, &mut lines),
     }
     text_of(&lines)
+}
+
+/// Any kind of line; kl only where locks are drawn.
+fn any_kind(random: &mut Random) -> u8 {
+    let kind = random.below(15 + random.locks() as usize) as u8;
+    match kind {
+        15 => KL,
+        kind if kind >= KL => kind + 1,
+        kind => kind,
+    }
 }
 
 fn change_number(random: &mut Random, lines: &mut [Line]) {
@@ -53,7 +62,10 @@ fn change_number(random: &mut Random, lines: &mut [Line]) {
 }
 
 fn change_set(random: &mut Random, lines: &mut [Line]) {
-    let with_sets: Vec<usize> = (0..lines.len()).filter(|&at| is_statement(lines[at].kind) || lines[at].kind == RL).collect();
+    let mut with_sets: Vec<usize> = (0..lines.len()).filter(|&at| is_statement(lines[at].kind) || lines[at].kind == RL).collect();
+    if random.locks() && random.chance(1, 2) && with_sets.iter().any(|&at| lines[at].kind == KL) {
+        with_sets.retain(|&at| lines[at].kind == KL);
+    }
     let at = *random.pick(&with_sets);
     let value = match random.below(4) {
         0 => 0,
@@ -147,9 +159,11 @@ fn change_field(random: &mut Random, text: &mut Vec<u8>) {
     }
     let start = *random.pick(&starts);
     let end = (start..text.len()).find(|&at| matches!(text[at], b' ' | b'\n')).unwrap_or(text.len());
-    let tokens: [&[u8]; 22] = [
+    let tokens: [&[u8]; 23] = [
         b"-", b"0", b"1", b"2", b"3", b"00", b"01", b"256", b"255", b"1000", b"-1", b"", b"f", b"g", b"ffffffffffffffff",
         b"10000000000000000", b"8000000000000000", b"a b", b"- -", b"en", b"li", b"7",
+        b"kl", // only where locks are drawn
     ];
-    text.splice(start..end, random.pick(&tokens).iter().copied());
+    let count = tokens.len() - !random.locks() as usize;
+    text.splice(start..end, random.pick(&tokens[..count]).iter().copied());
 }

@@ -1,5 +1,5 @@
-//! The edges of the summary graph (document 01, "Edges"; the shield as document 02, Req 02, changes it): the letters A to E literally, and
-//! the list of records in order.
+//! The edges of the summary graph (document 01, "Edges"; the shield as document 02, Req 02, changes it, kl as Req 03 says): the letters A to E
+//! literally, and the list of records in order.
 
 use crate::unfolding::*;
 use crate::workload::*;
@@ -12,7 +12,7 @@ pub struct Spot {
     pub reads: u64,
     pub writes: u64,
     pub tests: u64,
-    /// Bit f: the place is linked by key f to a parent of kind is, ku or kd that stands before it.
+    /// Bit f: the place is linked by key f to a parent of kind is, ku, kd or kl that stands before it.
     pub near: u32,
     /// The same with the parent anywhere in the node, the place itself included.
     pub far: u32,
@@ -169,7 +169,7 @@ impl Links {
     }
 }
 
-/// The keys by which the place is linked to a writing parent, within the turn of each loop around the parent: to one before it, and to one
+/// The keys by which the place is linked to a writing or locking parent, within the turn of each loop around the parent: to one before it, and to one
 /// anywhere in the node.
 fn keys_to_parents(workload: &Workload, links: &Links, program: usize, places: &[Place], at: usize) -> (u32, u32) {
     let own = &places[at];
@@ -180,7 +180,7 @@ fn keys_to_parents(workload: &Workload, links: &Links, program: usize, places: &
             let bound = |place: &Place| {
                 let parent = &workload.lines[place.line as usize];
                 let mask = ((1u16 << place.loops) - 1) as u8;
-                parent.id == link.to && matches!(parent.kind, IS | KU | KD) && own.turns & mask == place.turns
+                parent.id == link.to && matches!(parent.kind, IS | KU | KD | KL) && own.turns & mask == place.turns
             };
             let before = places[..at].iter().any(bound);
             near |= (before as u32) << link.id;

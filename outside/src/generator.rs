@@ -1,5 +1,6 @@
 //! Texts from a seed: valid ones here, small to largest, in three styles; those of `special`, `late` and `damage` beside them.
-//! What a text should give is not said here: the reader and the verdict say it.
+//! What a text should give is not said here: the reader and the verdict say it. A `Random` with locks draws kl too; one without gives the
+//! texts that it gave before there was a kl, byte by byte.
 
 use crate::damage::*;
 use crate::late::late_parents;
@@ -25,10 +26,15 @@ pub enum Size {
 enum Style {
     /// Any kinds: mostly danger.
     Wild,
-    /// Mostly key updates, inserts and key deletes, and programs of one predicate select: often robust.
+    /// Mostly key updates (and locks), inserts and key deletes, and programs of one predicate select: often robust.
     Calm,
-    /// Writes of parents first, then their children: links matter.
+    /// Writes (and locks) of parents first, then their children: links matter.
     Linked,
+}
+
+/// Number `number` of the texts that `compare` draws. Each has a seed of its own, so that it can be made again without those before it.
+pub fn text_number(seed: u64, number: u64, locks: bool) -> Vec<u8> {
+    any_text(&mut Random::numbered(seed, number).with_locks(locks))
 }
 
 /// One text for `compare`: about six of ten valid, the rest at a bound or damaged.
@@ -208,11 +214,11 @@ impl Draft<'_> {
         if body.statements.len() == MAX_STATEMENTS {
             return;
         }
-        let kind = *match self.style {
-            Style::Wild => self.random.pick(&[IS, KS, KS, PS, KU, KU, KU, PU, KD, PD]),
-            Style::Calm => self.random.pick(&[KU, KU, KU, KU, KU, KU, KU, IS, KD]),
-            Style::Linked if body.statements.is_empty() => &KU,
-            Style::Linked => self.random.pick(&[KU, KU, KU, KU, KS, KS, KS, IS, KD, PS]),
+        let kind = match self.style {
+            Style::Wild => pick_kind(self.random, &[IS, KS, KS, PS, KU, KU, KU, PU, KD, PD]),
+            Style::Calm => pick_kind(self.random, &[KU, KU, KU, KU, KU, KU, KU, IS, KD]),
+            Style::Linked if body.statements.is_empty() => kind_or_lock(self.random, KU),
+            Style::Linked => pick_kind(self.random, &[KU, KU, KU, KU, KS, KS, KS, IS, KD, PS]),
         };
         let rel = self.draw_relation(body);
         self.push_statement(body, kind, rel);
@@ -231,7 +237,7 @@ impl Draft<'_> {
 
     fn push_statement(&mut self, body: &mut Body, kind: u8, rel: usize) {
         let whole = self.sets[rel];
-        let reads = if kind == KS { self.part_not_empty(whole) } else { self.part(whole) };
+        let reads = if matches!(kind, KS | KL) { self.part_not_empty(whole) } else { self.part(whole) };
         let writes = if matches!(kind, IS | KD | PD) { whole } else { self.part_not_empty(whole) };
         let tests = self.part(whole);
         body.lines.push(statement(kind, body.statements.len(), rel, reads, writes, tests));
@@ -297,6 +303,6 @@ fn in_a_row(a: (u64, u64), b: (u64, u64)) -> (u64, u64) {
 
 fn fits(body: &Body, key: (usize, usize), child: usize, parent: usize) -> bool {
     let (child, parent) = (&body.statements[child], &body.statements[parent]);
-    let kind = matches!(parent.0, IS | KS | KU | KD);
+    let kind = matches!(parent.0, IS | KS | KU | KD | KL);
     kind && child.1 == key.0 && parent.1 == key.1 && parent.2.iter().all(|block| child.2.contains(block))
 }

@@ -94,15 +94,15 @@ impl Program {
     }
 
     fn parent(&mut self, random: &mut Random, lines: &mut Vec<Line>) -> usize {
-        let kind = *random.pick(&[KU, KU, KU, KU, KU, KU, IS, KD, KS]);
+        let kind = pick_kind(random, &[KU, KU, KU, KU, KU, KU, IS, KD, KS]);
         let (rel, whole) = if self.own { (CHILDREN, 7) } else { (PARENTS, 3) };
         let writes = if matches!(kind, IS | KD) { whole } else { 1 };
-        self.add(lines, statement(kind, 0, rel, random.below(2) as u64 | (kind == KS) as u64, writes, 0))
+        self.add(lines, statement(kind, 0, rel, random.below(2) as u64 | matches!(kind, KS | KL) as u64, writes, 0))
     }
 
     /// With the parent first mostly a select, with the parent last mostly a write.
     fn child(&mut self, random: &mut Random, lines: &mut Vec<Line>, last: bool) -> usize {
-        let kind = *if last { random.pick(&[KU, KU, KU, KU, KD, IS, KS]) } else { random.pick(&[KS, KS, KS, KS, PS, KU]) };
+        let kind = pick_kind(random, if last { &[KU, KU, KU, KU, KD, IS, KS] } else { &[KS, KS, KS, KS, PS, KU] });
         let writes = if matches!(kind, IS | KD) { 7 } else { random.between(1, 7) as u64 };
         let reads = if kind == KU { random.below(4) } else { random.between(1, 7) };
         self.add(lines, statement(kind, 0, CHILDREN, reads as u64, writes, if random.chance(1, 3) { 4 } else { 0 }))

@@ -3,6 +3,7 @@
 //! and a generator of texts. The programs under `bin/` are thin.
 
 pub mod areas;
+pub mod arguments;
 pub mod damage;
 pub mod edges;
 pub mod feeding;

@@ -1,5 +1,6 @@
-//! Lines made by hand, and lines written out as a text.
+//! Lines made by hand, and lines written out as a text; kinds drawn with or without kl.
 
+use crate::random::Random;
 use crate::reader::NAMES_LINE;
 use crate::workload::*;
 
@@ -54,4 +55,20 @@ pub fn statement(kind: u8, id: usize, rel: usize, reads: u64, writes: u64, tests
         tests: keep(has.tests, tests),
         ..plain(kind, id)
     }
+}
+
+/// One of these kinds; where locks are drawn, half of the key selects and a quarter of the key updates become kl.
+pub fn pick_kind(random: &mut Random, kinds: &[u8]) -> u8 {
+    let kind = *random.pick(kinds);
+    let part = match kind {
+        KS if random.locks() => 2,
+        KU if random.locks() => 1,
+        _ => return kind,
+    };
+    if random.chance(part, 4) { KL } else { kind }
+}
+
+/// This kind, or where locks are drawn perhaps kl.
+pub fn kind_or_lock(random: &mut Random, kind: u8) -> u8 {
+    if random.locks() { pick_kind(random, &[kind]) } else { kind }
 }

@@ -4,6 +4,7 @@ use crate::reader::read;
 use crate::report::*;
 use crate::verdict::*;
 use crate::walk::fault_of_walk;
+use crate::workload::*;
 use std::io::{Read, Write};
 use std::process::{Command, Stdio};
 
@@ -123,10 +124,19 @@ pub fn reading(text: &[u8]) -> String {
     }
 }
 
-/// A sum with a line's seven values more, in order; kinds count from 1 in the order is ks ps ku pu kd pd rl fk pr lo br el en li.
-fn sum_of(before: u64, line: &crate::workload::Line) -> u64 {
+/// A sum with a line's seven values more, in order. Kinds count from 1 in the order is ks ps ku pu kd pd rl fk pr lo br el en li kl: kl, which
+/// came later (document 02, Req 03), has the last number here, so that the sums of older texts stay.
+fn sum_of(before: u64, line: &Line) -> u64 {
     const PRIME: u64 = 4_294_967_291;
-    let small = [line.kind as u64 + 1, line.id as u64, line.rel as u64, line.to as u64];
+    let small = [summed_kind(line.kind), line.id as u64, line.rel as u64, line.to as u64];
     let sets = [line.reads, line.writes, line.tests];
     small.iter().chain(&sets).fold(before, |sum, value| (sum * 31 + value % PRIME) % PRIME)
+}
+
+fn summed_kind(kind: u8) -> u64 {
+    match kind {
+        KL => 16,
+        kind if is_statement(kind) => kind as u64 + 1,
+        kind => kind as u64,
+    }
 }

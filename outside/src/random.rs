@@ -1,15 +1,32 @@
 //! Random numbers from a seed (splitmix64), the same on every machine.
 
-pub struct Random(u64);
+pub struct Random {
+    state: u64,
+    locks: bool,
+}
 
 impl Random {
     pub fn new(seed: u64) -> Random {
-        Random(seed.wrapping_mul(0x9e37_79b9_7f4a_7c15) ^ 0x5851_f42d_4c95_7f2d)
+        Random { state: seed.wrapping_mul(0x9e37_79b9_7f4a_7c15) ^ 0x5851_f42d_4c95_7f2d, locks: false }
+    }
+
+    /// Each number of a seed has numbers of its own.
+    pub fn numbered(seed: u64, number: u64) -> Random {
+        Random::new(seed.wrapping_mul(1_000_003).wrapping_add(number))
+    }
+
+    /// For texts: whether kl is drawn too. Without it the texts of a seed are those that they were before document 02, Req 03.
+    pub fn with_locks(self, locks: bool) -> Random {
+        Random { locks, ..self }
+    }
+
+    pub fn locks(&self) -> bool {
+        self.locks
     }
 
     pub fn word(&mut self) -> u64 {
-        self.0 = self.0.wrapping_add(0x9e37_79b9_7f4a_7c15);
-        let mut z = self.0;
+        self.state = self.state.wrapping_add(0x9e37_79b9_7f4a_7c15);
+        let mut z = self.state;
         z = (z ^ z >> 30).wrapping_mul(0xbf58_476d_1ce4_e5b9);
         z = (z ^ z >> 27).wrapping_mul(0x94d0_49bb_1331_11eb);
         z ^ z >> 31

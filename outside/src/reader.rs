@@ -1,5 +1,5 @@
 //! The reader: any bytes to a workload, or a refusal's number and line (document 01, "The workload text"
-//! and "Refused because of the input").
+//! and "Refused because of the input"; the kind kl, by document 02, Req 03, as ks).
 
 use crate::workload::*;
 
@@ -200,6 +200,7 @@ fn kind_of(letters: &[u8]) -> Option<u8> {
         b"pu" => PU,
         b"kd" => KD,
         b"pd" => PD,
+        b"kl" => KL,
         b"rl" => RL,
         b"fk" => FK,
         b"pr" => PR,
@@ -311,7 +312,7 @@ fn wrong_set(state: &State, line: &Line) -> bool {
         return true;
     }
     match line.kind {
-        KS => line.reads == 0,
+        KS | KL => line.reads == 0,
         KU | PU => line.writes == 0,
         IS | KD | PD => line.writes != whole,
         _ => false,
@@ -329,7 +330,7 @@ fn wrong_link(state: &State, line: &Line) -> bool {
     let key = line.id as usize;
     child.rel != state.child[key]
         || parent.rel != state.parent[key]
-        || !matches!(parent.kind, IS | KS | KU | KD)
+        || !matches!(parent.kind, IS | KS | KU | KD | KL)
         || parent.around & !child.around != 0
 }
 

@@ -1,5 +1,6 @@
 //! Random schedules of a workload that obey document 01's "Schedules": executions with any number of turns, foreign
-//! keys as fixed functions, statements that stand together, multiversion Read Committed.
+//! keys as fixed functions, statements that stand together, multiversion Read Committed; with locks, as document 02, Req 03, has them: a kl
+//! is one read with lock of one tuple.
 //!
 //! A schedule is made statement by statement: a transaction is drawn, its next statement takes tuples that every rule
 //! allows at that time, or waits. Where all wait, the schedule is given up.
@@ -28,10 +29,35 @@ pub struct Written {
 /// tuple of the relation the existence and then the tested attributes.
 #[derive(Clone, Debug)]
 pub enum Operation {
-    Read { tuple: usize, reads: u64, took: Vec<Source> },
+    Read { tuple: usize, reads: u64, took: Vec<Source>, lock: bool },
     Predicate { rel: u8, tests: u64, took: Vec<Source> },
     Change { tuple: usize, sort: Sort, attributes: u64 },
     Commit,
+}
+
+/// The ban on writing or locking a tuple between another's write or lock of it and that one's commit; and, to see whether they are noticed,
+/// weaker ones, each of which lets something through.
+#[derive(Clone, Copy, PartialEq, Eq, Debug)]
+pub enum Ban {
+    Whole,
+    LetsLockBehindLock,
+    LetsLockBehindWrite,
+    LetsWriteBehindLock,
+    /// A kl is a ks.
+    LetsAllOfLocks,
+}
+
+impl Ban {
+    /// Whether the second waits for the commit of the transaction that did the first.
+    pub fn forbids(self, first_locks: bool, then_locks: bool) -> bool {
+        let let_through = match (first_locks, then_locks) {
+            (false, false) => return true,
+            (true, true) => Ban::LetsLockBehindLock,
+            (false, true) => Ban::LetsLockBehindWrite,
+            (true, false) => Ban::LetsWriteBehindLock,
+        };
+        self != let_through && self != Ban::LetsAllOfLocks
+    }
 }
 
 /// What a schedule stands on: tuples with their relation and start, and the keys as functions on tuples.
@@ -49,6 +75,8 @@ pub struct Schedule {
     pub versions: Vec<Vec<Written>>,
     /// (transaction, operation) in the order of the schedule.
     pub order: Vec<(usize, usize)>,
+    /// Whether something had to wait for a lock, or a lock for something.
+    pub held_up: bool,
 }
 
 /// A statement met in an execution, with its turn in each loop around it, outermost first, and the tuples it took.
@@ -96,7 +124,7 @@ pub fn sources(writes: &[Written], attributes: u64, out: &mut Vec<Source>) {
 // ---- the making of a schedule
 
 /// A random schedule of `count` transactions, or nothing where the draw ended in a wait of all.
-pub fn draw(random: &mut Random, workload: &Workload, count: usize) -> Option<Schedule> {
+pub fn draw(random: &mut Random, workload: &Workload, count: usize, ban: Ban) -> Option<Schedule> {
     let lines = workload.taken();
     let starts: Vec<usize> = (0..lines.len()).filter(|&at| lines[at].kind == PR).collect();
     if starts.is_empty() {
@@ -108,14 +136,15 @@ pub fn draw(random: &mut Random, workload: &Workload, count: usize) -> Option<Sc
         let start = *random.pick(&starts);
         transactions.push(draw_transaction(random, lines, start));
     }
-    let versions = vec![Vec::new(); ground.rel.len()];
-    let mut making = Making { lines, ground, transactions, versions, order: Vec::new() };
+    let (versions, locked) = (vec![Vec::new(); ground.rel.len()], vec![Vec::new(); ground.rel.len()]);
+    let mut making = Making { lines, ban, ground, transactions, versions, locked, order: Vec::new(), held_up: false };
     making.interleave(random)?;
     Some(Schedule {
         ground: making.ground,
         transactions: making.transactions.into_iter().map(|transaction| transaction.operations).collect(),
         versions: making.versions,
         order: making.order,
+        held_up: making.held_up,
     })
 }
 
@@ -195,10 +224,14 @@ fn draw_loop(random: &mut Random, lines: &[Line], at: &mut usize, turns: &[usize
 
 struct Making<'a> {
     lines: &'a [Line],
+    ban: Ban,
     ground: Ground,
     transactions: Vec<Transaction>,
     versions: Vec<Vec<Written>>,
+    /// The transactions that locked each tuple.
+    locked: Vec<Vec<usize>>,
     order: Vec<(usize, usize)>,
+    held_up: bool,
 }
 
 impl Making<'_> {
@@ -232,7 +265,11 @@ impl Making<'_> {
             return true;
         }
         let line = self.lines[self.transactions[own].occurrences[next].line];
-        let mut candidates: Vec<usize> = (0..self.ground.rel.len()).filter(|&tuple| self.may_take(own, next, &line, tuple)).collect();
+        let may_take = |ban: Ban| -> Vec<usize> {
+            (0..self.ground.rel.len()).filter(|&tuple| self.may_take(own, next, &line, tuple, ban)).collect()
+        };
+        let mut candidates = may_take(self.ban);
+        self.held_up |= candidates != may_take(Ban::LetsAllOfLocks);
         if matches!(line.kind, PS | PU | PD) {
             candidates.retain(|_| random.chance(1, 2));
         } else if candidates.is_empty() {
@@ -253,10 +290,10 @@ impl Making<'_> {
             self.perform(own, Operation::Predicate { rel: line.rel, tests: line.tests, took });
         }
         for &tuple in tuples {
-            if matches!(line.kind, KS | PS | KU | PU) {
+            if matches!(line.kind, KS | PS | KU | PU | KL) {
                 let mut took = Vec::new();
                 sources(self.seen(own, tuple), line.reads, &mut took);
-                self.perform(own, Operation::Read { tuple, reads: line.reads, took });
+                self.perform(own, Operation::Read { tuple, reads: line.reads, took, lock: line.kind == KL });
             }
             match line.kind {
                 KU | PU => self.perform(own, Operation::Change { tuple, sort: Sort::Write, attributes: line.writes }),
@@ -269,8 +306,10 @@ impl Making<'_> {
 
     fn perform(&mut self, own: usize, operation: Operation) {
         let by = (own, self.transactions[own].operations.len());
-        if let Operation::Change { tuple, sort, attributes } = operation {
-            self.versions[tuple].push(Written { by, sort, attributes });
+        match operation {
+            Operation::Change { tuple, sort, attributes } => self.versions[tuple].push(Written { by, sort, attributes }),
+            Operation::Read { tuple, lock: true, .. } => self.locked[tuple].push(own),
+            _ => {}
         }
         self.transactions[own].operations.push(operation);
         self.order.push(by);
@@ -299,7 +338,7 @@ impl Making<'_> {
         took
     }
 
-    fn may_take(&self, own: usize, next: usize, line: &Line, tuple: usize) -> bool {
+    fn may_take(&self, own: usize, next: usize, line: &Line, tuple: usize, ban: Ban) -> bool {
         if self.ground.rel[tuple] != line.rel || !self.links_hold(own, next, tuple) {
             return false;
         }
@@ -307,12 +346,18 @@ impl Making<'_> {
         let writes = &self.versions[tuple];
         let reads_visible = visible(start, self.seen(own, tuple));
         let writes_visible = visible(start, writes);
-        let free = writes.iter().all(|write| write.by.0 == own || self.transactions[write.by.0].committed);
+        let done = |by: usize| by == own || self.transactions[by].committed;
+        let free = |locks: bool| {
+            (!ban.forbids(false, locks) || writes.iter().all(|write| done(write.by.0)))
+                && (!ban.forbids(true, locks) || self.locked[tuple].iter().all(|&by| done(by)))
+        };
         match line.kind {
             KS | PS => reads_visible,
-            KU | PU => reads_visible && writes_visible && free,
+            KL => reads_visible && free(true),
+            KU | PU => reads_visible && writes_visible && free(false),
+            // nobody can have locked it
             IS => !start && writes.is_empty(),
-            _ => writes_visible && free,
+            _ => writes_visible && free(false),
         }
     }
 

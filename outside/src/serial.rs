@@ -1,4 +1,4 @@
-//! Document 01's serial run, and the search for a serial order among all orders.
+//! Document 01's serial run, which takes a lock as a read, and the search for a serial order among all orders.
 
 use crate::schedule::*;
 
@@ -34,7 +34,7 @@ fn extend(schedule: &Schedule, lists: &[Vec<Written>], order: &mut Vec<usize>) -
 fn runs_alike(schedule: &Schedule, own: usize, lists: &mut [Vec<Written>]) -> bool {
     for (number, operation) in schedule.transactions[own].iter().enumerate() {
         let alike = match operation {
-            Operation::Read { tuple, reads, took } => {
+            Operation::Read { tuple, reads, took, .. } => {
                 let mut takes = Vec::new();
                 sources(&lists[*tuple], *reads, &mut takes);
                 takes == *took

@@ -29,12 +29,12 @@ pub fn linked(random: &mut Random) -> Vec<Line> {
 }
 
 fn linked_parent(random: &mut Random, id: usize) -> Line {
-    let kind = *random.pick(&[KU, KU, KU, KU, IS, KD, KS]);
+    let kind = pick_kind(random, &[KU, KU, KU, KU, IS, KD, KS]);
     statement(kind, id, 0, random.between(1, 3) as u64, if matches!(kind, IS | KD) { 3 } else { random.between(1, 3) as u64 }, 0)
 }
 
 fn linked_child(random: &mut Random, id: usize) -> Line {
-    let kind = *random.pick(&[KS, KS, KS, KU, KU, PS, IS, KD]);
+    let kind = pick_kind(random, &[KS, KS, KS, KU, KU, PS, IS, KD]);
     let writes = if matches!(kind, IS | KD) { 3 } else { random.between(1, 3) as u64 };
     statement(kind, id, 1, random.between(1, 3) as u64, writes, random.below(4) as u64)
 }
@@ -145,11 +145,11 @@ pub fn at_bound(random: &mut Random) -> Vec<Line> {
         2 => lines.extend((0..MAX_PROGRAMS + past).map(|id| plain(PR, id))),
         3 => {
             lines.push(plain(PR, 0));
-            lines.extend((0..MAX_STATEMENTS + past).map(|id| statement(KU, id, 0, 1, 2, 0)));
+            lines.extend((0..MAX_STATEMENTS + past).map(|id| statement(kind_or_lock(random, KU), id, 0, 1, 2, 0)));
         }
         4 => lines_at_bound(random, &mut lines, past),
         5 => {
-            lines.extend([plain(PR, 0), statement(KU, 0, 0, 1, 2, 0), statement(PS, 1, 1, 1, 0, 1)]);
+            lines.extend([plain(PR, 0), statement(kind_or_lock(random, KU), 0, 0, 1, 2, 0), statement(PS, 1, 1, 1, 0, 1)]);
             lines.extend((0..MAX_LINKS + past).map(|_| link(0, 1, 0)));
         }
         6 => {
@@ -179,7 +179,7 @@ fn lines_at_bound(random: &mut Random, lines: &mut Vec<Line>, past: usize) {
         lines.extend([plain(LO, 0), plain(EN, 0)]);
     }
     for &kind in tail {
-        lines.push(if kind == KU { statement(KU, next, 0, 1, 2, 0) } else { plain(kind, 0) });
+        lines.push(if kind == KU { statement(kind_or_lock(random, KU), next, 0, 1, 2, 0) } else { plain(kind, 0) });
         next += (kind == KU) as usize;
     }
 }
@@ -231,7 +231,7 @@ pub fn many_unfoldings(random: &mut Random) -> Vec<Line> {
 
 fn add_updates(random: &mut Random, lines: &mut Vec<Line>, first: usize, count: usize) -> usize {
     for id in first..first + count {
-        let kind = *random.pick(&[KU, KU, KU, KS, PS]);
+        let kind = pick_kind(random, &[KU, KU, KU, KS, PS]);
         lines.push(statement(kind, id, 0, random.between(1, 3) as u64, random.between(1, 3) as u64, 1));
     }
     first + count

@@ -11,7 +11,7 @@ pub const MAX_PROGRAM_LINES: usize = 64;
 pub const MAX_LINKS: usize = 32;
 pub const MAX_DEPTH: usize = 8;
 
-/// Kinds of lines. The seven statement kinds come first, so that `kind <= PD` says "a statement".
+/// Kinds of lines. The eight statement kinds come first, so that `kind <= KL` says "a statement".
 pub const IS: u8 = 0;
 pub const KS: u8 = 1;
 pub const PS: u8 = 2;
@@ -19,22 +19,24 @@ pub const KU: u8 = 3;
 pub const PU: u8 = 4;
 pub const KD: u8 = 5;
 pub const PD: u8 = 6;
-pub const RL: u8 = 7;
-pub const FK: u8 = 8;
-pub const PR: u8 = 9;
-pub const LO: u8 = 10;
-pub const BR: u8 = 11;
-pub const EL: u8 = 12;
-pub const EN: u8 = 13;
-pub const LI: u8 = 14;
+/// Key select with lock (document 02, Req 03).
+pub const KL: u8 = 7;
+pub const RL: u8 = 8;
+pub const FK: u8 = 9;
+pub const PR: u8 = 10;
+pub const LO: u8 = 11;
+pub const BR: u8 = 12;
+pub const EL: u8 = 13;
+pub const EN: u8 = 14;
+pub const LI: u8 = 15;
 
 /// The two letters of each kind, by number.
-pub const NAMES: [&[u8; 2]; 15] = [
-    b"is", b"ks", b"ps", b"ku", b"pu", b"kd", b"pd", b"rl", b"fk", b"pr", b"lo", b"br", b"el", b"en", b"li",
+pub const NAMES: [&[u8; 2]; 16] = [
+    b"is", b"ks", b"ps", b"ku", b"pu", b"kd", b"pd", b"kl", b"rl", b"fk", b"pr", b"lo", b"br", b"el", b"en", b"li",
 ];
 
 pub fn is_statement(kind: u8) -> bool {
-    kind <= PD
+    kind <= KL
 }
 
 pub fn is_flow(kind: u8) -> bool {
@@ -74,7 +76,7 @@ impl Workload {
     }
 }
 
-/// Which of a kind's six fields carry a value; the others are written `-` (document 01's list of kinds).
+/// Which of a kind's six fields carry a value; the others are written `-` (document 01's list of kinds; kl as ks).
 #[derive(Clone, Copy)]
 pub struct Fields {
     pub id: bool,
@@ -89,7 +91,7 @@ const fn fields(id: bool, rel: bool, to: bool, reads: bool, writes: bool, tests:
     Fields { id, rel, to, reads, writes, tests }
 }
 
-pub const FIELDS: [Fields; 15] = {
+pub const FIELDS: [Fields; 16] = {
     const Y: bool = true;
     const N: bool = false;
     [
@@ -100,6 +102,7 @@ pub const FIELDS: [Fields; 15] = {
         fields(Y, Y, N, Y, Y, Y), // pu
         fields(Y, Y, N, N, Y, N), // kd
         fields(Y, Y, N, N, Y, Y), // pd
+        fields(Y, Y, N, Y, N, N), // kl
         fields(Y, N, N, Y, N, N), // rl
         fields(Y, Y, Y, N, N, N), // fk
         fields(Y, N, N, N, N, N), // pr

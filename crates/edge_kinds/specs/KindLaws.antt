@@ -7,10 +7,10 @@ use lib.Dec.{eqb}
 use borrow.Author.Tests.{eq-eqb, ne-eqb}
 use Rattle.spec_base.specs.Basic.{all, numbers, meets}
 use Rattle.spec_text.specs.declared.StatementKind.{StatementKind}
-use Rattle.spec_text.specs.declared.StatementKind.the-variants.{Is, Ks, Ps, Ku, Pu, Kd, Pd}
+use Rattle.spec_text.specs.declared.StatementKind.the-variants.{Is, Ks, Ps, Ku, Pu, Kd, Pd, Kl}
 use Rattle.spec_graph.specs.Edge as E
 use Rattle.law_base.specs.ListLaws.{all-numbers}
-use Rattle.edge_kinds.specs.Kinds.{testsBit, insertBit, deleteBit, selectBit, shieldBit, looseBit, kindFacts, kindNumber, kindOf}
+use Rattle.edge_kinds.specs.Kinds.{testsBit, insertBit, deleteBit, selectBit, shieldBit, looseBit, kindFacts, kindCount, kindNumber, kindOf}
 
 -- ---- kinds and numbers
 
@@ -24,12 +24,13 @@ kindOf-number Ku = refl
 kindOf-number Pu = refl
 kindOf-number Kd = refl
 kindOf-number Pd = refl
+kindOf-number Kl = refl
 
 pub number-named : (k : StatementKind) {x : ℕ} → x ≡ kindNumber k → k ≡ kindOf x
 number-named k e = sym (ap kindOf e ∙ kindOf-number k)
 
--- there are seven
-pub number-small : (k : StatementKind) → kindNumber k < 7
+-- and is below their count
+pub number-small : (k : StatementKind) → kindNumber k < kindCount
 number-small Is = omega arith
 number-small Ks = omega arith
 number-small Ps = omega arith
@@ -37,12 +38,13 @@ number-small Ku = omega arith
 number-small Pu = omega arith
 number-small Kd = omega arith
 number-small Pd = omega arith
+number-small Kl = omega arith
 
 -- ---- what is told of every kind is computed once, over the numbers of all
 
-pub every-kind : (test : StatementKind → Bool) → all (λ n. test (kindOf n)) (numbers 7) ≡ true → (k : StatementKind) → test k ≡ true
+pub every-kind : (test : StatementKind → Bool) → all (λ n. test (kindOf n)) (numbers kindCount) ≡ true → (k : StatementKind) → test k ≡ true
 every-kind test h k =
-    subst (λ (k : StatementKind). test k ≡ true) (kindOf-number k) (all-numbers (λ n. test (kindOf n)) 7 h (kindNumber k) (number-small k))
+    subst (λ (k : StatementKind). test k ≡ true) (kindOf-number k) (all-numbers (λ n. test (kindOf n)) kindCount h (kindNumber k) (number-small k))
 
 -- two tests say the same
 abbrev both : Bool → Bool → Bool
@@ -58,7 +60,7 @@ both-same false false h = refl
 abbrev Bit : ℕ → (StatementKind → Bool) → StatementKind → Type 0
 Bit bit test k = meets (kindFacts k) bit ≡ test k
 
-bit-of : (bit : ℕ) (test : StatementKind → Bool) → all (λ n. both (meets (kindFacts (kindOf n)) bit) (test (kindOf n))) (numbers 7) ≡ true
+bit-of : (bit : ℕ) (test : StatementKind → Bool) → all (λ n. both (meets (kindFacts (kindOf n)) bit) (test (kindOf n))) (numbers kindCount) ≡ true
     → (k : StatementKind) → Bit bit test k
 bit-of bit test h k = both-same _ (test k) (every-kind (λ k. both (meets (kindFacts k) bit) (test k)) h k)
 

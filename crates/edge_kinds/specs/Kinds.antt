@@ -3,7 +3,7 @@ use mathlib.Core.Bool.{cond}
 use Prim.Native.Nat.{ℕ, _+_}
 use lib.Dec.{eqb}
 use Rattle.spec_text.specs.declared.StatementKind.{StatementKind}
-use Rattle.spec_text.specs.declared.StatementKind.the-variants.{Is, Ks, Ps, Ku, Pu, Kd, Pd}
+use Rattle.spec_text.specs.declared.StatementKind.the-variants.{Is, Ks, Ps, Ku, Pu, Kd, Pd, Kl}
 
 -- it has tests; it inserts, deletes, selects
 abbrev pub testsBit : ℕ
@@ -35,6 +35,11 @@ kindFacts Ku = shieldBit
 kindFacts Pu = testsBit + looseBit
 kindFacts Kd = deleteBit + shieldBit
 kindFacts Pd = testsBit + deleteBit + looseBit
+kindFacts Kl = shieldBit
+
+-- how many kinds there are
+abbrev pub kindCount : ℕ
+kindCount = 8
 
 -- the number of a kind, and the kind of a number
 abbrev pub kindNumber : StatementKind → ℕ
@@ -45,7 +50,15 @@ kindNumber Ku = 3
 kindNumber Pu = 4
 kindNumber Kd = 5
 kindNumber Pd = 6
+kindNumber Kl = 7
 
 unfoldable pub kindOf : ℕ → StatementKind
 kindOf n =
-    cond (eqb n 0) Is (cond (eqb n 1) Ks (cond (eqb n 2) Ps (cond (eqb n 3) Ku (cond (eqb n 4) Pu (cond (eqb n 5) Kd Pd)))))
+    cond (eqb n 0) Is
+    (cond (eqb n 1) Ks
+    (cond (eqb n 2) Ps
+    (cond (eqb n 3) Ku
+    (cond (eqb n 4) Pu
+    (cond (eqb n 5) Kd
+    (cond (eqb n 6) Pd
+    Kl))))))

@@ -32,6 +32,7 @@ pub fn kind_facts(k: StatementKind) -> u64
         StatementKind::Pu => TESTS + LOOSE,
         StatementKind::Kd => DELETE + SHIELD,
         StatementKind::Pd => TESTS + DELETE + LOOSE,
+        StatementKind::Kl => SHIELD,
     }
 }
 
@@ -42,7 +43,7 @@ pub fn kind_has(k: StatementKind, fact: u64) -> bool
     kind_facts(k) & fact != 0
 }
 
-// The number of a kind in a row, 0 to 6.
+// The number of a kind in a row, 0 to 7.
 pub fn kind_number(k: StatementKind) -> u64
     ensures { λ r. ⌜ r ≡ kindNumber k ⌝ }
 {
@@ -54,6 +55,7 @@ pub fn kind_number(k: StatementKind) -> u64
         StatementKind::Pu => 4,
         StatementKind::Kd => 5,
         StatementKind::Pd => 6,
+        StatementKind::Kl => 7,
     }
 }
 
@@ -68,6 +70,7 @@ pub fn kind_of(x: u64) -> StatementKind
         3 => StatementKind::Ku,
         4 => StatementKind::Pu,
         5 => StatementKind::Kd,
-        _ => StatementKind::Pd,
+        6 => StatementKind::Pd,
+        _ => StatementKind::Kl,
     }
 }

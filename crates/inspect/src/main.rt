@@ -14,6 +14,7 @@ use place_table::Rows;
 use spec_text::CELLS;
 use spec_text::Line;
 use spec_text::LineKind;
+use spec_text::StatementKind;
 use spec_text::Workload;
 use verdict_told::Verdict;
 use walk_first::WALK_WORDS;
@@ -66,13 +67,27 @@ fn print_edge(e: Edge) {
 
 // ---- what is read
 
-// The number of a line's kind in the sum of a value's cells. Those of statements are below 7 anyway; the remainder spares a proof of it.
+// The number of a statement's kind in the sum of a value's cells; `kl`, which came last, stands after the kinds of line.
+fn summed_statement(kind: StatementKind) -> u64 {
+    match kind {
+        StatementKind::Is => 1,
+        StatementKind::Ks => 2,
+        StatementKind::Ps => 3,
+        StatementKind::Ku => 4,
+        StatementKind::Pu => 5,
+        StatementKind::Kd => 6,
+        StatementKind::Pd => 7,
+        StatementKind::Kl => 16,
+    }
+}
+
+// The number of a line's kind in it.
 fn summed_kind(kind: LineKind) -> u64 {
     match kind {
         LineKind::Rl => 8,
         LineKind::Fk => 9,
         LineKind::Pr => 10,
-        LineKind::St(k) => edge_kinds::kind_number(k) % 7 + 1,
+        LineKind::St(k) => summed_statement(k),
         LineKind::Lo => 11,
         LineKind::Br => 12,
         LineKind::El => 13,

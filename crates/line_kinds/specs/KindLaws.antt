@@ -8,7 +8,7 @@ use Rattle.spec_text.specs.declared.Line.{Line}
 use Rattle.spec_text.specs.declared.LineKind.{LineKind}
 use Rattle.spec_text.specs.declared.LineKind.the-variants.{Rl, Fk, Pr, St, Lo, Br, El, En, Li}
 use Rattle.spec_text.specs.declared.StatementKind.{StatementKind}
-use Rattle.spec_text.specs.declared.StatementKind.the-variants.{Is, Ks, Ps, Ku, Pu, Kd, Pd}
+use Rattle.spec_text.specs.declared.StatementKind.the-variants.{Is, Ks, Ps, Ku, Pu, Kd, Pd, Kl}
 use Rattle.spec_text.specs.Text.{formsOf}
 use Rattle.spec_text.specs.Reading.{kindSets, canBeParent}
 use Rattle.line_kinds.specs.Kinds.{factsOf, lineFacts, mayParent, hasId, formsBy, formsWith, numberIf, setIf, setsBy}
@@ -38,6 +38,7 @@ told Ku = record { forms = refl; sets = λ whole l. and-end _; parent = refl; sm
 told Pu = record { forms = refl; sets = λ whole l. and-end _; parent = refl; small = omega arith }
 told Kd = record { forms = refl; sets = λ whole l. refl; parent = refl; small = omega arith }
 told Pd = record { forms = refl; sets = λ whole l. refl; parent = refl; small = omega arith }
+told Kl = record { forms = refl; sets = λ whole l. and-end _ ∙ and-end _; parent = refl; small = omega arith }
 
 -- T5: the forms of a line's fields
 pub forms-told : (k : LineKind) → formsOf k ≡ formsBy (lineFacts k)

@@ -8,7 +8,7 @@ use Rattle.spec_text.specs.declared.Line.{Line}
 use Rattle.spec_text.specs.declared.LineKind.{LineKind}
 use Rattle.spec_text.specs.declared.LineKind.the-variants.{Rl, Fk, Pr, St, Lo, Br, El, En, Li}
 use Rattle.spec_text.specs.declared.StatementKind.{StatementKind}
-use Rattle.spec_text.specs.declared.StatementKind.the-variants.{Is, Ks, Ps, Ku, Pu, Kd, Pd}
+use Rattle.spec_text.specs.declared.StatementKind.the-variants.{Is, Ks, Ps, Ku, Pu, Kd, Pd, Kl}
 use Rattle.spec_text.specs.Text.{Form}
 use Rattle.spec_text.specs.Text.Form.{number, set, nothing}
 
@@ -59,6 +59,7 @@ factsOf Ku = hasReads + hasWrites + someWrites + mayParent
 factsOf Pu = hasReads + hasWrites + hasTests + someWrites
 factsOf Kd = hasWrites + wholeWrites + mayParent
 factsOf Pd = hasWrites + hasTests + wholeWrites
+factsOf Kl = hasReads + someReads + mayParent
 
 -- the facts of a kind of line
 abbrev pub lineFacts : LineKind → ℕ

@@ -49,6 +49,7 @@ pub fn facts_of(k: StatementKind) -> u64
         StatementKind::Pu => READS + WRITES + TESTS + SOME_WRITES,
         StatementKind::Kd => WRITES + WHOLE + PARENT,
         StatementKind::Pd => WRITES + TESTS + WHOLE,
+        StatementKind::Kl => READS + SOME_READS + PARENT,
     }
 }
 

@@ -14,6 +14,7 @@ use lib.Seq.{set-out}
 use borrow.Author.Tests.{eq-eqb, ne-eqb, lt-ltb, le-ltb}
 use Rattle.spec_base.specs.Basic.{has}
 use Rattle.law_base.specs.BoolLaws.{not-true, not-false}
+use Rattle.value_tables.specs.Lines.{prNumber, liNumber}
 use Rattle.place_laws.specs.Keys.{withLink, withLink-small}
 use Rattle.place_keys.specs.declared.Begun.{Begun}
 use Rattle.place_keys.specs.declared.Links.{Links}
@@ -22,13 +23,13 @@ use Rattle.place_keys.specs.LineKeys.{begunWith, begunLine, begunBefore,
 -- ---- the programs
 
 module _ (lines : List ℕ) (i : ℕ) (b : Begun) (n : ℕ) (e : n ≡ getD lines (i * 8) 0) where
-  pub begun-none : (n ≡ 7 → ⊥) → b ≡ begunLine lines i b
+  pub begun-none : (n ≡ prNumber → ⊥) → b ≡ begunLine lines i b
   unfolding begunLine
-  begun-none d = sym (rw (ne-eqb (getD lines (i * 8) 0) 7 (λ h. d (e ∙ h))))
+  begun-none d = sym (rw (ne-eqb (getD lines (i * 8) 0) prNumber (λ h. d (e ∙ h))))
 
-  pub begun-one : n ≡ 7 → begunWith b (i + 1) ≡ begunLine lines i b
+  pub begun-one : n ≡ prNumber → begunWith b (i + 1) ≡ begunLine lines i b
   unfolding begunLine
-  begun-one d = sym (rw (eq-eqb (getD lines (i * 8) 0) 7 (sym e ∙ d)))
+  begun-one d = sym (rw (eq-eqb (getD lines (i * 8) 0) prNumber (sym e ∙ d)))
 
 -- past the 16 cells setting one changes nothing
 pub begun-past : (b : Begun) (first : ℕ) → length (b .firsts) ≡ 16 → 15 < b .programs
@@ -43,7 +44,7 @@ pub record Sized (i : ℕ) (b : Begun) : Type 0 where
 
 sized-line : (lines : List ℕ) (i : ℕ) (b : Begun) → Sized i b → Sized (suc i) (begunLine lines i b)
 unfolding begunLine begunWith
-sized-line lines i b s = go (eqb (getD lines (i * 8) 0) 7)
+sized-line lines i b s = go (eqb (getD lines (i * 8) 0) prNumber)
   where
     go : (t : Bool) → Sized (suc i) (cond t (begunWith b (i + 1)) b)
     go true =
@@ -75,14 +76,14 @@ shifted-bit set k h = ap (bitOr set) (shl-exact {a = 1} 1 k 64 (omega arith) (om
 
 -- the paths to a line's part: its first word is n, its child of, its parent parent, its key key
 module _ (lines : List ℕ) (i child seen word n : ℕ) (en : n ≡ getD lines (i * 8) 0) where
-  pub no-link : (n ≡ 8 → ⊥) → word ≡ keyAt lines i child seen word
+  pub no-link : (n ≡ liNumber → ⊥) → word ≡ keyAt lines i child seen word
   unfolding keyAt
-  no-link d = sym (rw (ne-eqb (getD lines (i * 8) 0) 8 (λ h. d (en ∙ h))))
+  no-link d = sym (rw (ne-eqb (getD lines (i * 8) 0) liNumber (λ h. d (en ∙ h))))
 
-  module _ (d : n ≡ 8) (of : ℕ) (eo : of ≡ getD lines (i * 8 + 2) 0) where
+  module _ (d : n ≡ liNumber) (of : ℕ) (eo : of ≡ getD lines (i * 8 + 2) 0) where
     link : keyAt lines i child seen word ≡ withLink child seen (linkAt lines i) word
     unfolding keyAt
-    link = rw (eq-eqb (getD lines (i * 8) 0) 8 (sym en ∙ d)) refl
+    link = rw (eq-eqb (getD lines (i * 8) 0) liNumber (sym en ∙ d)) refl
 
     pub no-child : (of ≡ child → ⊥) → word ≡ keyAt lines i child seen word
     unfolding withLink linkAt
@@ -109,18 +110,18 @@ module _ (lines : List ℕ) (i child seen word n : ℕ) (en : n ≡ getD lines (
 
 -- the lines from a place on
 module _ (lines : List ℕ) (child seen : ℕ) where
-  pub keys-next : (n i word : ℕ) → i < n → (m : ℕ) → m ≡ getD lines (i * 8) 0 → (m ≡ 7 → ⊥) → (r : ℕ) → r ≡ keyAt lines i child seen word
+  pub keys-next : (n i word : ℕ) → i < n → (m : ℕ) → m ≡ getD lines (i * 8) 0 → (m ≡ prNumber → ⊥) → (r : ℕ) → r ≡ keyAt lines i child seen word
       → keysFrom (n - (i + 1)) lines (i + 1) child seen r ≡ keysFrom (n - i) lines i child seen word
   unfolding keysFrom
   keys-next n i word h m e d r k =
       let s : n - i ≡ suc (n - (i + 1)) = omega arith in
-      rw (s, k, ne-eqb (getD lines (i * 8) 0) 7 (λ x. d (e ∙ x))) refl
+      rw (s, k, ne-eqb (getD lines (i * 8) 0) prNumber (λ x. d (e ∙ x))) refl
 
-  pub keys-stop : (n i word : ℕ) → i < n → (m : ℕ) → m ≡ getD lines (i * 8) 0 → m ≡ 7 → word ≡ keysFrom (n - i) lines i child seen word
+  pub keys-stop : (n i word : ℕ) → i < n → (m : ℕ) → m ≡ getD lines (i * 8) 0 → m ≡ prNumber → word ≡ keysFrom (n - i) lines i child seen word
   unfolding keysFrom
   keys-stop n i word h m e d =
       let s : n - i ≡ suc (n - (i + 1)) = omega arith in
-      rw (s, eq-eqb (getD lines (i * 8) 0) 7 (sym e ∙ d)) refl
+      rw (s, eq-eqb (getD lines (i * 8) 0) prNumber (sym e ∙ d)) refl
 
   pub keys-end : (n i word : ℕ) → n ≤ i → word ≡ keysFrom (n - i) lines i child seen word
   unfolding keysFrom
@@ -129,7 +130,7 @@ module _ (lines : List ℕ) (child seen : ℕ) where
   -- each key stays below 32
   pub key-small : (i word r : ℕ) → r ≡ keyAt lines i child seen word → word < 4294967296 → r < 4294967296
   unfolding keyAt
-  key-small i word r e h = rw e (go (eqb (getD lines (i * 8) 0) 8))
+  key-small i word r e h = rw e (go (eqb (getD lines (i * 8) 0) liNumber))
     where
       go : (b : Bool) → cond b (withLink child seen (linkAt lines i) word) word < 4294967296
       go true = withLink-small child seen (linkAt lines i) word h
@@ -144,26 +145,27 @@ keys-packed lines first child seen marks near far a b = rw (a, b) refl
 -- ---- the links
 
 module _ (lines : List ℕ) where
-  pub links-next : (n i marks : ℕ) → i < n → (m : ℕ) → m ≡ getD lines (i * 8) 0 → (m ≡ 7 → ⊥) → (m ≡ 8 → ⊥) → (w : ℕ)
+  pub links-next : (n i marks : ℕ) → i < n → (m : ℕ) → m ≡ getD lines (i * 8) 0 → (m ≡ prNumber → ⊥) → (m ≡ liNumber → ⊥) → (w : ℕ)
       → w ≡ getD lines (i * 8 + 7) 0 → linksFrom (n - (i + 1)) lines (i + 1) (bitOr marks w) ≡ linksFrom (n - i) lines i marks
   unfolding linksFrom
   links-next n i marks h m e a b w k =
       let s : n - i ≡ suc (n - (i + 1)) = omega arith in
-      rw (s, k, ne-eqb (getD lines (i * 8) 0) 7 (λ x. a (e ∙ x)), ne-eqb (getD lines (i * 8) 0) 8 (λ x. b (e ∙ x))) refl
+      rw (s, k, ne-eqb (getD lines (i * 8) 0) prNumber (λ x. a (e ∙ x)), ne-eqb (getD lines (i * 8) 0) liNumber (λ x. b (e ∙ x))) refl
 
-  pub links-program : (n i marks : ℕ) → i < n → (m : ℕ) → m ≡ getD lines (i * 8) 0 → m ≡ 7
+  pub links-program : (n i marks : ℕ) → i < n → (m : ℕ) → m ≡ getD lines (i * 8) 0 → m ≡ prNumber
       → record { first = i; marks = marks } ≡ linksFrom (n - i) lines i marks
   unfolding linksFrom
   links-program n i marks h m e d =
       let s : n - i ≡ suc (n - (i + 1)) = omega arith in
-      rw (s, eq-eqb (getD lines (i * 8) 0) 7 (sym e ∙ d)) refl
+      rw (s, eq-eqb (getD lines (i * 8) 0) prNumber (sym e ∙ d)) refl
 
-  pub links-link : (n i marks : ℕ) → i < n → (m : ℕ) → m ≡ getD lines (i * 8) 0 → m ≡ 8
+  pub links-link : (n i marks : ℕ) → i < n → (m : ℕ) → m ≡ getD lines (i * 8) 0 → m ≡ liNumber
       → record { first = i; marks = marks } ≡ linksFrom (n - i) lines i marks
   unfolding linksFrom
   links-link n i marks h m e d =
       let s : n - i ≡ suc (n - (i + 1)) = omega arith in
-      rw (s, ne-eqb (getD lines (i * 8) 0) 7 (λ x. let z : 8 ≡ 7 = sym d ∙ e ∙ x in omega arith), eq-eqb (getD lines (i * 8) 0) 8 (sym e ∙ d)) refl
+      let other : getD lines (i * 8) 0 ≡ prNumber → ⊥ = λ x. omega arith in
+      rw (s, ne-eqb (getD lines (i * 8) 0) prNumber other, eq-eqb (getD lines (i * 8) 0) liNumber (sym e ∙ d)) refl
 
   pub links-end : (n i marks : ℕ) → n ≤ i → record { first = i; marks = marks } ≡ linksFrom (n - i) lines i marks
   unfolding linksFrom

@@ -6,6 +6,7 @@ use lib.Bits.{bitOr}
 use lib.Dec.{eqb}
 use lib.ListN.{length, getD, set, replicate}
 use Rattle.spec_graph.specs.Program.{Link}
+use Rattle.value_tables.specs.Lines.{prNumber, liNumber}
 use Rattle.place_laws.specs.Keys.{withLink}
 use Rattle.place_row.specs.KeyWord.{packedKeys}
 use Rattle.place_keys.specs.declared.Begun.{Begun}
@@ -17,7 +18,7 @@ unfoldable pub begunWith : Begun → ℕ → Begun
 begunWith b first = record { programs = b .programs + 1; firsts = set (b .firsts) (b .programs) first }
 
 unfoldable pub begunLine : List ℕ → ℕ → Begun → Begun
-begunLine lines i b = cond (eqb (getD lines (i * 8) 0) 7) (begunWith b (i + 1)) b
+begunLine lines i b = cond (eqb (getD lines (i * 8) 0) prNumber) (begunWith b (i + 1)) b
 
 unfoldable pub begunBefore : List ℕ → ℕ → Begun
 begunBefore lines zero = record { programs = 0; firsts = replicate 16 0 }
@@ -32,8 +33,8 @@ begunIn lines = begunBefore lines (length lines / 8)
 unfoldable pub linksFrom : ℕ → List ℕ → ℕ → ℕ → Links
 linksFrom zero lines i marks = record { first = i; marks = marks }
 linksFrom (suc n) lines i marks =
-    cond (eqb (getD lines (i * 8) 0) 7) (record { first = i; marks = marks })
-    (cond (eqb (getD lines (i * 8) 0) 8) (record { first = i; marks = marks })
+    cond (eqb (getD lines (i * 8) 0) prNumber) (record { first = i; marks = marks })
+    (cond (eqb (getD lines (i * 8) 0) liNumber) (record { first = i; marks = marks })
     (linksFrom n lines (i + 1) (bitOr marks (getD lines (i * 8 + 7) 0))))
 
 -- those of the program whose lines begin at a line
@@ -51,13 +52,13 @@ linkAt lines i = linkOf (getD lines (i * 8 + 1) 0) (getD lines (i * 8 + 2) 0) (g
 
 -- a line's part: only a `li` line has one
 unfoldable pub keyAt : List ℕ → ℕ → ℕ → ℕ → ℕ → ℕ
-keyAt lines i child parents word = cond (eqb (getD lines (i * 8) 0) 8) (withLink child parents (linkAt lines i) word) word
+keyAt lines i child parents word = cond (eqb (getD lines (i * 8) 0) liNumber) (withLink child parents (linkAt lines i) word) word
 
 -- the lines from i on, at most n of them, up to the next `pr`
 unfoldable pub keysFrom : ℕ → List ℕ → ℕ → ℕ → ℕ → ℕ → ℕ
 keysFrom zero lines i child parents word = word
 keysFrom (suc n) lines i child parents word =
-    cond (eqb (getD lines (i * 8) 0) 7) word (keysFrom n lines (i + 1) child parents (keyAt lines i child parents word))
+    cond (eqb (getD lines (i * 8) 0) prNumber) word (keysFrom n lines (i + 1) child parents (keyAt lines i child parents word))
 
 -- E3: the keys of a place whose program's links begin at a line, by what is seen and by what is marked, as the word of a row
 unfoldable pub placeKeys : List ℕ → ℕ → ℕ → ℕ → ℕ → ℕ

@@ -23,7 +23,7 @@ use Rattle.node_laws.specs.Bodies.{bodyOf, bodyOf-end, bodyOf-later}
 use Rattle.node_laws.specs.LineCases.{LineCase, line-case, link-program, links-later}
 use Rattle.node_laws.specs.LineCases.LineCase.{is-program, is-link, is-other}
 use Rattle.unfold_laws.specs.Codes.{markIn, bitIn}
-use Rattle.value_tables.specs.Lines.{lineNumber, lineWords, lineTable}
+use Rattle.value_tables.specs.Lines.{prNumber, liNumber, lineNumber, lineWords, lineTable}
 use Rattle.value_tables.specs.LineLaws.{lineTable-length, cell-at, number-at, number-names, mark-told}
 use Rattle.place_laws.specs.Keys.{eqb-comm}
 use Rattle.place_keys.specs.declared.Links.{Links}
@@ -100,15 +100,16 @@ module _ (lines : List Line) where
           record { inside = inside; links = refl; marks-are = sym (ap (λ (x : List Line). marked marks (bodyOf x)) here ∙ ap (marked marks) none) }
 
       go : LineCase (l .kind) → LinksAt lines i marks (linksFrom (suc n) table i marks)
-      go (is-program e) = rw (eq-eqb code 7 (number ∙ ap lineNumber e)) (ends (bodyOf-end l rest (inl e)))
+      go (is-program e) = rw (eq-eqb code prNumber (number ∙ ap lineNumber e)) (ends (bodyOf-end l rest (inl e)))
       go (is-link e) =
-          rw (ne-eqb code 7 (λ x. link-program e (number-names (l .kind) .0 (sym number ∙ x))), eq-eqb code 8 (number ∙ ap lineNumber e))
+          let names = number-names (l .kind) in
+          rw (ne-eqb code prNumber (λ x. link-program e (names .0 (sym number ∙ x))), eq-eqb code liNumber (number ∙ ap lineNumber e))
           (ends (bodyOf-end l rest (inr e)))
       go (is-other p q) =
           let word = bitOr marks (markIn (l .kind) (l .id)) in
           let r = again word in
           let names = number-names (l .kind) in
-          rw (ne-eqb code 7 (λ x. p (names .0 (sym number ∙ x))), ne-eqb code 8 (λ x. q (names .1 (sym number ∙ x))), mark)
+          rw (ne-eqb code prNumber (λ x. p (names .0 (sym number ∙ x))), ne-eqb code liNumber (λ x. q (names .1 (sym number ∙ x))), mark)
           (record {
             inside = r .inside;
             links = r .links ∙ ap linksOf next ∙ sym (ap linksOf here ∙ links-later l rest p q);

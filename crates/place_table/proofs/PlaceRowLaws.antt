@@ -21,7 +21,7 @@ use Rattle.place_laws.specs.Ids.{FromLine, statement-line}
 use Rattle.place_laws.specs.Guarded.{IdsSmall, Marked}
 use Rattle.place_laws.specs.Keys.{withLink, keysOf, near-keys, far-keys}
 use Rattle.unfold_laws.specs.WordCode.{lineIn}
-use Rattle.value_tables.specs.Lines.{lineNumber, lineWords, lineTable}
+use Rattle.value_tables.specs.Lines.{prNumber, liNumber, lineNumber, lineWords, lineTable}
 use Rattle.value_tables.specs.LineLaws.{lineTable-length, cell-at, number-at, number-names, sets-told}
 use Rattle.place_keys.specs.declared.Links.{Links}
 use Rattle.place_keys.specs.LineKeys.{linkOf, linkAt, keyAt, keysFrom, placeKeys}
@@ -46,13 +46,15 @@ module _ (lines : List Line) (child seen : ℕ) where
 
       go : LineCase (l .kind) → keysFrom (suc n) table i child seen word ≡ keysOf child seen (linksOf (l ∷ rest)) word
       go (is-program e) =
-          rw (eq-eqb code 7 (first ∙ ap lineNumber e)) (sym (ap (λ (k : List Link). keysOf child seen k word) (links-end l rest e)))
+          rw (eq-eqb code prNumber (first ∙ ap lineNumber e)) (sym (ap (λ (k : List Link). keysOf child seen k word) (links-end l rest e)))
       go (is-link e) =
-          rw (ne-eqb code 7 (λ x. link-program e (number-names (l .kind) .0 (sym first ∙ x))), eq-eqb code 8 (first ∙ ap lineNumber e), link)
+          let names = number-names (l .kind) in
+          rw (ne-eqb code prNumber (λ x. link-program e (names .0 (sym first ∙ x))), eq-eqb code liNumber (first ∙ ap lineNumber e), link)
           (again (withLink child seen (linkOf (l .id) (l .rel) (l .to)) word)
           ∙ sym (ap (λ (k : List Link). keysOf child seen k word) (links-here l rest e)))
       go (is-other p q) =
-          rw (ne-eqb code 7 (λ x. p (number-names (l .kind) .0 (sym first ∙ x))), ne-eqb code 8 (λ x. q (number-names (l .kind) .1 (sym first ∙ x))))
+          let names = number-names (l .kind) in
+          rw (ne-eqb code prNumber (λ x. p (names .0 (sym first ∙ x))), ne-eqb code liNumber (λ x. q (names .1 (sym first ∙ x))))
           (again word ∙ sym (ap (λ (k : List Link). keysOf child seen k word) (links-later l rest p q)))
 
   link-cells : (i : ℕ) (e : Line) → i < length lines → linkAt table i ≡ linkOf (getD lines i e .id) (getD lines i e .rel) (getD lines i e .to)

@@ -33,7 +33,7 @@ use Rattle.node_laws.specs.LineCases.LineCase.{is-program, is-link, is-other}
 use Rattle.node_laws.specs.FromLinks.{FromProgram, node-program}
 use Rattle.node_laws.specs.GivenNodes.{accepted-nodes}
 use Rattle.node_laws.specs.BoundParents.{own-bound, own-kinds}
-use Rattle.value_tables.specs.Lines.{lineNumber, lineTable}
+use Rattle.value_tables.specs.Lines.{prNumber, lineNumber, lineTable}
 use Rattle.value_tables.specs.LineLaws.{lineTable-length, number-at, number-names}
 use Rattle.place_keys.specs.declared.Begun.{Begun}
 use Rattle.place_keys.specs.LineKeys.{begunWith, begunLine, begunBefore, begunIn, linksIn}
@@ -44,7 +44,7 @@ use Rattle.place_table.proofs.NodeLaws.{take-more}
 -- the lines after each `pr`, counted from the first line's number
 firstsOf : ℕ → List Line → List ℕ
 firstsOf i [] = []
-firstsOf i (l ∷ lines) = cond (eqb (lineNumber (l .kind)) 7) (suc i ∷ firstsOf (suc i) lines) (firstsOf (suc i) lines)
+firstsOf i (l ∷ lines) = cond (eqb (lineNumber (l .kind)) prNumber) (suc i ∷ firstsOf (suc i) lines) (firstsOf (suc i) lines)
 
 -- a `pr` line, or another
 pr-cases : (c : LineKind) → (c ≡ Pr) ⊎ (c ≡ Pr → ⊥)
@@ -61,7 +61,7 @@ firsts-pr i l lines e = rw e refl
 
 firsts-other : (i : ℕ) (l : Line) (lines : List Line) → (l .kind ≡ Pr → ⊥) → firstsOf i (l ∷ lines) ≡ firstsOf (suc i) lines
 unfolding firstsOf
-firsts-other i l lines d = rw (ne-eqb (lineNumber (l .kind)) 7 (λ e. d (number-names (l .kind) .0 e))) refl
+firsts-other i l lines d = rw (ne-eqb (lineNumber (l .kind)) prNumber (λ e. d (number-names (l .kind) .0 e))) refl
 
 abbrev programOf : List Line → Program
 programOf lines = record { body = runOf (length lines) lines .run; links = linksOf lines }
@@ -162,22 +162,22 @@ begun-more firsts b v h =
         ∙ sym (List·getD-append firsts (v ∷ []) 0 p less)
 
 firsts-more : (i : ℕ) (lines : List Line) (l : Line)
-    → firstsOf i (lines ++ (l ∷ [])) ≡ firstsOf i lines ++ cond (eqb (lineNumber (l .kind)) 7) (suc (i + length lines) ∷ []) []
+    → firstsOf i (lines ++ (l ∷ [])) ≡ firstsOf i lines ++ cond (eqb (lineNumber (l .kind)) prNumber) (suc (i + length lines) ∷ []) []
 unfolding firstsOf
-firsts-more i [] l = go (eqb (lineNumber (l .kind)) 7)
+firsts-more i [] l = go (eqb (lineNumber (l .kind)) prNumber)
   where
     go : (b : Bool) → cond b (suc i ∷ []) [] ≡ cond b (suc (i + 0) ∷ []) []
     go true = ap (λ (n : ℕ). suc n ∷ []) (sym (add-zero i))
     go false = refl
 firsts-more i (x ∷ lines) l =
-    go (eqb (lineNumber (x .kind)) 7)
-    (firsts-more (suc i) lines l ∙ ap (λ (n : ℕ). firstsOf (suc i) lines ++ cond (eqb (lineNumber (l .kind)) 7) (suc n ∷ []) []) z)
+    go (eqb (lineNumber (x .kind)) prNumber)
+    (firsts-more (suc i) lines l ∙ ap (λ (n : ℕ). firstsOf (suc i) lines ++ cond (eqb (lineNumber (l .kind)) prNumber) (suc n ∷ []) []) z)
   where
     z : suc i + length lines ≡ i + suc (length lines)
     z = omega arith
 
     tail-of : List ℕ
-    tail-of = cond (eqb (lineNumber (l .kind)) 7) (suc (i + suc (length lines)) ∷ []) []
+    tail-of = cond (eqb (lineNumber (l .kind)) prNumber) (suc (i + suc (length lines)) ∷ []) []
 
     go : (b : Bool) → firstsOf (suc i) (lines ++ (l ∷ [])) ≡ firstsOf (suc i) lines ++ tail-of
         → cond b (suc i ∷ firstsOf (suc i) (lines ++ (l ∷ []))) (firstsOf (suc i) (lines ++ (l ∷ [])))
@@ -195,8 +195,8 @@ begun-part lines (suc i) h =
     let many : 0 + length (take i lines) ≡ i = omega (arith, length-take i lines) in
     let list =
     ap (firstsOf 0) (take-more lines i (found .1)) ∙ firsts-more 0 (take i lines) l
-    ∙ ap (λ (n : ℕ). firstsOf 0 (take i lines) ++ cond (eqb (lineNumber (l .kind)) 7) (suc n ∷ []) []) many in
-    rw (list, number) (go (eqb (lineNumber (l .kind)) 7) (begun-part lines i (omega arith)))
+    ∙ ap (λ (n : ℕ). firstsOf 0 (take i lines) ++ cond (eqb (lineNumber (l .kind)) prNumber) (suc n ∷ []) []) many in
+    rw (list, number) (go (eqb (lineNumber (l .kind)) prNumber) (begun-part lines i (omega arith)))
   where
     go : (t : Bool) → BegunAs (firstsOf 0 (take i lines)) (begunBefore (lineTable lines) i)
         → BegunAs (firstsOf 0 (take i lines) ++ cond t (suc i ∷ []) [])

@@ -1,36 +1,37 @@
 -- Small workloads that pin each rule of edges (E).
-use mathlib.Core.Bool.{Bool, true, false, _&&_}
+use mathlib.Core.Bool.{Bool, true, false, not, _&&_}
 use mathlib.Core.List.{List, [], _∷_, _++_, map}
 use mathlib.Core.Path.{_≡_, refl}
 use Prim.Native.Nat.{ℕ}
 use lib.Dec.{eqb}
+use lib.ListN.{replicate}
 use Rattle.spec_base.specs.Basic.{keep}
 use Rattle.spec_text.specs.declared.Line.{Line}
 use Rattle.spec_text.specs.declared.LineKind.the-variants.{St}
 use Rattle.spec_text.specs.declared.StatementKind.{StatementKind}
-use Rattle.spec_text.specs.declared.StatementKind.the-variants.{Is, Ks, Ps, Ku, Pu, Kd, Pd}
+use Rattle.spec_text.specs.declared.StatementKind.the-variants.{Is, Ks, Ps, Ku, Pu, Kd, Pd, Kl}
 use Rattle.spec_graph.specs.Graph.{Flow}
 use Rattle.spec_graph.specs.Program.{statementOf}
 use Rattle.spec_graph.specs.Unfolding.{nodesOf}
-use Rattle.spec_graph.specs.Edge.{Letter, Place, Edge, R, W, T, holds, at, stands, placesOf, placeAt, bothPass}
-use Rattle.spec_graph.specs.Edge.{guardedNear, guardedFar}
+use Rattle.spec_graph.specs.Edge.{Letter, Place, Edge, R, W, T, holds, sameRelation, forward, back, at, stands, placesOf, placeAt, bothPass}
+use Rattle.spec_graph.specs.Edge.{shared, guardedNear, guardedFar}
 use Rattle.spec_graph.specs.Edge.{hasReads, hasWrites, hasTests, inserts, deletes, selects, shields, loosens}
 use Rattle.spec_graph.specs.Edge.Letter.{A, B, C, D, E}
-use Rattle.spec_graph.specs.ExampleText.{line, rl, fk, pr, is, ks, ps, ku, pu, kd, pd, lo, br, el, en, li, edge}
+use Rattle.spec_graph.specs.ExampleText.{line, rl, fk, pr, is, ks, ps, ku, pu, kd, pd, kl, lo, br, el, en, li, edge}
 use Rattle.spec_graph.specs.ExampleText.{edges, backs, graph, isBackEdge, twice}
 
--- T5, E3, W4: which of the kinds have reads, writes, tests; insert, delete, select; shield as parents; loosen a pair
+-- T5, E3, W4, Req 03: which of the kinds have reads, writes, tests; insert, delete, select; shield as parents; loosen a pair
 kinds : List StatementKind
-kinds = Is ∷ Ks ∷ Ps ∷ Ku ∷ Pu ∷ Kd ∷ Pd ∷ []
+kinds = Is ∷ Ks ∷ Ps ∷ Ku ∷ Pu ∷ Kd ∷ Pd ∷ Kl ∷ []
 
 E-kinds : map (λ test. keep test kinds) (hasReads ∷ hasWrites ∷ hasTests ∷ inserts ∷ deletes ∷ selects ∷ shields ∷ loosens ∷ [])
-    ≡ (Ks ∷ Ps ∷ Ku ∷ Pu ∷ [])
+    ≡ (Ks ∷ Ps ∷ Ku ∷ Pu ∷ Kl ∷ [])
     ∷ (Is ∷ Ku ∷ Pu ∷ Kd ∷ Pd ∷ [])
     ∷ (Ps ∷ Pu ∷ Pd ∷ [])
     ∷ (Is ∷ [])
     ∷ (Kd ∷ Pd ∷ [])
     ∷ (Ks ∷ Ps ∷ [])
-    ∷ (Is ∷ Ku ∷ Kd ∷ [])
+    ∷ (Is ∷ Ku ∷ Kd ∷ Kl ∷ [])
     ∷ (Ks ∷ Ps ∷ Pu ∷ Pd ∷ [])
     ∷ []
 unfolding kinds
@@ -38,7 +39,7 @@ E-kinds = refl
 
 -- E0: R, W and T of a statement of each kind, with something in every field
 E0-sets : map {B = ℕ × ℕ × ℕ} (λ k. let s = statementOf k (line (St k) 0 0 0 1 2 4) in (R s, W s, T s)) kinds
-    ≡ (0, 2, 0) ∷ (1, 0, 0) ∷ (1, 0, 4) ∷ (1, 2, 0) ∷ (1, 2, 4) ∷ (0, 2, 0) ∷ (0, 2, 4) ∷ []
+    ≡ (0, 2, 0) ∷ (1, 0, 0) ∷ (1, 0, 4) ∷ (1, 2, 0) ∷ (1, 2, 4) ∷ (0, 2, 0) ∷ (0, 2, 4) ∷ (1, 0, 0) ∷ []
 unfolding kinds edges
 E0-sets = refl
 
@@ -143,21 +144,21 @@ unfolding letters
 EE-apart = refl
 
 -- a program of one statement for each kind, all over one relation
-abbrev programs : Line → Line → Line → Line → Line → Line → Line → List Line
-programs a b c d e f g =
-    rl 0 7 ∷ pr 0 ∷ a ∷ pr 1 ∷ b ∷ pr 2 ∷ c ∷ pr 3 ∷ d ∷ pr 4 ∷ e ∷ pr 5 ∷ f ∷ pr 6 ∷ g ∷ []
+abbrev programs : Line → Line → Line → Line → Line → Line → Line → Line → List Line
+programs a b c d e f g h =
+    rl 0 7 ∷ pr 0 ∷ a ∷ pr 1 ∷ b ∷ pr 2 ∷ c ∷ pr 3 ∷ d ∷ pr 4 ∷ e ∷ pr 5 ∷ f ∷ pr 6 ∷ g ∷ pr 7 ∷ h ∷ []
 
 -- every set meets every set
 abbrev meeting : List Line
-meeting = programs (is 0 0 7) (ks 0 0 7) (ps 0 0 7 7) (ku 0 0 7 7) (pu 0 0 7 7 7) (kd 0 0 7) (pd 0 0 7 7)
+meeting = programs (is 0 0 7) (ks 0 0 7) (ps 0 0 7 7) (ku 0 0 7 7) (pu 0 0 7 7 7) (kd 0 0 7) (pd 0 0 7 7) (kl 0 0 7)
 
 -- the same statements with something in the fields that the kinds lack (no text gives such lines)
 abbrev filled : List Line
 filled =
     let all : StatementKind → Line = λ k. line (St k) 0 0 0 7 7 7 in
-    programs (all Is) (all Ks) (all Ps) (all Ku) (all Pu) (all Kd) (all Pd)
+    programs (all Is) (all Ks) (all Ps) (all Ku) (all Pu) (all Kd) (all Pd) (all Kl)
 
--- the kinds that each statement reaches in this way, for the kinds is ks ps ku pu kd pd in turn
+-- the kinds that each statement reaches in this way, for the kinds is ks ps ku pu kd pd kl in turn
 reach : (Place → Place → Bool) → List Line → List (List StatementKind)
 unfolding edges
 reach test lines =
@@ -167,7 +168,7 @@ reach test lines =
 abbrev letter : Letter → Place → Place → Bool
 letter x s t = holds x (at s) (at t)
 
--- EA to EE over all pairs of kinds, where the sets meet
+-- EA to EE, Req 03: over all pairs of kinds, where the sets meet
 EA-kinds : reach (letter A) meeting
     ≡ (Ku ∷ Pu ∷ Kd ∷ Pd ∷ [])
     ∷ []
@@ -177,15 +178,17 @@ EA-kinds : reach (letter A) meeting
     ∷ []
     ∷ []
     ∷ []
+    ∷ []
 unfolding reach
 EA-kinds = refl
 
 EB-kinds : reach (letter B) meeting
-    ≡ (Ks ∷ Ps ∷ Ku ∷ Pu ∷ [])
+    ≡ (Ks ∷ Ps ∷ Ku ∷ Pu ∷ Kl ∷ [])
     ∷ []
     ∷ []
-    ∷ (Ks ∷ Ps ∷ Ku ∷ Pu ∷ [])
-    ∷ (Ks ∷ Ps ∷ Ku ∷ Pu ∷ [])
+    ∷ (Ks ∷ Ps ∷ Ku ∷ Pu ∷ Kl ∷ [])
+    ∷ (Ks ∷ Ps ∷ Ku ∷ Pu ∷ Kl ∷ [])
+    ∷ []
     ∷ []
     ∷ []
     ∷ []
@@ -201,6 +204,7 @@ EC-kinds : reach (letter C) meeting
     ∷ (Ps ∷ Pu ∷ Pd ∷ [])
     ∷ (Ps ∷ Pu ∷ Pd ∷ [])
     ∷ []
+    ∷ []
 unfolding reach
 EC-kinds = refl
 
@@ -212,6 +216,7 @@ ED-kinds : reach (letter D) meeting
     ∷ (Ku ∷ Pu ∷ Kd ∷ Pd ∷ [])
     ∷ []
     ∷ []
+    ∷ (Ku ∷ Pu ∷ Kd ∷ Pd ∷ [])
     ∷ []
 unfolding reach
 ED-kinds = refl
@@ -224,6 +229,7 @@ EE-kinds : reach (letter E) meeting
     ∷ (Is ∷ Ku ∷ Pu ∷ Kd ∷ Pd ∷ [])
     ∷ []
     ∷ (Is ∷ Ku ∷ Pu ∷ Kd ∷ Pd ∷ [])
+    ∷ []
     ∷ []
 unfolding reach
 EE-kinds = refl
@@ -239,18 +245,19 @@ E0-lacking E = refl
 
 -- E1: a forward edge stands if any letter holds
 E1-kinds : reach (stands Flow.forward) meeting
-    ≡ (Ks ∷ Ps ∷ Ku ∷ Pu ∷ Kd ∷ Pd ∷ [])
+    ≡ (Ks ∷ Ps ∷ Ku ∷ Pu ∷ Kd ∷ Pd ∷ Kl ∷ [])
     ∷ (Ku ∷ Pu ∷ Kd ∷ Pd ∷ [])
     ∷ (Is ∷ Ku ∷ Pu ∷ Kd ∷ Pd ∷ [])
-    ∷ (Ks ∷ Ps ∷ Ku ∷ Pu ∷ Kd ∷ Pd ∷ [])
-    ∷ (Is ∷ Ks ∷ Ps ∷ Ku ∷ Pu ∷ Kd ∷ Pd ∷ [])
+    ∷ (Ks ∷ Ps ∷ Ku ∷ Pu ∷ Kd ∷ Pd ∷ Kl ∷ [])
+    ∷ (Is ∷ Ks ∷ Ps ∷ Ku ∷ Pu ∷ Kd ∷ Pd ∷ Kl ∷ [])
     ∷ (Ps ∷ Pu ∷ Pd ∷ [])
     ∷ (Is ∷ Ps ∷ Ku ∷ Pu ∷ Kd ∷ Pd ∷ [])
+    ∷ (Ku ∷ Pu ∷ Kd ∷ Pd ∷ [])
     ∷ []
 unfolding reach
 E1-kinds = refl
 
--- E2: a back edge stands if E holds, or D where the first is ks or ps
+-- E2: a back edge stands if E holds, or D where the first is ks or ps (Req 03: not kl)
 E2-kinds : reach (stands Flow.back) meeting
     ≡ []
     ∷ (Ku ∷ Pu ∷ Kd ∷ Pd ∷ [])
@@ -260,10 +267,11 @@ E2-kinds : reach (stands Flow.back) meeting
     ∷ []
     ∷ (Is ∷ Ku ∷ Pu ∷ Kd ∷ Pd ∷ [])
     ∷ []
+    ∷ []
 unfolding reach
 E2-kinds = refl
 
--- E2: D alone gives a back edge from ks and ps, and none from ku and pu
+-- E2, Req 03: D alone gives a back edge from ks and ps, and none from ku, pu and kl
 E2-select : (between (ks 0 0 2) (ku 0 0 0 2) ≡ edge 0 0 1 0 Flow.forward D 1 1 ∷ edge 0 0 1 0 Flow.back D 1 1 ∷ [])
     × (between (ps 0 0 2 0) (ku 0 0 0 2) ≡ edge 0 0 1 0 Flow.forward D 1 1 ∷ edge 0 0 1 0 Flow.back D 1 1 ∷ [])
 unfolding between
@@ -271,8 +279,59 @@ E2-select = (refl, refl)
 
 E2-update : (between (ku 0 0 2 4) (ku 0 0 0 2) ≡ edge 0 0 1 0 Flow.forward D 1 1 ∷ [])
     × (between (pu 0 0 2 4 0) (ku 0 0 0 2) ≡ edge 0 0 1 0 Flow.forward D 1 1 ∷ [])
+    × (between (kl 0 0 2) (ku 0 0 0 2) ≡ edge 0 0 1 0 Flow.forward D 1 1 ∷ [])
 unfolding between
-E2-update = (refl, refl)
+E2-update = (refl, refl, refl)
+
+-- this place with a statement of this kind and the same values
+abbrev ofKind : StatementKind → Place → Place
+ofKind k s =
+    let p = at s in
+    record {
+      number = s .number;
+      node = s .node;
+      place = s .place;
+      occurrence =
+          record {
+            statement = record { kind = k; id = p .id; relation = p .relation; reads = p .reads; writes = p .writes; tests = p .tests };
+            path = s .occurrence .path;
+          };
+    }
+
+-- E1, Req 03: whatever stands at the other place, a kl has the forward edges of a ks
+E1-lock : (s t : Place) → (forward (ofKind Kl s) t ≡ forward (ofKind Ks s) t) × (forward t (ofKind Kl s) ≡ forward t (ofKind Ks s))
+unfolding edges
+E1-lock s t = (refl, refl)
+
+-- E6, Req 03: by the same letters, with the same attributes shared
+abbrev AsOfSelect : Letter → Place → Place → Type 0
+AsOfSelect x s t =
+    let lock = at (ofKind Kl s) in
+    let select = at (ofKind Ks s) in
+    (holds x lock (at t) ≡ holds x select (at t)) × (shared x lock (at t) ≡ shared x select (at t))
+    × (holds x (at t) lock ≡ holds x (at t) select) × (shared x (at t) lock ≡ shared x (at t) select)
+
+E6-lock : (x : Letter) (s t : Place) → AsOfSelect x s t
+unfolding W R T holds shared
+E6-lock A s t = (refl, refl, refl, refl)
+E6-lock B s t = (refl, refl, refl, refl)
+E6-lock C s t = (refl, refl, refl, refl)
+E6-lock D s t = (refl, refl, refl, refl)
+E6-lock E s t = (refl, refl, refl, refl)
+
+-- E2, Req 03: and no back edge leaves it
+E2-lock : (s t : Place) → back (ofKind Kl s) t ≡ false
+unfolding edges
+E2-lock s t = go (sameRelation (at s) (at t))
+  where
+    go : (b : Bool) → (b && false) ≡ false
+    go true = refl
+    go false = refl
+
+-- E2, Req 03: those that enter it are those of a ks, none
+E2-into-lock : (s t : Place) → back t (ofKind Kl s) ≡ back t (ofKind Ks s)
+unfolding edges
+E2-into-lock s t = refl
 
 -- E0: no edge between statements over two relations
 E0-two-relations : map {B = ℕ × ℕ} (λ e. (e .leaves, e .enters)) (edges (rl 0 3 ∷ rl 1 3 ∷ pr 0 ∷ pu 0 0 3 3 3 ∷ pu 1 1 3 3 3 ∷ []))
@@ -446,24 +505,44 @@ E3-second-key : backs (family (ks 0 0 2 ∷ ku 1 0 0 1 ∷ ks 2 1 2 ∷ li 0 2 0
 unfolding backs
 E3-second-key = refl
 
--- E3: a parent of kind is, ku or kd shields, on either side; for the kinds is ks ps ku pu kd pd in turn
+-- E3, Req 03: a parent of kind is, ku, kd or kl shields, on either side; for the kinds is ks ps ku pu kd pd kl in turn
 -- (a text links no parent of kind ps, pu or pd)
 abbrev parents : List Line
-parents = is 0 0 3 ∷ ks 0 0 1 ∷ ps 0 0 1 1 ∷ ku 0 0 1 1 ∷ pu 0 0 1 1 1 ∷ kd 0 0 3 ∷ pd 0 0 3 1 ∷ []
+parents = is 0 0 3 ∷ ks 0 0 1 ∷ ps 0 0 1 1 ∷ ku 0 0 1 1 ∷ pu 0 0 1 1 1 ∷ kd 0 0 3 ∷ pd 0 0 3 1 ∷ kl 0 0 1 ∷ []
 
 E3-near-kinds : map (λ parent. isBackEdge (family (parent ∷ ks 1 1 2 ∷ li 0 1 0 ∷ []) writer) 0 1 1 1) parents
-    ≡ false ∷ true ∷ true ∷ false ∷ true ∷ false ∷ true ∷ []
+    ≡ false ∷ true ∷ true ∷ false ∷ true ∷ false ∷ true ∷ false ∷ []
 unfolding isBackEdge
 E3-near-kinds = refl
 
 E3-far-kinds : map (λ parent. isBackEdge (family reader (parent ∷ ku 1 1 0 2 ∷ li 0 1 0 ∷ [])) 0 1 1 1) parents
-    ≡ false ∷ true ∷ true ∷ false ∷ true ∷ false ∷ true ∷ []
+    ≡ false ∷ true ∷ true ∷ false ∷ true ∷ false ∷ true ∷ false ∷ []
 unfolding isBackEdge
 E3-far-kinds = refl
 
+-- E3, Req 03: the near parent and the far one need not be of one kind, but each of a kind that shields; of the near kinds in turn, the far ones
+-- that shield with it
+E3-kinds-of-both :
+    map
+    (λ near. map
+    (λ l. l .kind)
+    (keep
+    (λ far. not (isBackEdge (family (near ∷ ks 1 1 2 ∷ li 0 1 0 ∷ []) (far ∷ ku 1 1 0 2 ∷ li 0 1 0 ∷ [])) 0 1 1 1))
+    parents))
+    parents
+    ≡ let those = St Is ∷ St Ku ∷ St Kd ∷ St Kl ∷ [] in
+    those ∷ [] ∷ [] ∷ those ∷ [] ∷ those ∷ [] ∷ those ∷ []
+unfolding isBackEdge
+E3-kinds-of-both = refl
+
+-- E3, Req 03: near, after the child, none of them shields (the parents of this list have id 0 and the child 1, so no text has these lines)
+E3-near-late-kinds : map (λ parent. isBackEdge (family (ks 1 1 2 ∷ parent ∷ li 0 1 0 ∷ []) writer) 0 0 1 1) parents ≡ replicate 8 true
+unfolding isBackEdge
+E3-near-late-kinds = refl
+
 -- Req 02: and after the child: a ks shields nowhere (the parents of this list have id 0 and the child 1, so no text has these lines)
 E3-far-late-kinds : map (λ parent. isBackEdge (family reader (ku 1 1 0 2 ∷ parent ∷ li 0 1 0 ∷ [])) 0 1 1 0) parents
-    ≡ false ∷ true ∷ true ∷ false ∷ true ∷ false ∷ true ∷ []
+    ≡ false ∷ true ∷ true ∷ false ∷ true ∷ false ∷ true ∷ false ∷ []
 unfolding isBackEdge
 E3-far-late-kinds = refl
 

@@ -7,7 +7,7 @@ use Rattle.spec_base.specs.Basic.{keep, numbers}
 use Rattle.spec_text.specs.declared.Line.{Line}
 use Rattle.spec_text.specs.declared.LineKind.{LineKind}
 use Rattle.spec_text.specs.declared.LineKind.the-variants.{Rl, Fk, Pr, St, Lo, Br, El, En, Li}
-use Rattle.spec_text.specs.declared.StatementKind.the-variants.{Is, Ks, Ps, Ku, Pu, Kd, Pd}
+use Rattle.spec_text.specs.declared.StatementKind.the-variants.{Is, Ks, Ps, Ku, Pu, Kd, Pd, Kl}
 use Rattle.spec_graph.specs.Graph.{Flow, Graph, isBack}
 use Rattle.spec_graph.specs.Program.{statementOf, inFrontOf, runOf, programsOf, linksOf}
 use Rattle.spec_graph.specs.Unfolding.{inside, occurrences, pairs, unfoldings, nodesOfProgram, nodesFrom, nodesOf}
@@ -51,6 +51,9 @@ kd id rel writes = line (St Kd) id rel 0 0 writes 0
 
 abbrev pub pd : ℕ → ℕ → ℕ → ℕ → Line
 pd id rel writes tests = line (St Pd) id rel 0 0 writes tests
+
+abbrev pub kl : ℕ → ℕ → ℕ → Line
+kl id rel reads = line (St Kl) id rel 0 reads 0 0
 
 abbrev pub lo : Line
 lo = line Lo 0 0 0 0 0 0

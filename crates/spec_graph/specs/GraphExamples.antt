@@ -1,16 +1,16 @@
 -- Small workloads that pin each rule of unfoldings (U) and walks (W).
-use mathlib.Core.Bool.{Bool, true, false, not, false≢true}
+use mathlib.Core.Bool.{Bool, true, false, cond, not, _&&_, _||_, false≢true}
 use mathlib.Core.List.{List, [], _∷_, _++_, map, flatMap}
 use mathlib.Core.Option.{none, some}
 use mathlib.Core.Path.{_≡_, refl}
 use Prim.Native.Nat.{ℕ}
-use lib.Dec.{eqb}
+use lib.Dec.{eqb, ltb}
 use lib.ListN.{replicate}
 use Rattle.spec_base.specs.Basic.{numbers}
 use Rattle.spec_text.specs.declared.Line.{Line}
 use Rattle.spec_text.specs.declared.LineKind.the-variants.{St}
 use Rattle.spec_text.specs.declared.StatementKind.the-variants.{Ks, Pu}
-use Rattle.spec_graph.specs.Graph.{Flow}
+use Rattle.spec_graph.specs.Graph.{Flow, isBack}
 use Rattle.spec_graph.specs.Program.{Run, statementOf, runOf, programsOf}
 use Rattle.spec_graph.specs.Program.Run.{done, next}
 use Rattle.spec_graph.specs.Program.Item.{statement, loop, branch}
@@ -18,10 +18,10 @@ use Rattle.spec_graph.specs.Unfolding.{Around, occurrences, nodesOf}
 use Rattle.spec_graph.specs.Unfolding.Execution.{end, step as then}
 use Rattle.spec_graph.specs.Unfolding.ItemExecution.{perform, turns, arm-one, arm-two}
 use Rattle.spec_graph.specs.Unfolding.Turns.{stop, turn}
-use Rattle.spec_graph.specs.Edge.{leads, placeAt}
+use Rattle.spec_graph.specs.Edge.{Edge, leads, placeAt}
 use Rattle.spec_graph.specs.Walk.{Step, isEdge, isDangerous, DangerousWalk}
-use Rattle.spec_graph.specs.ExampleText.{line, rl, fk, pr, is, ks, ps, ku, pu, kd, pd, lo, br, el, en, li, step}
-use Rattle.spec_graph.specs.ExampleText.{nodes, ids, graph, dangerous, sizes, base, twice, select-first}
+use Rattle.spec_graph.specs.ExampleText.{line, rl, fk, pr, is, ks, ps, ku, pu, kd, pd, kl, lo, br, el, en, li, step}
+use Rattle.spec_graph.specs.ExampleText.{nodes, ids, edges, graph, dangerous, sizes, base, twice, select-first}
 
 -- ---- H1: executions
 
@@ -311,11 +311,69 @@ W4-every-edge = refl
 abbrev leaving : Line → List Line
 leaving last = rl 0 1 ∷ rl 1 1 ∷ pr 0 ∷ is 0 1 1 ∷ last ∷ pr 1 ∷ pu 0 0 1 1 1 ∷ ps 1 1 1 1 ∷ []
 
--- W4: where c leaves later than e enters, the kinds ks, ps, pu and pd that e leaves make the pair dangerous;
--- for the kinds is ks ps ku pu kd pd in turn
+-- W4, Req 03: where c leaves later than e enters, the kinds ks, ps, pu and pd that e leaves make the pair dangerous, and kl does not;
+-- for the kinds is ks ps ku pu kd pd kl in turn
 W4-kinds : map
     (λ last. dangerous (leaving last) (step 0 1 0 Flow.forward ∷ step 1 1 0 Flow.back ∷ []))
-    (is 1 0 1 ∷ ks 1 0 1 ∷ ps 1 0 1 1 ∷ ku 1 0 1 1 ∷ pu 1 0 1 1 1 ∷ kd 1 0 1 ∷ pd 1 0 1 1 ∷ [])
-    ≡ false ∷ true ∷ true ∷ false ∷ true ∷ false ∷ true ∷ []
+    (is 1 0 1 ∷ ks 1 0 1 ∷ ps 1 0 1 1 ∷ ku 1 0 1 1 ∷ pu 1 0 1 1 1 ∷ kd 1 0 1 ∷ pd 1 0 1 1 ∷ kl 1 0 1 ∷ [])
+    ≡ false ∷ true ∷ true ∷ false ∷ true ∷ false ∷ true ∷ false ∷ []
 unfolding dangerous
 W4-kinds = refl
+
+-- ---- Req 03: a lock, and the kinds of the dangerous pair
+
+-- Parent rows 0, their children 1, and rows 2 and 3 by themselves. Program 0 locks a parent, looks at a child in this way and updates row 3;
+-- program 1 updates a child, selects row 2 and locks the child's parent last; program 2 updates both rows.
+abbrev threefold : Line → List Line
+threefold look =
+    rl 0 1 ∷ rl 1 1 ∷ rl 2 1 ∷ rl 3 1 ∷ fk 0 1 0
+    ∷ pr 0 ∷ kl 0 0 1 ∷ look ∷ ku 2 3 0 1 ∷ li 0 1 0
+    ∷ pr 1 ∷ ku 0 1 0 1 ∷ ks 1 2 1 ∷ kl 2 0 1 ∷ li 0 0 2
+    ∷ pr 2 ∷ ku 0 2 0 1 ∷ ku 1 3 0 1 ∷ []
+
+-- Program 0 sees the child before program 1 updates it, program 1 sees row 2 before program 2 updates it, and program 2 updates row 3 before
+-- program 0 does. Selects allow it: the locks only make program 1 wait with its own until program 0 has committed.
+abbrev roundabout : List Step
+roundabout = step 0 1 0 Flow.forward ∷ step 1 1 0 Flow.back ∷ step 2 1 2 Flow.forward ∷ []
+
+-- W4, Req 03: with ks the walk is dangerous, with kl it is not
+W4-lock : (dangerous (threefold (ks 1 1 1)) roundabout ≡ true) × (dangerous (threefold (kl 1 1 1)) roundabout ≡ false)
+unfolding dangerous
+W4-lock = (refl, refl)
+
+-- Both are closed walks of edges, and what makes the difference is the kind that the first edge leaves: it would make either dangerous, and
+-- where no kind does, neither is
+W4-lock-kinds :
+    map
+    (λ loose. map
+    (λ look. let g = graph (threefold look) in
+    isDangerous (record { size = g .size; places = g .places; edge = g .edge; loose = λ m i. loose }) roundabout)
+    (ks 1 1 1 ∷ kl 1 1 1 ∷ []))
+    (true ∷ false ∷ [])
+    ≡ (true ∷ true ∷ []) ∷ (false ∷ false ∷ []) ∷ []
+unfolding graph
+W4-lock-kinds = refl
+
+-- the pairs of an edge and a back edge out of the node that it enters that pass this test; as node and place left and entered
+pairs : List Line → (Edge → Edge → Bool) → List (List (ℕ × ℕ × ℕ × ℕ))
+unfolding edges
+pairs lines test =
+    flatMap
+    (λ e. flatMap
+    (λ c. cond
+    (eqb (e .into) (c .node) && isBack (c .flow) && test e c)
+    (map (λ s. (s .node, s .leaves, s .into, s .enters)) (e ∷ c ∷ []) ∷ [])
+    [])
+    (edges lines))
+    (edges lines)
+
+-- W4, Req 03: by flow or places no pair of these workloads is dangerous, so that no walk would be if the kinds did not count; by its kind one is,
+-- with ks, and none with kl
+W4-lock-pairs :
+    map {B = List (List (ℕ × ℕ × ℕ × ℕ)) × List (List (ℕ × ℕ × ℕ × ℕ))}
+    (λ look. let lines = threefold look in
+    (pairs lines (λ e c. isBack (e .flow) || ltb (c .leaves) (e .enters)), pairs lines (λ e c. graph lines .loose (e .node) (e .leaves))))
+    (ks 1 1 1 ∷ kl 1 1 1 ∷ [])
+    ≡ ([], ((0, 1, 1, 0) ∷ (1, 1, 2, 0) ∷ []) ∷ []) ∷ ([], []) ∷ []
+unfolding pairs graph
+W4-lock-pairs = refl

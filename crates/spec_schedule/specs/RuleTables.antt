@@ -3,13 +3,14 @@
 use mathlib.Core.Bool.{Bool, true, false, cond, not, _&&_, _||_}
 use mathlib.Core.List.{List, [], _∷_, _++_, map, flatMap}
 use mathlib.Core.Option.{Option, none, some}
-use mathlib.Core.Path.{_≡_, refl}
+use mathlib.Core.Path.{_≡_, refl, ap₂}
 use Prim.Native.Nat.{ℕ, zero, suc, _+_, _*_, _%_}
 use lib.Dec.{eqb}
 use lib.ListN.{length, getD}
-use Rattle.spec_base.specs.Basic.{all, numbers}
+use Rattle.spec_base.specs.Basic.{all, keep, numbers}
+use Rattle.law_base.specs.BoolLaws.{and-true, not-true}
 use Rattle.spec_schedule.specs.Event.{Action, Event, isRead, isPredicateRead, isInsert, isDelete, isCommit, isWrite, isLock, isClaim}
-use Rattle.spec_schedule.specs.Event.{committed, obeys, allObey}
+use Rattle.spec_schedule.specs.Event.{by, claims, writesOf, committed, waits, obeys, allObey}
 use Rattle.spec_schedule.specs.Event.Action.{read, lock, write, insert, delete, predicateRead, commit}
 use Rattle.spec_schedule.specs.ScheduleExamples.{event, openRules}
 
@@ -220,3 +221,33 @@ together-table :
     ≡ map (λ a. y ∷ y ∷ n ∷ n ∷ n ∷ n ∷ n ∷ []) accesses
 unfolding openRules
 together-table = refl
+
+-- ---- Req 03: without locks the rules are as they were
+
+claim-write : (a : Action) → isLock a ≡ false → isClaim a ≡ isWrite a
+claim-write a h = or-no (isWrite a) h
+  where
+    or-no : (b : Bool) → isLock a ≡ false → (b || isLock a) ≡ b
+    or-no true h = refl
+    or-no false h = h
+
+-- what is written or locked was written
+claims-written : (r t : ℕ) (past : List Event) → all (λ w. not (isLock (w .action))) past ≡ true → keep (claims r t) past ≡ writesOf r t past
+unfolding openRules
+claims-written r t [] h = refl
+claims-written r t (w ∷ past) h =
+    let u = and-true (not (isLock (w .action))) (all (λ v. not (isLock (v .action))) past) h in
+    ap₂ (λ b l. cond (b && eqb (w .relation) r && eqb (w .tuple) t) (w ∷ l) l)
+    (claim-write (w .action) (not-true (isLock (w .action)) (u .0)))
+    (claims-written r t past (u .1))
+
+-- H11: where nothing is locked, document 01's ban: no transaction writes a tuple between another's write of it and that one's commit
+waits-as-before : (past : List Event) (e : Event) → isLock (e .action) ≡ false → all (λ w. not (isLock (w .action))) past ≡ true
+    → waits past e
+    ≡ (not (isWrite (e .action))
+    || all (λ w. by (e .transaction) w || committed past (w .transaction)) (writesOf (e .relation) (e .tuple) past))
+unfolding waits
+waits-as-before past e h k =
+    ap₂ (λ b l. not b || all (λ (w : Event). by (e .transaction) w || committed past (w .transaction)) l)
+    (claim-write (e .action) h)
+    (claims-written (e .relation) (e .tuple) past k)

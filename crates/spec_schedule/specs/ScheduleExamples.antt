@@ -142,6 +142,11 @@ select-one : operations (alone Ks) ≡ operation 0 read 5 7 1 ∷ last
 unfolding openWorkload
 select-one = refl
 
+-- H2, Req 03: kl gives one lock of one tuple, with what it reads
+lock-one : operations (alone Kl) ≡ operation 0 lock 5 7 1 ∷ last
+unfolding openWorkload
+lock-one = refl
+
 -- H2: ku gives a read and a write of one tuple
 update-one : operations (alone Ku) ≡ operation 0 read 5 7 1 ∷ operation 0 write 5 7 2 ∷ last
 unfolding openWorkload
@@ -312,6 +317,22 @@ read-gone : rules (does 0 0 delete 0 ∷ does 0 1 commit 0 ∷ does 1 0 read 0 �
 unfolding openRules
 read-gone = refl
 
+-- H6, H10, Req 03: a lock meets what a read meets: the visible start; not an unborn tuple; what was inserted by itself, or by another that has
+-- committed and not before; not what was deleted by itself, or by another that has committed
+lock-meets :
+    map rules
+    ((does 0 0 lock 0 ∷ [])
+    ∷ (does 0 0 lock 1 ∷ [])
+    ∷ (does 0 0 insert 1 ∷ does 0 1 lock 1 ∷ [])
+    ∷ (does 0 0 insert 1 ∷ does 0 1 commit 0 ∷ does 1 0 lock 1 ∷ [])
+    ∷ (does 0 0 insert 1 ∷ does 1 0 lock 1 ∷ [])
+    ∷ (does 0 0 delete 0 ∷ does 0 1 lock 0 ∷ [])
+    ∷ (does 0 0 delete 0 ∷ does 0 1 commit 0 ∷ does 1 0 lock 0 ∷ [])
+    ∷ [])
+    ≡ true ∷ false ∷ true ∷ true ∷ false ∷ false ∷ false ∷ []
+unfolding openRules
+lock-meets = refl
+
 -- H6: what is written or deleted is visible in the latest version
 write-visible : rules (does 0 0 insert 1 ∷ does 0 1 write 1 ∷ does 0 2 delete 1 ∷ []) ≡ true
 unfolding openRules
@@ -321,12 +342,18 @@ delete-unborn : rules (does 0 0 delete 1 ∷ []) ≡ false
 unfolding openRules
 delete-unborn = refl
 
--- H9: the writes of a tuple, latest first; inserts and deletes are writes; reads and other tuples do not count
+-- H9, Req 03: the writes of a tuple, latest first; inserts and deletes are writes; reads, locks and other tuples do not count
 versions : writesOf 0 1
-    (does 1 2 delete 1 ∷ does 1 1 write 2 ∷ does 1 0 read 1 ∷ does 0 1 write 1 ∷ event 0 1 1 write 3 1 1 ∷ does 0 0 insert 1 ∷ [])
-    ≡ does 1 2 delete 1 ∷ does 0 1 write 1 ∷ does 0 0 insert 1 ∷ []
+    (does 1 3 delete 1 ∷ does 1 2 lock 1 ∷ does 1 1 write 2 ∷ does 1 0 read 1 ∷ does 0 1 write 1 ∷ event 0 1 1 write 3 1 1 ∷ does 0 0 insert 1 ∷ [])
+    ≡ does 1 3 delete 1 ∷ does 0 1 write 1 ∷ does 0 0 insert 1 ∷ []
 unfolding openRules
 versions = refl
+
+-- H9, H10, Req 03: a lock makes no version: each tuple has the writes that it had, and each transaction sees of it what it saw, whoever locks
+lock-no-version : (past : List Event) (i k p r t x : ℕ) (j s u : ℕ)
+    → (writesOf s u (event i k p lock r t x ∷ past) ≡ writesOf s u past) × (seen (event i k p lock r t x ∷ past) j s u ≡ seen past j s u)
+unfolding openRules
+lock-no-version past i k p r t x j s u = (refl, refl)
 
 -- transaction 0 has written tuple 0 and committed, then transaction 1 has written it
 abbrev writtenTwice : List Event
@@ -394,6 +421,53 @@ delete-early = refl
 delete-late : rules (does 0 0 insert 1 ∷ does 0 1 commit 0 ∷ does 1 0 delete 1 ∷ []) ≡ true
 unfolding openRules
 delete-late = refl
+
+-- H11, Req 03: nor writes or locks it between another's write or lock of it and that one's commit; pairs of what is done to tuple 0, of which the
+-- second may come after the first only when that one is committed
+abbrev claimsOfTwo : List (Action × Action)
+claimsOfTwo = (lock, lock) ∷ (lock, write) ∷ (lock, delete) ∷ (write, lock) ∷ []
+
+lock-early : map (λ c. rules (does 0 0 (c .0) 0 ∷ does 1 0 (c .1) 0 ∷ [])) claimsOfTwo ≡ replicate 4 false
+unfolding openRules
+lock-early = refl
+
+lock-late : map (λ c. rules (does 0 0 (c .0) 0 ∷ does 0 1 commit 0 ∷ does 1 0 (c .1) 0 ∷ [])) claimsOfTwo ≡ replicate 4 true
+unfolding openRules
+lock-late = refl
+
+-- H11, Req 03: a transaction's own locks and writes do not bar it
+lock-own : map (λ c. rules (does 0 0 (c .0) 0 ∷ does 0 1 (c .1) 0 ∷ [])) claimsOfTwo ≡ replicate 4 true
+unfolding openRules
+lock-own = refl
+
+-- H11, Req 03: another's lock lasts until its commit, whatever it does in between, and whoever else commits
+lock-lasts :
+    map
+    (λ between. rules (does 0 0 lock 0 ∷ between ++ (does 1 0 lock 0 ∷ [])))
+    ((does 0 1 read 0 ∷ [])
+    ∷ (does 0 1 lock 0 ∷ [])
+    ∷ (does 0 1 write 0 ∷ [])
+    ∷ (does 0 1 insert 1 ∷ does 0 2 write 1 ∷ [])
+    ∷ (event 0 1 1 lock 3 0 1 ∷ [])
+    ∷ (does 2 0 read 0 ∷ does 2 1 commit 0 ∷ [])
+    ∷ (does 0 1 insert 1 ∷ does 0 2 commit 0 ∷ [])
+    ∷ [])
+    ≡ replicate 6 false ++ (true ∷ [])
+unfolding openRules
+lock-lasts = refl
+
+-- H11, Req 03: a lock is of its tuple alone: another tuple, and the tuple of this number of another relation, may be locked and written
+lock-elsewhere : map (λ e. rules (event 0 0 0 lock 0 0 1 ∷ e ∷ []))
+    (event 1 0 0 insert 0 1 1 ∷ event 1 0 0 lock 3 0 1 ∷ event 1 0 0 write 3 0 1 ∷ event 1 0 0 lock 0 0 1 ∷ [])
+    ≡ true ∷ true ∷ true ∷ false ∷ []
+unfolding openRules
+lock-elsewhere = refl
+
+-- Req 03: a plain read and a predicate read wait for no lock, and no lock for them
+lock-and-read : map (λ a. rules (does 0 0 lock 0 ∷ does 1 0 a 0 ∷ []) && rules (does 0 0 a 0 ∷ does 1 0 lock 0 ∷ [])) (read ∷ predicateRead ∷ [])
+    ≡ true ∷ true ∷ []
+unfolding openRules
+lock-and-read = refl
 
 -- an insert, then a write of attribute 0, then one of attribute 1, latest first
 abbrev thrice : List Event
@@ -770,8 +844,11 @@ state-first : stateAt mixed 0 0 0 ≡ []
 unfolding openRules
 state-first = refl
 
--- X3: a write, an insert and a delete join their tuple's list; X6: no step is refused
-state-joins : stateAt (does 0 0 delete 0 ∷ does 1 0 write 0 ∷ does 1 1 read 0 ∷ does 2 0 insert 0 ∷ does 2 1 write 1 ∷ []) 5 0 0
+-- X3, Req 03: a write, an insert and a delete join their tuple's list, a read and a lock do not; X6: no step is refused
+state-joins :
+    stateAt
+    (does 0 0 delete 0 ∷ does 0 1 lock 0 ∷ does 1 0 write 0 ∷ does 1 1 read 0 ∷ does 2 0 insert 0 ∷ does 2 1 write 1 ∷ does 2 2 lock 0 ∷ [])
+    7 0 0
     ≡ does 2 0 insert 0 ∷ does 1 0 write 0 ∷ does 0 0 delete 0 ∷ []
 unfolding openRules
 state-joins = refl

@@ -15,8 +15,8 @@ use Rattle.law_base.specs.BoolLaws.{true-false, and-of, not-true}
 use Rattle.law_base.specs.ListLaws.{all-true, keep-all, some-injective, getElem?-member}
 use Rattle.law_base.specs.SetLaws.{has-below}
 use Rattle.spec_text.specs.declared.Line.{Line}
-use Rattle.spec_schedule.specs.Event.{Event, by, isRead, isPredicateRead, pastAt, writesOf, seen, source, existence}
-use Rattle.spec_schedule.specs.Event.Action.{read, write, insert, delete, predicateRead, commit}
+use Rattle.spec_schedule.specs.Event.{Action, Event, by, isRead, isPredicateRead, pastAt, writesOf, seen, source, existence}
+use Rattle.spec_schedule.specs.Event.Action.{read, lock, write, insert, delete, predicateRead, commit}
 use Rattle.spec_schedule.specs.Schedule.{Transaction, Schedule, everyAttribute, eventsOf}
 use Rattle.spec_schedule.specs.Serial.{serialRun, stateAt, SameRead, SamePredicateRead, SerialOrder}
 use Rattle.spec_schedule.specs.ScheduleExamples.{event, openRules}
@@ -33,41 +33,41 @@ state-elsewhere = refl
 apart : {d e : Event} → some d ≡ some e → eqb (d .transaction) (e .transaction) ≡ false → ⊥
 apart {d} {e} h f = true-false (eq-eqb (d .transaction) (e .transaction) (ap (λ c. c .transaction) (some-injective h))) f
 
--- transaction 2 writes and commits, transaction 0 writes, transaction 1 reads
+-- transaction 2 writes and commits, transaction 0 writes, transaction 1 reads, by a read or a lock
 abbrev written : Event
 written = event 2 0 0 write 3 5 everyAttribute
 
 abbrev unseen : Event
 unseen = event 0 0 0 write 3 5 everyAttribute
 
-abbrev reading : Event
-reading = event 1 0 0 read 3 5 1
+abbrev reading : Action → Event
+reading action = event 1 0 0 action 3 5 1
 
-abbrev readLast : List Event
-readLast = written ∷ event 2 1 1 commit 0 0 0 ∷ unseen ∷ reading ∷ []
+abbrev readLast : Action → List Event
+readLast action = written ∷ event 2 1 1 commit 0 0 0 ∷ unseen ∷ reading action ∷ []
 
--- X4: the read takes the committed write, also where the state has a later one of an attribute that is not read
-read-committed : SameRead readLast 3 reading (λ r t. event 4 0 0 write 3 5 2 ∷ written ∷ [])
+-- X4, Req 03: it takes the committed write, also where the state has a later one of an attribute that is not read
+read-committed : (action : Action) → SameRead (readLast action) 3 (reading action) (λ r t. event 4 0 0 write 3 5 2 ∷ written ∷ [])
 unfolding openRules
-read-committed zero h = refl
-read-committed (suc a) h = absurd (not-suc-le-zero (le-of-suc-le-suc (has-below 1 1 (suc a) (suc-le-suc (suc-le-suc zero-le)) h)))
+read-committed action zero h = refl
+read-committed action (suc a) h = absurd (not-suc-le-zero (le-of-suc-le-suc (has-below 1 1 (suc a) (suc-le-suc (suc-le-suc zero-le)) h)))
 
 -- attribute 63 alone is read
 abbrev highest : ℕ
 highest = 0x8000_0000_0000_0000
 
-abbrev readHighest : List Event
-readHighest = written ∷ event 2 1 1 commit 0 0 0 ∷ unseen ∷ event 1 0 0 read 3 5 highest ∷ []
+abbrev readHighest : Action → List Event
+readHighest action = written ∷ event 2 1 1 commit 0 0 0 ∷ unseen ∷ event 1 0 0 action 3 5 highest ∷ []
 
 -- not the latest write, nor the one that transaction 0 sees
-read-latest : SameRead readHighest 3 (event 1 0 0 read 3 5 highest) (λ r t. unseen ∷ written ∷ []) → ⊥
+read-latest : (action : Action) → SameRead (readHighest action) 3 (event 1 0 0 action 3 5 highest) (λ r t. unseen ∷ written ∷ []) → ⊥
 unfolding openRules
-read-latest f = apart (f 63 refl) refl
+read-latest action f = apart (f 63 refl) refl
 
 -- not the start
-read-start : SameRead readHighest 3 (event 1 0 0 read 3 5 highest) (λ r t. []) → ⊥
+read-start : (action : Action) → SameRead (readHighest action) 3 (event 1 0 0 action 3 5 highest) (λ r t. []) → ⊥
 unfolding openRules
-read-start f = Option·some-ne-none _ (f 63 refl)
+read-start action f = Option·some-ne-none _ (f 63 refl)
 
 -- the same with a predicate read of the relation
 abbrev testing : Event
@@ -141,19 +141,28 @@ twoOf d e = d ∷ event 0 1 1 commit 0 0 0 ∷ e ∷ event 1 1 1 commit 0 0 0 �
 abbrev turned : Event → Event → List Event
 turned d e = e ∷ event 1 1 1 commit 0 0 0 ∷ d ∷ event 0 1 1 commit 0 0 0 ∷ []
 
--- a read that has seen a write is not served by an order in which it comes first
-reads-count : (s : SerialOrder 2 (twoOf unseen reading)) → s .order ≡ 1 ∷ 0 ∷ [] → ⊥
+-- what has read a write is not served by an order in which it comes first
+not-turned : (action : Action) → isRead action ≡ true → (s : SerialOrder 2 (twoOf unseen (reading action))) → s .order ≡ 1 ∷ 0 ∷ [] → ⊥
 unfolding openRules
-reads-count s e = go (subst
-    (λ o. (k : ℕ) × (getElem? (serialRun o (twoOf unseen reading)) k ≡ some reading)
-    × SameRead (twoOf unseen reading) 2 reading (stateAt (serialRun o (twoOf unseen reading)) k))
-    e (s .reads 2 reading refl refl))
+not-turned action r s e = go (subst
+    (λ o. (k : ℕ) × (getElem? (serialRun o (twoOf unseen (reading action))) k ≡ some (reading action))
+    × SameRead (twoOf unseen (reading action)) 2 (reading action) (stateAt (serialRun o (twoOf unseen (reading action))) k))
+    e (s .reads 2 (reading action) refl r))
   where
-    go : (k : ℕ) × (getElem? (turned unseen reading) k ≡ some reading)
-        × SameRead (twoOf unseen reading) 2 reading (stateAt (turned unseen reading) k) → ⊥
+    go : (k : ℕ) × (getElem? (turned unseen (reading action)) k ≡ some (reading action))
+        × SameRead (twoOf unseen (reading action)) 2 (reading action) (stateAt (turned unseen (reading action)) k) → ⊥
     go (k, h, f) =
-        let z : k ≡ 0 = at-head reading (event 1 1 1 commit 0 0 0 ∷ unseen ∷ event 0 1 1 commit 0 0 0 ∷ []) refl k h in
-        Option·some-ne-none _ (subst (λ j. SameRead (twoOf unseen reading) 2 reading (stateAt (turned unseen reading) j)) z f 0 refl)
+        let z : k ≡ 0 = at-head (reading action) (event 1 1 1 commit 0 0 0 ∷ unseen ∷ event 0 1 1 commit 0 0 0 ∷ []) refl k h in
+        Option·some-ne-none _
+        (subst (λ j. SameRead (twoOf unseen (reading action)) 2 (reading action) (stateAt (turned unseen (reading action)) j)) z f 0 refl)
+
+-- so it is with a read
+reads-count : (s : SerialOrder 2 (twoOf unseen (reading read))) → s .order ≡ 1 ∷ 0 ∷ [] → ⊥
+reads-count = not-turned read refl
+
+-- Req 03: and with a lock
+locks-count : (s : SerialOrder 2 (twoOf unseen (reading lock))) → s .order ≡ 1 ∷ 0 ∷ [] → ⊥
+locks-count = not-turned lock refl
 
 -- nor a predicate read that has seen an insert, even where it tests nothing
 abbrev born : Event
@@ -172,9 +181,9 @@ predicate-reads-count s e = go (subst
         let z : k ≡ 0 = at-head listing (event 1 1 1 commit 0 0 0 ∷ born ∷ event 0 1 1 commit 0 0 0 ∷ []) refl k h in
         Option·some-ne-none _ (subst (λ j. SamePredicateRead (twoOf born listing) 2 listing (stateAt (turned born listing) j)) z f .exists 5)
 
--- one transaction by itself is served by its own order
+-- one transaction by itself, here with a read and a lock, is served by its own order
 abbrev single : List Event
-single = unseen ∷ event 0 1 1 read 3 5 1 ∷ event 0 2 2 commit 0 0 0 ∷ []
+single = unseen ∷ event 0 1 1 read 3 5 1 ∷ event 0 2 2 lock 3 5 2 ∷ event 0 3 3 commit 0 0 0 ∷ []
 
 single-serves : SerialOrder 1 single
 unfolding openRules
@@ -192,24 +201,26 @@ single-serves =
     once zero = refl
     once (suc i) = rw (ne-eqb (suc i) 0 (λ e. omega arith), le-ltb (suc i) 1 (omega arith))
 
+    same-at : ℕ → Event → ℕ → Type 0
+    same-at k d a =
+        source (seen (pastAt single k) (d .transaction) (d .relation) (d .tuple)) a
+        ≡ source (stateAt (serialRun (0 ∷ []) single) k (d .relation) (d .tuple)) a
+
     reads : (n : ℕ) (e : Event) → getElem? single n ≡ some e → isRead (e .action) ≡ true
         → (k : ℕ) × (getElem? (serialRun (0 ∷ []) single) k ≡ some e) × SameRead single n e (stateAt (serialRun (0 ∷ []) single) k)
     reads zero e h r = absurd (false≢true (ap (λ d. isRead (d .action)) (some-injective h) ∙ r))
-    reads (suc zero) e h r = (
-      1,
-      h,
-      λ a b. subst (λ d. source (seen (pastAt single 1) (d .transaction) (d .relation) (d .tuple)) a
-          ≡ source (stateAt (serialRun (0 ∷ []) single) 1 (d .relation) (d .tuple)) a) (some-injective h) refl,
-    )
-    reads (suc (suc zero)) e h r = absurd (false≢true (ap (λ d. isRead (d .action)) (some-injective h) ∙ r))
-    reads (suc (suc (suc n))) e h r = absurd (Option·none-ne-some e h)
+    reads (suc zero) e h r = (1, h, λ a b. subst (λ d. same-at 1 d a) (some-injective h) refl)
+    reads (suc (suc zero)) e h r = (2, h, λ a b. subst (λ d. same-at 2 d a) (some-injective h) refl)
+    reads (suc (suc (suc zero))) e h r = absurd (false≢true (ap (λ d. isRead (d .action)) (some-injective h) ∙ r))
+    reads (suc (suc (suc (suc n)))) e h r = absurd (Option·none-ne-some e h)
 
     none-such : (n : ℕ) (e : Event) → getElem? single n ≡ some e → isPredicateRead (e .action) ≡ true
         → (k : ℕ) × (getElem? (serialRun (0 ∷ []) single) k ≡ some e) × SamePredicateRead single n e (stateAt (serialRun (0 ∷ []) single) k)
     none-such zero e h r = absurd (false≢true (ap (λ d. isPredicateRead (d .action)) (some-injective h) ∙ r))
     none-such (suc zero) e h r = absurd (false≢true (ap (λ d. isPredicateRead (d .action)) (some-injective h) ∙ r))
     none-such (suc (suc zero)) e h r = absurd (false≢true (ap (λ d. isPredicateRead (d .action)) (some-injective h) ∙ r))
-    none-such (suc (suc (suc n))) e h r = absurd (Option·none-ne-some e h)
+    none-such (suc (suc (suc zero))) e h r = absurd (false≢true (ap (λ d. isPredicateRead (d .action)) (some-injective h) ∙ r))
+    none-such (suc (suc (suc (suc n)))) e h r = absurd (Option·none-ne-some e h)
 
 -- ---- H8: a schedule is whole
 

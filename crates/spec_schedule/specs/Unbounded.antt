@@ -20,7 +20,8 @@ use Rattle.spec_text.specs.declared.LineKind.the-variants.{Pr}
 use Rattle.spec_graph.specs.Program.{programsOf}
 use Rattle.spec_graph.specs.Program.Run.{done}
 use Rattle.spec_graph.specs.Unfolding.Execution.{end}
-use Rattle.spec_schedule.specs.Event.{Action, Event, by, isInsert, isDelete, isWrite, isClaim, writesTo, claims, writesOf, committed, seen, visible, existence}
+use Rattle.spec_schedule.specs.Event.{Action, Event, by, isInsert, isDelete, isWrite, isClaim, writesTo, claims, writesOf}
+use Rattle.spec_schedule.specs.Event.{committed, seen, visible, existence}
 use Rattle.spec_schedule.specs.Event.{insertsFirst, deletesLast, meetsVisible, waits, sameStatement, together, obeys, allObey}
 use Rattle.spec_schedule.specs.Event.Action.{read, lock, write, insert, delete, predicateRead, commit}
 use Rattle.spec_schedule.specs.Schedule.{Transaction, Schedule, eventsOf, keysKept}
@@ -116,7 +117,8 @@ module _ (start : ℕ → ℕ → Bool) (past : List Event) (e : Event) (fit : f
   waits-met : waits past e ≡ true
   unfolding waits
   waits-met =
-      let h : all (λ w. by (e .transaction) w || committed past (w .transaction)) (keep (claims (e .relation) (e .tuple)) past) ≡ true = rw none-kept in
+      let claimed = keep (claims (e .relation) (e .tuple)) past in
+      let h : all (λ w. by (e .transaction) w || committed past (w .transaction)) claimed ≡ true = rw none-kept in
       or-right (not (isClaim (e .action))) h
 
   together-met : together past e ≡ true

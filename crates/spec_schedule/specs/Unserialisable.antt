@@ -1,9 +1,13 @@
 -- A schedule that meets every rule and has no serial order: two runs of one program read a tuple and then overwrite it, and both
 -- read before either writes. So `SerialOrder` is no empty demand, and Read Committed alone does not give it.
-use mathlib.Core.Bool.{true}
-use mathlib.Core.List.{List, [], _∷_, List·Memᴰ}
+-- With a lock in place of the read (Req 03) they must wait for one another, and have an order.
+use mathlib.Core.Bool.{true, false, _&&_}
+use mathlib.Core.List.{List, [], _∷_, _++_, map, List·Memᴰ}
 use mathlib.Core.List.List·Memᴰ.{List·Memᴰ·head}
 use mathlib.Core.Path.{_≡_, refl}
+use Prim.Native.Nat.{ℕ}
+use lib.ListN.{getD}
+use Rattle.spec_base.specs.Basic.{all, numbers}
 use Rattle.spec_text.specs.declared.Line.{Line}
 use Rattle.spec_text.specs.declared.LineKind.the-variants.{Rl, Pr, St}
 use Rattle.spec_text.specs.declared.StatementKind.the-variants.{Ks, Ku}
@@ -17,11 +21,11 @@ use Rattle.spec_graph.specs.Program.Item.{statement}
 use Rattle.spec_graph.specs.Program.Run.{done, next}
 use Rattle.spec_graph.specs.Unfolding.Execution.{end, step}
 use Rattle.spec_graph.specs.Unfolding.ItemExecution.{perform}
-use Rattle.spec_schedule.specs.Event.{Event}
-use Rattle.spec_schedule.specs.Event.Action.{read, write, commit}
+use Rattle.spec_schedule.specs.Event.{Action, Event, pastAt, insertsFirst, deletesLast, meetsVisible, waits, together, allObey}
+use Rattle.spec_schedule.specs.Event.Action.{read, lock, write, commit}
 use Rattle.spec_schedule.specs.Schedule.{Transaction, Schedule}
-use Rattle.spec_schedule.specs.Serial.{Serialisable}
-use Rattle.spec_schedule.specs.SerialTest.{none-of-two, openTest}
+use Rattle.spec_schedule.specs.Serial.{Serialisable, SerialOrder}
+use Rattle.spec_schedule.specs.SerialTest.{serialTest, none-of-two, openTest}
 use Rattle.spec_schedule.specs.ScheduleExamples.{line, says, event, openWorkload, openRules, no-program, one-program, wholes}
 
 -- rl 0 - - 1 - -
@@ -45,18 +49,16 @@ dangerous =
 abbrev pub run : Transaction
 run = record { program = program; execution = step perform (step perform end); tuple = λ i. 0; tuples = λ i. [] }
 
--- both read, then the first writes and commits, then the second
+-- what run i does after its first read: it writes and commits
+abbrev pub overwrites : ℕ → List Event
+overwrites i = event i 1 1 read 0 0 0 ∷ event i 2 1 write 0 0 1 ∷ event i 3 2 commit 0 0 0 ∷ []
+
+-- both read, by this action, then the first writes and commits, then the second
+abbrev pub bothFirst : Action → List Event
+bothFirst action = event 0 0 0 action 0 0 1 ∷ event 1 0 0 action 0 0 1 ∷ overwrites 0 ++ overwrites 1
+
 abbrev pub events : List Event
-events =
-    event 0 0 0 read 0 0 1
-    ∷ event 1 0 0 read 0 0 1
-    ∷ event 0 1 1 read 0 0 0
-    ∷ event 0 2 1 write 0 0 1
-    ∷ event 0 3 2 commit 0 0 0
-    ∷ event 1 1 1 read 0 0 0
-    ∷ event 1 2 1 write 0 0 1
-    ∷ event 1 3 2 commit 0 0 0
-    ∷ []
+events = bothFirst read
 
 pub lostUpdate : Schedule lines
 unfolding openWorkload openRules
@@ -79,3 +81,39 @@ lostUpdate =
 pub no-order : Serialisable lostUpdate → ⊥
 unfolding openTest lostUpdate
 no-order = none-of-two events refl refl
+
+-- ---- Req 03: a lock in place of the select
+
+abbrev locked : List Event
+locked = bothFirst lock
+
+-- where both lock before either writes, there is no serial order either
+locked-no-order : SerialOrder 2 locked → ⊥
+unfolding openTest
+locked-no-order = none-of-two locked refl refl
+
+-- H11 alone forbids them: the lock behind the other's lock, and the write behind it
+locked-forbidden :
+    (map (λ n. waits (pastAt locked n) (getD locked n (event 0 0 0 commit 0 0 0))) (numbers 8)
+    ≡ true ∷ false ∷ true ∷ false ∷ true ∷ true ∷ true ∷ true ∷ [])
+    × (all
+    (λ n. let past = pastAt locked n in
+    let e = getD locked n (event 0 0 0 commit 0 0 0) in
+    insertsFirst (λ r t. true) past e && deletesLast past e && meetsVisible (λ r t. true) past e && together past e)
+    (numbers 8)
+    ≡ true)
+unfolding openRules
+locked-forbidden = (refl, refl)
+
+-- where the second waits for the first's commit, they are lawful and have an order
+abbrev inTurn : List Event
+inTurn = event 0 0 0 lock 0 0 1 ∷ overwrites 0 ++ (event 1 0 0 lock 0 0 1 ∷ overwrites 1)
+
+in-turn-lawful : allObey (λ r t. true) [] inTurn ≡ true
+unfolding openRules
+in-turn-lawful = refl
+
+-- the first's before the second's, whose lock has read what the first wrote
+in-turn-order : (serialTest 2 inTurn (0 ∷ 1 ∷ []) ≡ true) × (serialTest 2 inTurn (1 ∷ 0 ∷ []) ≡ false)
+unfolding openTest
+in-turn-order = (refl, refl)

@@ -189,7 +189,7 @@ line-with : lineWith Li (1 ∷ 2 ∷ 3 ∷ 4 ∷ 5 ∷ 6 ∷ []) ≡ record { ki
 unfolding lineWith
 line-with = refl
 
--- T5: a text with a line of each kind, and its lines
+-- T5, Req 03: a text with a line of each kind, and its lines
 unfoldable pub each-kind : List String
 each-kind =
     "rl 0 - - ffffffffffffffff - -" ∷ "rl 1 - - 3 - -"
@@ -198,8 +198,8 @@ each-kind =
     ∷ "is 0 1 - - 3 -" ∷ "ks 1 0 - 8000000000000000 - -" ∷ "ps 2 1 - 0 - 2"
     ∷ "lo - - - - - -" ∷ "ku 3 1 - 0 1 -" ∷ "en - - - - - -"
     ∷ "br - - - - - -" ∷ "pu 4 1 - 1 2 3" ∷ "el - - - - - -" ∷ "kd 5 1 - - 3 -" ∷ "en - - - - - -"
-    ∷ "pd 6 1 - - 3 0"
-    ∷ "li 0 0 1 - - -" ∷ []
+    ∷ "pd 6 1 - - 3 0" ∷ "kl 7 0 - 4000000000000001 - -"
+    ∷ "li 0 0 1 - - -" ∷ "li 0 3 7 - - -" ∷ []
 
 unfoldable pub each-kind-lines : List Line
 unfolding lineWith
@@ -219,7 +219,8 @@ each-kind-lines =
     ∷ lineWith (St Kd) (5 ∷ 1 ∷ 0 ∷ 0 ∷ 3 ∷ 0 ∷ [])
     ∷ lineWith En (0 ∷ 0 ∷ 0 ∷ 0 ∷ 0 ∷ 0 ∷ [])
     ∷ lineWith (St Pd) (6 ∷ 1 ∷ 0 ∷ 0 ∷ 3 ∷ 0 ∷ [])
-    ∷ lineWith Li (0 ∷ 0 ∷ 1 ∷ 0 ∷ 0 ∷ 0 ∷ []) ∷ []
+    ∷ lineWith (St Kl) (7 ∷ 0 ∷ 0 ∷ 0x4000000000000001 ∷ 0 ∷ 0 ∷ [])
+    ∷ lineWith Li (0 ∷ 0 ∷ 1 ∷ 0 ∷ 0 ∷ 0 ∷ []) ∷ lineWith Li (0 ∷ 3 ∷ 7 ∷ 0 ∷ 0 ∷ 0 ∷ []) ∷ []
 
 each-kind-read : given each-kind ≡ accepted each-kind-lines
 unfolding given each-kind each-kind-lines
@@ -276,6 +277,15 @@ value-for-dash = refl
 tests-of-ku : afterBase ("ku 0 0 - 1 1 1" ∷ []) ≡ refused 4 7
 unfolding afterBase
 tests-of-ku = refl
+
+-- R4, Req 03: a kl has id, rel and reads and no more: none of the three is `-`, and each of the others is
+kl-forms
+    : map
+    (λ line. afterBase (line ∷ []))
+    ("kl - 0 - 1 - -" ∷ "kl 0 - - 1 - -" ∷ "kl 0 0 0 1 - -" ∷ "kl 0 0 - - - -" ∷ "kl 0 0 - 1 1 -" ∷ "kl 0 0 - 1 - 1" ∷ [])
+    ≡ replicate 6 (refused 4 7)
+unfolding afterBase
+kl-forms = refl
 
 id-of-flow : afterBase ("lo 0 - - - - -" ∷ []) ≡ refused 4 7
 unfolding afterBase
@@ -683,6 +693,20 @@ pu-of-nothing : afterBase ("pu 0 0 - 1 0 1" ∷ []) ≡ refused 5 7
 unfolding afterBase
 pu-of-nothing = refl
 
+-- R6, R5, Req 03: a kl out of count, of a relation that there is not, with reads outside the relation's and with none
+kl-refused
+    : map (λ line. afterBase (line ∷ [])) ("kl 1 0 - 1 - -" ∷ "kl 0 2 - 1 - -" ∷ "kl 0 0 - 4 - -" ∷ "kl 0 0 - 0 - -" ∷ [])
+    ≡ refused 6 7 ∷ refused 6 7 ∷ refused 5 7 ∷ refused 5 7 ∷ []
+unfolding afterBase
+kl-refused = refl
+
+-- T9, Req 03: any other part of the relation will do
+kl-read
+    : map (λ line. afterBase (line ∷ [])) ("kl 0 1 - 1 - -" ∷ "kl 0 1 - 2 - -" ∷ "kl 0 1 - 3 - -" ∷ [])
+    ≡ map (λ reads. accepted (baseLines ++ (lineWith (St Kl) (0 ∷ 1 ∷ 0 ∷ reads ∷ 0 ∷ 0 ∷ []) ∷ []))) (1 ∷ 2 ∷ 3 ∷ [])
+unfolding afterBase lineWith
+kl-read = refl
+
 -- T9: other sets may be 0
 sets-of-nothing : taken ("ps 0 0 - 0 - 0" ∷ "ku 1 0 - 0 1 -" ∷ "pu 2 0 - 0 1 0" ∷ "pd 3 0 - - 3 0" ∷ []) ≡ true
 unfolding taken
@@ -728,13 +752,33 @@ link-relations
 unfolding given
 link-relations = refl
 
--- R8, T10: the parent is of kind is, ks, ku or kd, the child of any
+-- a text with a statement of each kind over relation 0, and a link by key 1 of this child to this parent
+linked : String → Outcome
+unfolding afterBase
+linked link =
+    afterBase
+    (is0 ∷ "ks 1 0 - 1 - -" ∷ "ps 2 0 - 1 - 1" ∷ "ku 3 0 - 0 1 -" ∷ "pu 4 0 - 1 1 1" ∷ "kd 5 0 - - 3 -" ∷ "pd 6 0 - - 3 1" ∷ "kl 7 0 - 1 - -"
+    ∷ link ∷ [])
+
+-- R8, T10, Req 03: the parent is of kind is, ks, ku, kd or kl, for the kinds is ks ps ku pu kd pd kl in turn
 parents
-    : taken (is0 ∷ "ks 1 0 - 1 - -" ∷ "ku 2 0 - 0 1 -" ∷ "kd 3 0 - - 3 -" ∷ "ps 4 0 - 1 - 1" ∷ "pu 5 0 - 1 1 1" ∷ "pd 6 0 - - 3 1"
-    ∷ "li 1 4 0 - - -" ∷ "li 1 5 1 - - -" ∷ "li 1 6 2 - - -" ∷ "li 1 0 3 - - -" ∷ [])
-    ≡ true
-unfolding taken
+    : map
+    (λ link. isAccepted (linked link))
+    ("li 1 0 0 - - -" ∷ "li 1 0 1 - - -" ∷ "li 1 0 2 - - -" ∷ "li 1 0 3 - - -"
+    ∷ "li 1 0 4 - - -" ∷ "li 1 0 5 - - -" ∷ "li 1 0 6 - - -" ∷ "li 1 0 7 - - -" ∷ [])
+    ≡ true ∷ true ∷ false ∷ true ∷ false ∷ true ∷ false ∷ true ∷ []
+unfolding linked
 parents = refl
+
+-- R8, T10, Req 03: the child is of any kind, here of a parent of kind kl
+children
+    : map
+    (λ link. isAccepted (linked link))
+    ("li 1 0 7 - - -" ∷ "li 1 1 7 - - -" ∷ "li 1 2 7 - - -" ∷ "li 1 3 7 - - -"
+    ∷ "li 1 4 7 - - -" ∷ "li 1 5 7 - - -" ∷ "li 1 6 7 - - -" ∷ "li 1 7 7 - - -" ∷ [])
+    ≡ replicate 8 true
+unfolding linked
+children = refl
 
 parent-ps : afterBase (is0 ∷ "ps 1 0 - 1 - 1" ∷ "li 1 0 1 - - -" ∷ []) ≡ refused 8 9
 unfolding afterBase
@@ -892,6 +936,7 @@ set-fields
     ∷ "pu 0 0 - ff fe fd"
     ∷ "kd 0 0 - - ff -"
     ∷ "pd 0 0 - - ff fe"
+    ∷ "kl 0 0 - ff - -"
     ∷ [])
     ≡ true
 unfolding formed
@@ -919,6 +964,8 @@ number-fields
     ∷ "kd 0 a - - 1 -"
     ∷ "pd a 0 - - 1 1"
     ∷ "pd 0 a - - 1 1"
+    ∷ "kl a 0 - 1 - -"
+    ∷ "kl 0 a - 1 - -"
     ∷ "li a 0 0 - - -"
     ∷ "li 0 a 0 - - -"
     ∷ "li 0 0 a - - -"

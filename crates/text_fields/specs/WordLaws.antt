@@ -11,7 +11,7 @@ use Rattle.spec_base.specs.Basic.{first}
 use lib.ListN.{length, getD}
 use Rattle.spec_text.specs.declared.LineKind.{LineKind}
 use Rattle.spec_text.specs.declared.LineKind.the-variants.{Rl, Fk, Pr, St, Lo, Br, El, En, Li}
-use Rattle.spec_text.specs.declared.StatementKind.the-variants.{Is, Ks, Ps, Ku, Pu, Kd, Pd}
+use Rattle.spec_text.specs.declared.StatementKind.the-variants.{Is, Ks, Ps, Ku, Pu, Kd, Pd, Kl}
 use Rattle.spec_text.specs.Text.{same, wordOf, kinds, kindOf}
 use Rattle.law_text.specs.TextLaws.{same-equal, word-two}
 use Rattle.text_fields.specs.FieldLaws.{kind-word}
@@ -43,6 +43,7 @@ kind-of-word (St Ku) = (refl, omega arith)
 kind-of-word (St Pu) = (refl, omega arith)
 kind-of-word (St Kd) = (refl, omega arith)
 kind-of-word (St Pd) = (refl, omega arith)
+kind-of-word (St Kl) = (refl, omega arith)
 kind-of-word Lo = (refl, omega arith)
 kind-of-word Br = (refl, omega arith)
 kind-of-word El = (refl, omega arith)

@@ -107,6 +107,7 @@ fn kind_of(word: &[u8]) -> KindRead
         0x7075 => KindRead::Kind(LineKind::St(StatementKind::Pu)),
         0x6b64 => KindRead::Kind(LineKind::St(StatementKind::Kd)),
         0x7064 => KindRead::Kind(LineKind::St(StatementKind::Pd)),
+        0x6b6c => KindRead::Kind(LineKind::St(StatementKind::Kl)),
         0x6c6f => KindRead::Kind(LineKind::Lo),
         0x6272 => KindRead::Kind(LineKind::Br),
         0x656c => KindRead::Kind(LineKind::El),

@@ -23,7 +23,7 @@ use Rattle.edge_kinds.specs.KindLaws.{told, bit-clear, bit-set}
 use Rattle.unfold_laws.specs.Codes.{codeOf, codesOf, idsOf, markIn, bitIn, marksOf}
 use Rattle.spec_text.specs.declared.StatementKind.{StatementKind}
 use Rattle.spec_graph.specs.Edge.{shields}
-use Rattle.value_tables.specs.Lines.{lineNumber, markBy}
+use Rattle.value_tables.specs.Lines.{prNumber, lineNumber, markBy}
 use Rattle.value_tables.specs.LineLaws.{mark-told}
 use Rattle.value_tables.specs.Tables.{writeTables}
 
@@ -96,13 +96,13 @@ many-ids lines h = length-map lines (λ l. l .id) ∙ h
 
 -- ---- the paths to a mark
 
-pub mark-none : (n id : ℕ) → 7 ≤ n → 0 ≡ markBy n id
+pub mark-none : (n id : ℕ) → prNumber ≤ n → 0 ≡ markBy n id
 unfolding markBy
-mark-none n id h = sym (simp (le-ltb n 7 h))
+mark-none n id h = sym (simp (le-ltb n prNumber h))
 
-pub mark-some : (n id x : ℕ) → n < 7 → x ≡ bitIn (kindOf n) id → x ≡ markBy n id
+pub mark-some : (n id x : ℕ) → n < prNumber → x ≡ bitIn (kindOf n) id → x ≡ markBy n id
 unfolding markBy
-mark-some n id x h e = e ∙ sym (simp (lt-ltb n 7 h))
+mark-some n id x h e = e ∙ sym (simp (lt-ltb n prNumber h))
 
 module _ (n facts : ℕ) (k : StatementKind) (e : k ≡ kindOf n) (f : facts ≡ kindFacts k) where
   pub shield-clear : bitAnd facts 16 ≡ 0 → shields (kindOf n) ≡ false

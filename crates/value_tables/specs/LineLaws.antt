@@ -14,22 +14,22 @@ use Rattle.spec_text.specs.declared.Line.{Line}
 use Rattle.spec_text.specs.declared.LineKind.{LineKind}
 use Rattle.spec_text.specs.declared.LineKind.the-variants.{Rl, Fk, Pr, St, Lo, Br, El, En, Li}
 use Rattle.spec_text.specs.declared.StatementKind.{StatementKind}
-use Rattle.spec_text.specs.declared.StatementKind.the-variants.{Is, Ks, Ps, Ku, Pu, Kd, Pd}
+use Rattle.spec_text.specs.declared.StatementKind.the-variants.{Is, Ks, Ps, Ku, Pu, Kd, Pd, Kl}
 use Rattle.spec_text.specs.declared.Workload.{Workload}
 use Rattle.spec_text.specs.Value.{linesOf}
 use Rattle.spec_graph.specs.Edge as E
 use Rattle.line_kinds.specs.Kinds.{lineFacts, hasReads, hasWrites, hasTests}
-use Rattle.edge_kinds.specs.Kinds.{kindNumber}
+use Rattle.edge_kinds.specs.Kinds.{kindCount, kindNumber}
 use Rattle.edge_kinds.specs.KindLaws.{number-small, kindOf-number}
 use Rattle.unfold_laws.specs.Codes.{codeOf, markIn, bitIn}
-use Rattle.value_tables.specs.Lines.{lineNumber, codeBy, markBy, setIn, lineWords, lineTable, Zeros}
+use Rattle.value_tables.specs.Lines.{prNumber, liNumber, lineNumber, codeBy, markBy, setIn, lineWords, lineTable, Zeros}
 use Rattle.word_rows.specs.Put.{putAt, rowPut, row-put, putAt-length, putAt-take, putAt-rest}
 
 -- ---- what a line's number tells
 
 pub code-told : (k : LineKind) → codeBy (lineNumber k) ≡ codeOf k
 unfolding codeBy codeOf
-code-told (St k) = rw (lt-ltb (kindNumber k) 7 (number-small k)) refl
+code-told (St k) = rw (lt-ltb (kindNumber k) kindCount (number-small k)) refl
 code-told Pr = refl
 code-told Li = refl
 code-told Lo = refl
@@ -41,7 +41,7 @@ code-told En = refl
 
 pub mark-told : (k : LineKind) (id : ℕ) → markBy (lineNumber k) id ≡ markIn k id
 unfolding markBy markIn
-mark-told (St k) id = rw (lt-ltb (kindNumber k) 7 (number-small k), kindOf-number k) refl
+mark-told (St k) id = rw (lt-ltb (kindNumber k) kindCount (number-small k), kindOf-number k) refl
 mark-told Pr id = refl
 mark-told Li id = refl
 mark-told Lo id = refl
@@ -52,7 +52,7 @@ mark-told El id = refl
 mark-told En id = refl
 
 -- a line with the number of a `pr` or of a `li` is one
-pub number-names : (c : LineKind) → (lineNumber c ≡ 7 → c ≡ Pr) × (lineNumber c ≡ 8 → c ≡ Li)
+pub number-names : (c : LineKind) → (lineNumber c ≡ prNumber → c ≡ Pr) × (lineNumber c ≡ liNumber → c ≡ Li)
 number-names (St k) = let small = number-small k in (λ e. absurd (omega arith), λ e. absurd (omega arith))
 number-names Pr = (λ e. refl, λ e. absurd (omega arith))
 number-names Li = (λ e. absurd (omega arith), λ e. refl)
@@ -78,6 +78,7 @@ sets-told Ku = record { reads = λ x. refl; writes = λ x. refl; tests = λ x. r
 sets-told Pu = record { reads = λ x. refl; writes = λ x. refl; tests = λ x. refl }
 sets-told Kd = record { reads = λ x. refl; writes = λ x. refl; tests = λ x. refl }
 sets-told Pd = record { reads = λ x. refl; writes = λ x. refl; tests = λ x. refl }
+sets-told Kl = record { reads = λ x. refl; writes = λ x. refl; tests = λ x. refl }
 
 -- ---- the cells of the table
 

@@ -2,35 +2,50 @@
 use mathlib.Core.Bool.{cond}
 use mathlib.Core.List.{List, [], _∷_, flatMap}
 use mathlib.Core.Path.{_≡_}
-use Prim.Native.Nat.{ℕ, _≤_}
+use Prim.Native.Nat.{ℕ, _+_, _≤_}
 use lib.Dec.{eqb, ltb}
 use lib.ListN.{getD}
 use Rattle.spec_text.specs.declared.Line.{Line}
 use Rattle.spec_text.specs.declared.LineKind.{LineKind}
 use Rattle.spec_text.specs.declared.LineKind.the-variants.{Rl, Fk, Pr, St, Lo, Br, El, En, Li}
 use Rattle.line_kinds.specs.Kinds.{lineFacts, lacksFact, hasReads, hasWrites, hasTests}
-use Rattle.edge_kinds.specs.Kinds.{kindNumber, kindOf}
+use Rattle.edge_kinds.specs.Kinds.{kindCount, kindNumber, kindOf}
 use Rattle.unfold_laws.specs.Codes.{bitIn}
 
 -- a statement's line has the number of its kind, then come `pr`, `li`, `lo`, `br`, and one for every other
+abbrev pub prNumber : ℕ
+prNumber = kindCount
+
+abbrev pub liNumber : ℕ
+liNumber = prNumber + 1
+
+abbrev pub loNumber : ℕ
+loNumber = prNumber + 2
+
+abbrev pub brNumber : ℕ
+brNumber = prNumber + 3
+
+abbrev pub noItem : ℕ
+noItem = prNumber + 4
+
 abbrev pub lineNumber : LineKind → ℕ
 lineNumber (St k) = kindNumber k
-lineNumber Pr = 7
-lineNumber Li = 8
-lineNumber Lo = 9
-lineNumber Br = 10
-lineNumber Rl = 11
-lineNumber Fk = 11
-lineNumber El = 11
-lineNumber En = 11
+lineNumber Pr = prNumber
+lineNumber Li = liNumber
+lineNumber Lo = loNumber
+lineNumber Br = brNumber
+lineNumber Rl = noItem
+lineNumber Fk = noItem
+lineNumber El = noItem
+lineNumber En = noItem
 
 -- the code of a line with this number
 unfoldable pub codeBy : ℕ → ℕ
-codeBy n = cond (ltb n 7) 0 (cond (eqb n 7) 3 (cond (eqb n 9) 1 (cond (eqb n 10) 2 4)))
+codeBy n = cond (ltb n prNumber) 0 (cond (eqb n prNumber) 3 (cond (eqb n loNumber) 1 (cond (eqb n brNumber) 2 4)))
 
 -- its mark: a statement's bit where its kind shields (E3)
 unfoldable pub markBy : ℕ → ℕ → ℕ
-markBy n id = cond (ltb n 7) (bitIn (kindOf n) id) 0
+markBy n id = cond (ltb n prNumber) (bitIn (kindOf n) id) 0
 
 -- E0: a set that the kind lacks is empty
 unfoldable pub setIn : ℕ → ℕ → ℕ → ℕ

@@ -18,16 +18,16 @@ ghost use Rattle.value_tables.specs.Lines.{lineNumber, codeBy, markBy, s
 ghost use Rattle.unfold_laws.specs.Codes.{codeOf, markIn};
 ghost use Rattle.value_tables.specs.Tables.{writeTables};
 
-// The number of a line's kind: 0 to 6 for the kinds of statement (`kind_number`), then `pr`, `li`, `lo`, `br`, and one for every other.
-pub const PR: u64 = 7;
+// The number of a line's kind: 0 to 7 for the kinds of statement (`kind_number`), then `pr`, `li`, `lo`, `br`, and one for every other.
+pub const PR: u64 = 8;
 
-pub const LI: u64 = 8;
+pub const LI: u64 = 9;
 
-const LO: u64 = 9;
+const LO: u64 = 10;
 
-const BR: u64 = 10;
+const BR: u64 = 11;
 
-const NO_ITEM: u64 = 11;
+const NO_ITEM: u64 = 12;
 
 // The words of a line: so many, the first the number of its kind, then in this order at these places. A link's child is its `rel`, its parent
 // its `to`.

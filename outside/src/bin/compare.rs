@@ -1,10 +1,10 @@
-//! `compare PROGRAM SEED COUNT [report|edges|unfoldings]`: runs a program on COUNT generated texts, standard input to
+//! `compare PROGRAM SEED COUNT [report|edges|unfoldings] [--locks]`: runs a program on COUNT generated texts, standard input to
 //! standard output, and compares with this implementation. PROGRAM may have arguments ("target/outside report").
-//! The first difference is printed, its text saved under found/; then the histogram and the count of checks.
+//! The first difference is printed, its text saved under found/; then the histogram and the count of checks. `--locks`: the texts have kl.
 
-use outside::generator::any_text;
+use outside::arguments::words_and_locks;
+use outside::generator::text_number;
 use outside::outcome::*;
-use outside::random::Random;
 use outside::report::*;
 use std::collections::BTreeMap;
 use std::sync::atomic::{AtomicUsize, Ordering};
@@ -15,6 +15,7 @@ struct Shared {
     program: String,
     mode: String,
     seed: u64,
+    locks: bool,
     next: AtomicUsize,
     end: AtomicUsize,
     difference: Mutex<Option<(usize, String)>>,
@@ -22,17 +23,18 @@ struct Shared {
 }
 
 fn main() {
-    let words: Vec<String> = std::env::args().collect();
+    let (words, locks) = words_and_locks();
     let (Some(program), Some(Ok(seed)), Some(Ok(count))) =
         (words.get(1), words.get(2).map(|w| w.parse()), words.get(3).map(|w| w.parse()))
     else {
-        eprintln!("usage: compare PROGRAM SEED COUNT [report|edges|unfoldings]");
+        eprintln!("usage: compare PROGRAM SEED COUNT [report|edges|unfoldings] [--locks]");
         std::process::exit(2);
     };
     let shared = Shared {
         program: program.clone(),
         mode: words.get(4).cloned().unwrap_or("report".to_string()),
         seed,
+        locks,
         next: AtomicUsize::new(0),
         end: AtomicUsize::new(count),
         difference: Mutex::new(None),
@@ -46,18 +48,13 @@ fn main() {
     finish(&shared);
 }
 
-/// Each text has a seed of its own, so that it can be made again without those before it.
-fn text_number(seed: u64, number: usize) -> Vec<u8> {
-    any_text(&mut Random::new(seed.wrapping_mul(1_000_003).wrapping_add(number as u64)))
-}
-
 fn work(shared: &Shared) {
     loop {
         let number = shared.next.fetch_add(1, Ordering::Relaxed);
         if number >= shared.end.load(Ordering::Relaxed) {
             return;
         }
-        let text = text_number(shared.seed, number);
+        let text = text_number(shared.seed, number as u64, shared.locks);
         match judged(shared, &text) {
             Ok(outcome) => *shared.outcomes.lock().unwrap().entry(outcome).or_insert(0) += 1,
             Err(difference) => {
@@ -91,10 +88,12 @@ fn finish(shared: &Shared) {
         println!("{outcome:<12} {count:>9}");
     }
     let compared = if shared.mode == "report" { "status, every byte of the report, walks" } else { "status, the whole listing" };
-    println!("{total} texts compared alike (seed {}): {compared}", shared.seed);
+    let locks = if shared.locks { ", with kl" } else { "" };
+    println!("{total} texts compared alike (seed {}{locks}): {compared}", shared.seed);
     if let Some((number, difference)) = &*shared.difference.lock().unwrap() {
-        let path = format!("found/{}-{number}.txt", shared.seed);
-        let saved = std::fs::create_dir_all("found").and_then(|_| std::fs::write(&path, text_number(shared.seed, *number)));
+        let path = format!("found/{}-{number}{}.txt", shared.seed, if shared.locks { "-locks" } else { "" });
+        let text = text_number(shared.seed, *number as u64, shared.locks);
+        let saved = std::fs::create_dir_all("found").and_then(|_| std::fs::write(&path, text));
         let place = saved.map_or_else(|error| format!("not saved: {error}"), |_| path);
         println!("DIFFERENT: text {number} ({place}): {difference}");
         std::process::exit(1);

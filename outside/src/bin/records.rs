@@ -1,10 +1,10 @@
-//! `records SEED COUNT`: every edge record that the proved code puts into a lent area against this implementation's, on generated
+//! `records SEED COUNT [--locks]`: every edge record that the proved code puts into a lent area against this implementation's, on generated
 //! texts, in one process; the rest of the area must stay as it was, all of it where the area is too short or the text
 //! is refused. Built without RATTLE_LIB it compares this implementation with itself, which shows only that it runs.
 
+use outside::arguments::words_and_locks;
 use outside::edges::*;
-use outside::generator::any_text;
-use outside::random::Random;
+use outside::generator::text_number;
 use outside::stages::*;
 
 #[cfg(rattle)]
@@ -20,13 +20,13 @@ const OTHER: (&str, fn(&[u8], &mut [Edge]) -> u32) = ("itself (built without RAT
 const MARK: Edge = Edge { node: 77, leaves: 77, into: 77, enters: 77, sharing: 77, lowest: 77, flow: b'?', letter: b'?' };
 
 fn main() {
-    let words: Vec<String> = std::env::args().collect();
-    let number = |at: usize| words.get(at).and_then(|word| word.parse::<u64>().ok()).expect("usage: records SEED COUNT");
+    let (words, locks) = words_and_locks();
+    let number = |at: usize| words.get(at).and_then(|word| word.parse::<u64>().ok()).expect("usage: records SEED COUNT [--locks]");
     let (seed, count) = (number(1), number(2));
     let mut own = vec![MARK; MOST_EDGES];
     let (mut records, mut refused) = (0, 0);
     for k in 0..count {
-        let text = any_text(&mut Random::new(seed.wrapping_mul(1_000_003).wrapping_add(k)));
+        let text = text_number(seed, k, locks);
         let result = edges_stage(&text, &mut own);
         if result >> 31 == 1 {
             refused += 1;

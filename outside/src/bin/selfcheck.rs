@@ -1,10 +1,11 @@
-//! `selfcheck SEED COUNT [TPCC]`: the fast parts of this implementation against slow literal ones, on generated texts:
+//! `selfcheck SEED COUNT [TPCC] [--locks]`: the fast parts of this implementation against slow literal ones, on generated texts:
 //! unfoldings by plain lists, the parents that shield by plain lists and by what the links alone say, counts by the letters, the verdict
 //! by a search over walks with a mark for "some forward edge", the walk checker by the list of edges on damaged walks. With the text of TPC-C: the published figures of source
 //! 000 with its own insert sets.
 
+use outside::arguments::words_and_locks;
 use outside::edges::*;
-use outside::generator::any_text;
+use outside::generator::text_number;
 use outside::random::Random;
 use outside::reader::*;
 use outside::report::unfolded;
@@ -14,12 +15,12 @@ use outside::walk::fault_of_walk;
 use outside::workload::*;
 
 fn main() {
-    let words: Vec<String> = std::env::args().collect();
-    let number = |at: usize| words.get(at).and_then(|word| word.parse::<u64>().ok()).expect("usage: selfcheck SEED COUNT [TPCC]");
+    let (words, locks) = words_and_locks();
+    let number = |at: usize| words.get(at).and_then(|word| word.parse::<u64>().ok()).expect("usage: selfcheck SEED COUNT [TPCC] [--locks]");
     let (seed, count) = (number(1), number(2));
     let (mut robust, mut danger, mut refused) = (0, 0, 0);
     for k in 0..count {
-        let text = any_text(&mut Random::new(seed.wrapping_mul(1_000_003).wrapping_add(k)));
+        let text = text_number(seed, k, locks);
         match check(&text) {
             Some(true) => danger += 1,
             Some(false) => robust += 1,
@@ -151,7 +152,7 @@ fn parents_of(lines: &[Line], node: &Unfolding, at: usize) -> Parents {
     let (line, turns) = &node[at];
     let begin = lines[..*line].iter().rposition(|line| line.kind == PR).expect("a program");
     let program: Vec<&Line> = lines[begin + 1..].iter().take_while(|line| line.kind != PR).collect();
-    let shields = |statement: &Line| matches!(statement.kind, IS | KU | KD);
+    let shields = |statement: &Line| matches!(statement.kind, IS | KU | KD | KL);
     let of_child: Vec<&Line> = program.iter().copied().filter(|link| link.kind == LI && link.rel == lines[*line].id).collect();
     let is_parent = |link: &Line, (parent, its): &(usize, Vec<u8>)| {
         lines[*parent].id == link.to && shields(&lines[*parent]) && turns.starts_with(its)

@@ -1,7 +1,8 @@
-//! `shields SEED COUNT [TEXT...]`: what document 02, Req 02, changed: reports and edges by the shield and by document 01's, on COUNT texts as `compare`
-//! draws them, on COUNT small ones with late parents, and on the texts. Back edges may only vanish, every other record must stay, and
-//! no robust verdict may turn into danger. How many reports changed is printed; of the texts, which.
+//! `shields SEED COUNT [TEXT...] [--locks]`: what document 02, Req 02, changed: reports and edges by the shield and by document 01's, on COUNT
+//! texts as `compare` draws them, on COUNT small ones with late parents, and on the texts. Back edges may only vanish, every other record must stay,
+//! and no robust verdict may turn into danger. How many reports changed is printed; of the texts, which.
 
+use outside::arguments::words_and_locks;
 use outside::edges::*;
 use outside::generator::any_text;
 use outside::late::late_parents;
@@ -24,10 +25,10 @@ struct Tally {
 }
 
 fn main() {
-    let words: Vec<String> = std::env::args().collect();
-    let number = |at: usize| words.get(at).and_then(|word| word.parse::<u64>().ok()).expect("usage: shields SEED COUNT [TEXT...]");
+    let (words, locks) = words_and_locks();
+    let number = |at: usize| words.get(at).and_then(|word| word.parse::<u64>().ok()).expect("usage: shields SEED COUNT [TEXT...] [--locks]");
     let (seed, count) = (number(1), number(2));
-    let random = |k: u64| Random::new(seed.wrapping_mul(1_000_003).wrapping_add(k));
+    let random = |k: u64| Random::numbered(seed, k).with_locks(locks);
     let (mut drawn, mut late, mut given) = (Tally::default(), Tally::default(), Tally::default());
     for k in 0..count {
         compare(&any_text(&mut random(k)), &mut drawn);

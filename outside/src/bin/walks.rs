@@ -1,9 +1,10 @@
-//! `walks SEED COUNT [TEXT...]`: the first walk, found fast, against the same found by the definition alone: on COUNT random graphs and COUNT
-//! random workloads, each also on random parts of its nodes, and on parts of its programs read as a text of their own. All lists
+//! `walks SEED COUNT [TEXT...] [--locks]`: the first walk, found fast, against the same found by the definition alone: on COUNT random graphs and
+//! COUNT random workloads, each also on random parts of its nodes, and on parts of its programs read as a text of their own. All lists
 //! of steps are tried where they are not too many; longer walks are found by what can still be closed; where both are tried, all
 //! must agree. The same on the texts, of any size. How many walks were of which kind is printed, so that a comparison which meets
 //! none is noticed.
 
+use outside::arguments::words_and_locks;
 use outside::first_walk::first_walk;
 use outside::generator::*;
 use outside::graph::*;
@@ -36,12 +37,12 @@ struct Tally {
 }
 
 fn main() {
-    let words: Vec<String> = std::env::args().collect();
-    let number = |at: usize| words.get(at).and_then(|word| word.parse::<u64>().ok()).expect("usage: walks SEED COUNT [TEXT...]");
+    let (words, locks) = words_and_locks();
+    let number = |at: usize| words.get(at).and_then(|word| word.parse::<u64>().ok()).expect("usage: walks SEED COUNT [TEXT...] [--locks]");
     let (seed, count) = (number(1), number(2));
     let (mut graphs, mut workloads, mut programs) = (Tally::default(), Tally::default(), (0, 0));
     for k in 0..count {
-        let mut random = Random::new(seed.wrapping_mul(1_000_003).wrapping_add(k));
+        let mut random = Random::numbered(seed, k).with_locks(locks);
         let drawn = Drawn::draw(&mut random);
         let graph = Graph::of(&drawn, drawn.lengths.iter().copied());
         compare(&mut random, &graph, MOST_PAIRS, &mut graphs, &|| format!("random graph {k}"));

@@ -1,6 +1,6 @@
 -- The number of each arm is that of its kind, from which `kindOf` gives the kind back (number-named); past them all it gives the last.
 use borrow.Author.Tests.{ne-eqb}
-use Rattle.spec_text.specs.declared.StatementKind.the-variants.{Is, Ks, Ps, Ku, Pu, Kd}
+use Rattle.spec_text.specs.declared.StatementKind.the-variants.{Is, Ks, Ps, Ku, Pu, Kd, Pd}
 use Rattle.edge_kinds.specs.Kinds.{kindOf}
 use Rattle.edge_kinds.specs.KindLaws.{number-named}
 use Rattle.edge_kinds.proofs.kind_of.Statement.{statement}
@@ -25,8 +25,11 @@ returns-6 : tie.Need-returns-6
 returns-6 c = number-named Kd (c .match .keys6)
 
 returns-7 : tie.Need-returns-7
+returns-7 c = number-named Pd (c .match .keys7)
+
+returns-8 : tie.Need-returns-8
 unfolding kindOf
-returns-7 c =
+returns-8 c =
     let rest = c .match .rest in
     simp (
       ne-eqb _ _ (rest .1),
@@ -35,7 +38,8 @@ returns-7 c =
       ne-eqb _ _ (rest .0 .0 .0 .1),
       ne-eqb _ _ (rest .0 .0 .0 .0 .1),
       ne-eqb _ _ (rest .0 .0 .0 .0 .0 .1),
+      ne-eqb _ _ (rest .0 .0 .0 .0 .0 .0 .1),
     )
 
 pub kind-of-spec : {M : Type 1} → statement M
-kind-of-spec = tie.close (tie.spec returns returns-2 returns-3 returns-4 returns-5 returns-6 returns-7)
+kind-of-spec = tie.close (tie.spec returns returns-2 returns-3 returns-4 returns-5 returns-6 returns-7 returns-8)

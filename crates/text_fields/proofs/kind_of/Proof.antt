@@ -47,9 +47,9 @@ mul-both c = omega (arith, two c)
 add-both : tie.Need-add-both
 add-both c = omega (arith, two c)
 
-returns-17 : tie.Need-returns-17
+returns-18 : tie.Need-returns-18
 unfolding wordOf kinds kindBy Missed
-returns-17 c = sym (missed _ _ kinds [] (c .match .rest) .1) ∙ told (c .before)
+returns-18 c = sym (missed _ _ kinds [] (c .match .rest) .1) ∙ told (c .before)
 
 pub kind-of-spec : {M : Type 1} → statement M
 unfolding wordOf kinds kindBy
@@ -78,4 +78,5 @@ kind-of-spec =
     (λ c. rw (c .match .keys13) at (told (c .before)))
     (λ c. rw (c .match .keys14) at (told (c .before)))
     (λ c. rw (c .match .keys15) at (told (c .before)))
-    returns-17)
+    (λ c. rw (c .match .keys16) at (told (c .before)))
+    returns-18)
