@@ -21,6 +21,7 @@ use Rattle.spec_schedule.specs.Event.Action.{read, lock, write, commit}
 use Rattle.spec_schedule.specs.Schedule.{Transaction, Schedule}
 use Rattle.spec_schedule.specs.Serial.{Serialisable}
 use Rattle.spec_schedule.specs.SerialTest.{serial-by-test}
+use Rattle.spec_schedule.specs.Unserialisable.{bothFirst}
 use Rattle.spec_schedule.specs.ScheduleExamples.{line, says, event, openWorkload, openRules}
 use Rattle.cases.specs.Computed.{allPass}
 use Rattle.witness.specs.Joined.{demand}
@@ -146,19 +147,6 @@ serialisable = demand (lines Kl) given robust locked
 
 -- ---- the same programs, read and not locked
 
--- two judge: both read the contact, then the first updates it and commits, then the second
-abbrev pub twoJudge : Action → List Event
-twoJudge a =
-    event 0 0 0 a 0 0 1
-    ∷ event 1 0 0 a 0 0 1
-    ∷ event 0 1 1 read 0 0 0
-    ∷ event 0 2 1 write 0 0 1
-    ∷ event 0 3 2 commit 0 0 0
-    ∷ event 1 1 1 read 0 0 0
-    ∷ event 1 2 1 write 0 0 1
-    ∷ event 1 3 2 commit 0 0 0
-    ∷ []
-
 -- one reads the contact, another logs it and commits, the first updates it
 abbrev pub loggedBetween : Action → List Event
 loggedBetween a =
@@ -183,15 +171,15 @@ loggedBefore a =
     ∷ event 0 3 2 commit 0 0 0
     ∷ []
 
--- with `ks` each meets every rule, and no order serves
+-- with `ks` each meets every rule, and no order serves; and so where two judge and both read before either updates (`bothFirst`)
 pub selectedTwo : Schedule (lines Ks)
 unfolding openWorkload openRules
 selectedTwo =
-    scheduled (interleaving (lines Ks) (0 ∷ 0 ∷ []) (judging Ks ∷ judging Ks ∷ []) allVisible (λ f t. t) (twoJudge read) refl refl refl refl) refl
+    scheduled (interleaving (lines Ks) (0 ∷ 0 ∷ []) (judging Ks ∷ judging Ks ∷ []) allVisible (λ f t. t) (bothFirst read) refl refl refl refl) refl
 
 pub no-order-of-two : Serialisable selectedTwo → ⊥
 unfolding openOrders selectedTwo
-no-order-of-two = none-serves 2 (twoJudge read) refl
+no-order-of-two = none-serves 2 (bothFirst read) refl
 
 pub selectedBetween : Schedule (lines Ks)
 unfolding openWorkload openRules
@@ -213,14 +201,14 @@ no-order-before = none-serves 2 (loggedBefore read) refl
 
 -- ---- the same events with locks are refused
 
--- of the first, two parts of the ban refuse: the second lock is behind the first, and the first update behind the second lock
-pub two-refused : map (λ part. allObeyBut part allVisible [] (twoJudge lock))
+-- where two judge, two parts of the ban refuse: the second lock is behind the first, and the first update behind the second lock
+pub two-refused : map (λ part. allObeyBut part allVisible [] (bothFirst lock))
     ((λ w e. false) ∷ lockBehindLock ∷ lockBehindWrite ∷ writeBehindLock ∷ (λ w e. lockBehindLock w e || writeBehindLock w e) ∷ [])
     ≡ false ∷ false ∷ false ∷ false ∷ true ∷ []
 unfolding openParts
 two-refused = refl
 
--- of the second, that a write is behind another's lock
+-- of `loggedBetween`, that a write is behind another's lock
 pub no-write-behind-lock : Needed (lines Kl) writeBehindLock
 unfolding openParts
 no-write-behind-lock =
@@ -233,7 +221,7 @@ no-write-behind-lock =
       noOrder = none-serves 2 (loggedBetween lock) refl;
     }
 
--- of the third, that a lock is behind another's write
+-- of `loggedBefore`, that a lock is behind another's write
 pub no-lock-behind-write : Needed (lines Kl) lockBehindWrite
 unfolding openParts
 no-lock-behind-write =
