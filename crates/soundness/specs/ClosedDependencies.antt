@@ -10,7 +10,7 @@ use native.Mathlib.Omega.{arith}
 use lib.Dec.{eqb}
 use lib.ListN.{getElem?}
 use Rattle.spec_base.specs.Basic.{all, around}
-use Rattle.law_base.specs.BoolLaws.{and-true, true-false}
+use Rattle.law_base.specs.BoolLaws.{and-true}
 use Rattle.law_base.specs.ListLaws.{map-member, around-member, getElem?-lt, getElem?-member, getElem?-same}
 use Rattle.spec_text.specs.declared.Line.{Line}
 use Rattle.spec_graph.specs.Program.{Statement}

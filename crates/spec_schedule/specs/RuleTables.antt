@@ -1,16 +1,15 @@
--- The rules on events (H) over tables of cases, each table computed at once: what each action is; what may follow what on one tuple; that
--- nothing hinders what is done elsewhere; and when a statement's operations stand together. Two of them are told again by small machines.
+-- The rules on events (H) over tables of cases, each table computed at once: what each action is; what may follow what on one tuple; and when a
+-- statement's operations stand together. (All short lists of events on one tuple, and on tuples apart: RuleMachines of crate witness.)
 use mathlib.Core.Bool.{Bool, true, false, cond, not, _&&_, _||_}
 use mathlib.Core.List.{List, [], _∷_, _++_, map, flatMap}
-use mathlib.Core.Option.{Option, none, some}
 use mathlib.Core.Path.{_≡_, refl, ap₂}
-use Prim.Native.Nat.{ℕ, zero, suc, _+_, _*_, _%_}
+use Prim.Native.Nat.{ℕ, _+_, _*_, _%_}
 use lib.Dec.{eqb}
 use lib.ListN.{length, getD}
 use Rattle.spec_base.specs.Basic.{all, keep, numbers}
 use Rattle.law_base.specs.BoolLaws.{and-true, not-true}
 use Rattle.spec_schedule.specs.Event.{Action, Event, isRead, isPredicateRead, isInsert, isDelete, isCommit, isWrite, isLock, isClaim}
-use Rattle.spec_schedule.specs.Event.{by, claims, writesOf, committed, waits, obeys, allObey}
+use Rattle.spec_schedule.specs.Event.{by, claims, writesOf, committed, waits, allObey}
 use Rattle.spec_schedule.specs.Event.Action.{read, lock, write, insert, delete, predicateRead, commit}
 use Rattle.spec_schedule.specs.ScheduleExamples.{event, openRules}
 
@@ -24,7 +23,7 @@ n = false
 abbrev accesses : List Action
 accesses = read ∷ lock ∷ write ∷ insert ∷ delete ∷ predicateRead ∷ []
 
-abbrev actions : List Action
+abbrev pub actions : List Action
 actions = accesses ++ (commit ∷ [])
 
 -- H2, Req 03: each action is what its name says; a read and a lock read, a write, an insert and a delete write, and all but the plain reads and
@@ -46,18 +45,18 @@ what-actions-are = refl
 -- ---- H4 to H6, H10, H11, Req 03: two accesses of one tuple
 
 -- H4: of relation 0 the even tuples start visible and the odd ones unborn; of the others, all of an odd relation start visible, of an even one unborn
-abbrev starts : ℕ → ℕ → Bool
+abbrev pub starts : ℕ → ℕ → Bool
 starts r t = cond (eqb r 0) (eqb (t % 2) 0) (eqb (r % 2) 1)
 
 abbrev lawful : List Event → Bool
 lawful events = allObey starts [] events
 
 -- transaction, number, action, relation and tuple: each event is a statement of its own
-abbrev acts : ℕ → ℕ → Action → ℕ → ℕ → Event
+abbrev pub acts : ℕ → ℕ → Action → ℕ → ℕ → Event
 acts i k a r t = event i k k a r t 1
 
 -- a tuple of relation 0 on which the action can be the first: an unborn one for an insert, else a visible one
-abbrev fitting : Action → ℕ
+abbrev pub fitting : Action → ℕ
 fitting a = cond (isInsert a) 1 0
 
 -- one row for each first access, one column for each action that follows it
@@ -100,68 +99,6 @@ committed-tuple : table (λ a b. lawful (acts 0 0 a 0 (fitting a) ∷ acts 0 1 c
 unfolding openRules
 committed-tuple = refl
 
--- ---- H4 to H6, H10, H11, Req 03: one tuple as a machine
-
-pub data Life : Type 0 where
-  unborn visible deleted : Life
-
-abbrev isVisible : Life → Bool
-isVisible unborn = false
-isVisible visible = true
-isVisible deleted = false
-
-abbrev isUnborn : Life → Bool
-isUnborn unborn = true
-isUnborn visible = false
-isUnborn deleted = false
-
--- what is committed, and what the transaction sees that has written or locked the tuple and not committed
-record State : Type 0 where
-  settled : Life
-  pending : Option (ℕ × Life)
-
-abbrev sees : State → ℕ → Life
-sees s i = elim (s .pending) [ none ↦ s .settled | some w ↦ cond (eqb (w .0) i) (w .1) (s .settled) ]
-
-abbrev latest : State → Life
-latest s = elim (s .pending) [ none ↦ s .settled | some w ↦ w .1 ]
-
-abbrev free : State → ℕ → Bool
-free s i = elim (s .pending) [ none ↦ true | some w ↦ eqb (w .0) i ]
-
-abbrev takes : State → ℕ → Bool → Life → Option State
-takes s i fits life = cond (free s i && fits) (some (record { settled = s .settled; pending = some (i, life) })) none
-
--- the next state, where transaction i may do this
-abbrev goesOn : State → ℕ → Action → Option State
-goesOn s i read = cond (isVisible (sees s i)) (some s) none
-goesOn s i lock = takes s i (isVisible (sees s i)) (sees s i)
-goesOn s i write = takes s i (isVisible (latest s)) visible
-goesOn s i insert = takes s i (isUnborn (latest s)) visible
-goesOn s i delete = takes s i (isVisible (latest s)) deleted
-goesOn s i predicateRead = some s
-goesOn s i commit = some (cond (free s i) (record { settled = latest s; pending = none }) s)
-
--- each of the next k events, of two transactions that have not committed, is lawful exactly where the machine goes on; `past` is lawful
-agrees : ℕ → ℕ → State → List Event → Bool
-agrees t zero s past = true
-agrees t (suc k) s past =
-    all
-    (λ i. committed past i || all
-    (λ a.
-    let obeyed = obeys starts past (acts i (length past) a 0 t) in
-    elim (goesOn s i a) [ none ↦ not obeyed | some next ↦ obeyed && agrees t k next (acts i (length past) a 0 t ∷ past) ])
-    (read ∷ lock ∷ write ∷ insert ∷ delete ∷ commit ∷ []))
-    (0 ∷ 1 ∷ [])
-
-visible-tuple : agrees 0 4 (record { settled = visible; pending = none }) [] ≡ true
-unfolding openRules agrees
-visible-tuple = refl
-
-unborn-tuple : agrees 1 4 (record { settled = unborn; pending = none }) [] ≡ true
-unfolding openRules agrees
-unborn-tuple = refl
-
 -- a tuple may have a long life: inserted and updated by one transaction; read, locked and updated twice by each of five others in turn; deleted by
 -- one more
 long-life :
@@ -174,30 +111,6 @@ long-life :
     ≡ true
 unfolding openRules
 long-life = refl
-
--- ---- what is done elsewhere hinders nothing
-
--- each of the next k events, of any transaction that has not committed, is lawful, on the relation and tuple given for its position and action
-unhindered : (ℕ → Action → ℕ) → (ℕ → Action → ℕ) → ℕ → List Event → Bool
-unhindered relation tuple zero past = true
-unhindered relation tuple (suc k) past =
-    let m = length past in
-    all
-    (λ i. committed past i || all
-    (λ a. let e = acts i m a (relation m a) (tuple m a) in obeys starts past e && unhindered relation tuple k (e ∷ past))
-    actions)
-    (numbers (suc m))
-
--- H3 to H6, H11: each on a tuple of its own, every three actions may follow one another, whosever they are; a transaction may be empty, and commits
--- may stand in any order
-other-tuples : unhindered (λ m a. 0) (λ m a. 2 * m + fitting a) 3 [] ≡ true
-unfolding openRules unhindered
-other-tuples = refl
-
--- the same on one tuple of a relation of its own
-other-relations : unhindered (λ m a. suc (2 * m + fitting a)) (λ m a. 0) 3 [] ≡ true
-unfolding openRules unhindered
-other-relations = refl
 
 -- ---- H3: a statement's operations stand together
 

@@ -9,3 +9,4 @@ pub mod Locked
 pub mod LockedParent
 pub mod KindsClause
 pub mod LockedFirst
+pub mod RuleMachines
