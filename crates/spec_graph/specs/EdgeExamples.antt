@@ -11,10 +11,10 @@ use Rattle.spec_text.specs.declared.LineKind.the-variants.{St}
 use Rattle.spec_text.specs.declared.StatementKind.{StatementKind}
 use Rattle.spec_text.specs.declared.StatementKind.the-variants.{Is, Ks, Ps, Ku, Pu, Kd, Pd, Kl}
 use Rattle.spec_graph.specs.Graph.{Flow}
-use Rattle.spec_graph.specs.Program.{statementOf}
-use Rattle.spec_graph.specs.Unfolding.{nodesOf}
+use Rattle.spec_graph.specs.Program.{Link, statementOf}
+use Rattle.spec_graph.specs.Unfolding.{Occurrence, nodesOf}
 use Rattle.spec_graph.specs.Edge.{Letter, Place, Edge, R, W, T, holds, sameRelation, forward, back, at, stands, placesOf, placeAt, bothPass}
-use Rattle.spec_graph.specs.Edge.{shared, guardedNear, guardedFar}
+use Rattle.spec_graph.specs.Edge.{shared, binds, guardedNear, guardedFar}
 use Rattle.spec_graph.specs.Edge.{hasReads, hasWrites, hasTests, inserts, deletes, selects, shields, loosens}
 use Rattle.spec_graph.specs.Edge.Letter.{A, B, C, D, E}
 use Rattle.spec_graph.specs.ExampleText.{line, rl, fk, pr, is, ks, ps, ku, pu, kd, pd, kl, lo, br, el, en, li, edge}
@@ -283,20 +283,17 @@ E2-update : (between (ku 0 0 2 4) (ku 0 0 0 2) ≡ edge 0 0 1 0 Flow.forward D 1
 unfolding between
 E2-update = (refl, refl, refl)
 
--- this place with a statement of this kind and the same values
-abbrev ofKind : StatementKind → Place → Place
-ofKind k s =
-    let p = at s in
+-- this occurrence, and this place, with a statement of this kind and the same values
+abbrev kindOf : StatementKind → Occurrence → Occurrence
+kindOf k o =
+    let p = o .statement in
     record {
-      number = s .number;
-      node = s .node;
-      place = s .place;
-      occurrence =
-          record {
-            statement = record { kind = k; id = p .id; relation = p .relation; reads = p .reads; writes = p .writes; tests = p .tests };
-            path = s .occurrence .path;
-          };
+      statement = record { kind = k; id = p .id; relation = p .relation; reads = p .reads; writes = p .writes; tests = p .tests };
+      path = o .path;
     }
+
+abbrev ofKind : StatementKind → Place → Place
+ofKind k s = record { number = s .number; node = s .node; place = s .place; occurrence = kindOf k (s .occurrence) }
 
 -- E1, Req 03: whatever stands at the other place, a kl has the forward edges of a ks
 E1-lock : (s t : Place) → (forward (ofKind Kl s) t ≡ forward (ofKind Ks s) t) × (forward t (ofKind Kl s) ≡ forward t (ofKind Ks s))
@@ -328,7 +325,7 @@ E2-lock s t = go (sameRelation (at s) (at t))
     go true = refl
     go false = refl
 
--- E2, Req 03: those that enter it are those of a ks, none
+-- E2, Req 03: those that enter it are those of a ks
 E2-into-lock : (s t : Place) → back t (ofKind Kl s) ≡ back t (ofKind Ks s)
 unfolding edges
 E2-into-lock s t = refl
@@ -519,6 +516,18 @@ E3-far-kinds : map (λ parent. isBackEdge (family reader (parent ∷ ku 1 1 0 2 
     ≡ false ∷ true ∷ true ∷ false ∷ true ∷ false ∷ true ∷ false ∷ []
 unfolding isBackEdge
 E3-far-kinds = refl
+
+-- E3, E4, Req 03: a kl is a parent that shields wherever a ku is one: by the same links, for the same children
+E3-lock-as-update : (l : Link) (child parent : Occurrence)
+    → (let o = kindOf Kl parent in binds l child o && shields (o .statement .kind))
+    ≡ (let o = kindOf Ku parent in binds l child o && shields (o .statement .kind))
+unfolding edges
+E3-lock-as-update l child parent = refl
+
+-- E3: the shield does not ask of what kind the child is, on either side
+E3-any-child : (k : StatementKind) (key : ℕ) (s : Place) → (guardedNear key (ofKind k s) ≡ guardedNear key s) × (guardedFar key (ofKind k s) ≡ guardedFar key s)
+unfolding edges
+E3-any-child k key s = (refl, refl)
 
 -- E3, Req 03: the near parent and the far one need not be of one kind, but each of a kind that shields; of the near kinds in turn, the far ones
 -- that shield with it

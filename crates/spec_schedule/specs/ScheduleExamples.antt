@@ -422,21 +422,29 @@ delete-late : rules (does 0 0 insert 1 ∷ does 0 1 commit 0 ∷ does 1 0 delete
 unfolding openRules
 delete-late = refl
 
--- H11, Req 03: nor writes or locks it between another's write or lock of it and that one's commit; pairs of what is done to tuple 0, of which the
--- second may come after the first only when that one is committed
+-- H11, Req 03: nor writes or locks it between another's write or lock of it and that one's commit, whatever attributes the two are of and
+-- whoever does so; pairs of what is done to tuple 0, of which the second may come after the first only when that one is committed
 abbrev claimsOfTwo : List (Action × Action)
-claimsOfTwo = (lock, lock) ∷ (lock, write) ∷ (lock, delete) ∷ (write, lock) ∷ []
+claimsOfTwo = (lock, lock) ∷ (lock, write) ∷ (lock, delete) ∷ (write, lock) ∷ (write, write) ∷ (write, delete) ∷ []
 
-lock-early : map (λ c. rules (does 0 0 (c .0) 0 ∷ does 1 0 (c .1) 0 ∷ [])) claimsOfTwo ≡ replicate 4 false
+-- the pairs in turn, for sets that meet and sets that do not, between these events of one and of another transaction
+abbrev bySets : ℕ → ℕ → (Event → List Event) → List (List Bool)
+bySets i j between =
+    map
+    (λ x. map (λ c. let first = event i 0 0 (c .0) 0 0 1 in rules (first ∷ between first ++ (event j 2 2 (c .1) 0 0 x ∷ []))) claimsOfTwo)
+    (1 ∷ 2 ∷ [])
+
+lock-early : map (λ (p : ℕ × ℕ). bySets (p .0) (p .1) (λ e. [])) ((0, 1) ∷ (3, 2) ∷ []) ≡ replicate 2 (replicate 2 (replicate 6 false))
 unfolding openRules
 lock-early = refl
 
-lock-late : map (λ c. rules (does 0 0 (c .0) 0 ∷ does 0 1 commit 0 ∷ does 1 0 (c .1) 0 ∷ [])) claimsOfTwo ≡ replicate 4 true
+lock-late : map (λ (p : ℕ × ℕ). bySets (p .0) (p .1) (λ e. event (e .transaction) 1 1 commit 0 0 0 ∷ [])) ((0, 1) ∷ (3, 2) ∷ [])
+    ≡ replicate 2 (replicate 2 (replicate 6 true))
 unfolding openRules
 lock-late = refl
 
 -- H11, Req 03: a transaction's own locks and writes do not bar it
-lock-own : map (λ c. rules (does 0 0 (c .0) 0 ∷ does 0 1 (c .1) 0 ∷ [])) claimsOfTwo ≡ replicate 4 true
+lock-own : bySets 0 0 (λ e. []) ≡ replicate 2 (replicate 6 true)
 unfolding openRules
 lock-own = refl
 

@@ -130,8 +130,8 @@ module _ {start : ℕ → ℕ → Bool} {events : List Event} (lawful : Lawful s
         go (read-write apart r w s k h) = order apart w s h (decLt n m) (decLt m n)
         go (predicate-write apart p w t h) = absurd (read-not-predicate (b .action) rb p)
 
-    -- Req 03: a dependency that leaves a lock: likewise. A write of the tuple before it is committed by then, and so unseen only where the locker
-    -- had written the tuple, and committed, before that; a write after it waits for the commit
+    -- Req 03: a dependency that leaves a lock: likewise. A write of the tuple before the lock has committed by then, so it is seen, unless the locker
+    -- had written the tuple before it; but then it waited for the locker's commit. A write after the lock waits for that commit, too
     pub lock-left : {ci cj : ℕ} → isLock (b .action) ≡ true → CommitsAt events (b .transaction) ci → CommitsAt events (a .transaction) cj → ci < n
     lock-left {ci} {cj} lb commit-b commit-a = go dependency
       where
