@@ -1,7 +1,8 @@
 -- The table of facts is the believed tables of the graph, and a kind is read back from its number.
 use mathlib.Core.Bool.{Bool, true, false, cond, not}
 use mathlib.Core.Path.{_≡_, refl, sym, ap, subst, _∙_}
-use Prim.Native.Nat.{ℕ, _<_}
+use Prim.Native.Nat.{ℕ, _<_, _%_}
+use native.Mathlib.Nat.{mod-eq-of-lt}
 use native.Mathlib.Omega.{arith}
 use lib.Dec.{eqb}
 use borrow.Author.Tests.{eq-eqb, ne-eqb}
@@ -10,26 +11,12 @@ use Rattle.spec_text.specs.declared.StatementKind.{StatementKind}
 use Rattle.spec_text.specs.declared.StatementKind.the-variants.{Is, Ks, Ps, Ku, Pu, Kd, Pd, Kl}
 use Rattle.spec_graph.specs.Edge as E
 use Rattle.law_base.specs.ListLaws.{all-numbers}
-use Rattle.edge_kinds.specs.Kinds.{testsBit, insertBit, deleteBit, selectBit, shieldBit, looseBit, kindFacts, kindCount, kindNumber, kindOf}
+use Rattle.edge_kinds.specs.Kinds.{testsBit, insertBit, deleteBit, selectBit, shieldBit, looseBit, kindFacts}
+use Rattle.edge_kinds.specs.Kinds.{kindCount, kindNumber, kindNamed, kindOf}
 
 -- ---- kinds and numbers
 
--- the number of a kind tells the kind
-pub kindOf-number : (k : StatementKind) → kindOf (kindNumber k) ≡ k
-unfolding kindOf
-kindOf-number Is = refl
-kindOf-number Ks = refl
-kindOf-number Ps = refl
-kindOf-number Ku = refl
-kindOf-number Pu = refl
-kindOf-number Kd = refl
-kindOf-number Pd = refl
-kindOf-number Kl = refl
-
-pub number-named : (k : StatementKind) {x : ℕ} → x ≡ kindNumber k → k ≡ kindOf x
-number-named k e = sym (ap kindOf e ∙ kindOf-number k)
-
--- and is below their count
+-- the number of a kind is below their count
 pub number-small : (k : StatementKind) → kindNumber k < kindCount
 number-small Is = omega arith
 number-small Ks = omega arith
@@ -39,6 +26,27 @@ number-small Pu = omega arith
 number-small Kd = omega arith
 number-small Pd = omega arith
 number-small Kl = omega arith
+
+-- it names the kind
+kindNamed-number : (k : StatementKind) → kindNamed (kindNumber k) ≡ k
+unfolding kindNamed
+kindNamed-number Is = refl
+kindNamed-number Ks = refl
+kindNamed-number Ps = refl
+kindNamed-number Ku = refl
+kindNamed-number Pu = refl
+kindNamed-number Kd = refl
+kindNamed-number Pd = refl
+kindNamed-number Kl = refl
+
+-- and so does every number with this remainder
+pub number-named : (k : StatementKind) (x : ℕ) → x % kindCount ≡ kindNumber k → k ≡ kindOf x
+unfolding kindOf
+number-named k x e = sym (ap kindNamed e ∙ kindNamed-number k)
+
+-- the number of a kind tells the kind
+pub kindOf-number : (k : StatementKind) → kindOf (kindNumber k) ≡ k
+kindOf-number k = sym (number-named k (kindNumber k) (mod-eq-of-lt (number-small k)))
 
 -- ---- what is told of every kind is computed once, over the numbers of all
 
@@ -74,7 +82,7 @@ pub record Told (k : StatementKind) : Type 0 where
   pub loosens : Bit looseBit E.loosens k
 
 pub told : (k : StatementKind) → Told k
-unfolding kindOf
+unfolding kindOf kindNamed
 told k = record {
   tests = bit-of testsBit E.hasTests refl k;
   inserts = bit-of insertBit E.inserts refl k;

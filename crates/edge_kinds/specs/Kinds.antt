@@ -1,6 +1,6 @@
 -- The facts of the kinds in one table, and a kind as a number. That the facts are the believed tables of the graph is in `KindLaws`.
 use mathlib.Core.Bool.{cond}
-use Prim.Native.Nat.{ℕ, _+_}
+use Prim.Native.Nat.{ℕ, _+_, _%_}
 use lib.Dec.{eqb}
 use Rattle.spec_text.specs.declared.StatementKind.{StatementKind}
 use Rattle.spec_text.specs.declared.StatementKind.the-variants.{Is, Ks, Ps, Ku, Pu, Kd, Pd, Kl}
@@ -41,7 +41,7 @@ kindFacts Kl = shieldBit
 abbrev pub kindCount : ℕ
 kindCount = 8
 
--- the number of a kind, and the kind of a number
+-- the number of a kind
 abbrev pub kindNumber : StatementKind → ℕ
 kindNumber Is = 0
 kindNumber Ks = 1
@@ -52,8 +52,9 @@ kindNumber Kd = 5
 kindNumber Pd = 6
 kindNumber Kl = 7
 
-unfoldable pub kindOf : ℕ → StatementKind
-kindOf n =
+-- the kind that a number below the count names
+unfoldable pub kindNamed : ℕ → StatementKind
+kindNamed n =
     cond (eqb n 0) Is
     (cond (eqb n 1) Ks
     (cond (eqb n 2) Ps
@@ -62,3 +63,7 @@ kindOf n =
     (cond (eqb n 5) Kd
     (cond (eqb n 6) Pd
     Kl))))))
+
+-- the kind of any number: they count modulo their count
+unfoldable pub kindOf : ℕ → StatementKind
+kindOf n = kindNamed (n % kindCount)
