@@ -2,25 +2,31 @@
 -- number at the same line, or accepted with the same lines but for the kind.
 use mathlib.Core.Path.{_≡_, refl, sym, ap, ap₂, _∙_}
 use mathlib.Core.Bool.{Bool, true, false, cond, not, _&&_, _||_}
-use mathlib.Core.List.{List, [], _∷_, _++_, map, map-append}
+use mathlib.Core.List.{List, [], _∷_, _++_, map, map-append, tail, headD}
 use mathlib.Core.Option.{Option, none, some, Option·map}
 use Prim.Native.Nat.{ℕ, suc, _+_}
-use lib.Dec.{eqb, leb, ltb}
+use native.Mathlib.Omega.{arith}
+use borrow.Author.Tests.{eqb-true, eq-eqb}
+use lib.Dec.{eqb, leb}
 use lib.ListN.{length, getD, length-map, List·getD-map}
 use Rattle.spec_base.specs.Basic.{any, all, keep, first, count, within}
-use Rattle.law_base.specs.ListLaws.{any-map, any-same, all-map, all-same, count-keep}
+use Rattle.law_base.specs.BoolLaws.{true-false, and-true, and-of}
+use Rattle.law_base.specs.ListLaws.{any-map, any-same, all-map, all-same, count-keep, first-some}
 use Rattle.spec_text.specs.declared.Line.{Line}
 use Rattle.spec_text.specs.declared.LineKind.{LineKind}
 use Rattle.spec_text.specs.declared.LineKind.the-variants.{Rl, Fk, Pr, St, Lo, Br, El, En, Li}
 use Rattle.spec_text.specs.declared.StatementKind.{StatementKind}
 use Rattle.spec_text.specs.declared.StatementKind.the-variants.{Is, Ks, Ps, Ku, Pu, Kd, Pd, Kl}
-use Rattle.spec_text.specs.Text.{space, same, onFirst, fieldsIn, wordOf, kinds, kindOf, formsOf, valuesOf, lineWith, lineOf, unusedLine}
+use Rattle.spec_text.specs.Text.{newline, space, same, onFirst, linesIn, fieldsIn, namesLine, wordOf, kinds}
+use Rattle.spec_text.specs.Text.{kindOf, formsOf, valuesOf, lineWith, lineOf, unusedLine}
 use Rattle.spec_text.specs.Reading.{sort, isRelation, isKey, isProgram, isStatementOrFlow, isLink, isStatementOf, isStatement}
-use Rattle.spec_text.specs.Reading.{program, relation, key, statement, Block, sameBlock, blocksAfter, blocksAfterLines, openBlocks}
+use Rattle.spec_text.specs.Reading.{program, relation, key, statement, Block, blocksAfter, blocksAfterLines, openBlocks}
 use Rattle.spec_text.specs.Reading.{beforeStatement, blocksAround, relationSet, bounded, withinBounds, inBody, noneOpen, innermost}
 use Rattle.spec_text.specs.Reading.{loop, firstArm, secondArm, ordered, named, kindSets, setsFit, canBeParent, allAround, linkFits}
-use Rattle.spec_text.specs.Reading.{testsOf, firstFailed, fault, Outcome, readLines}
+use Rattle.spec_text.specs.Reading.{testsOf, fault, Outcome, readLines, isAllowed, otherByte, endsLine, read}
 use Rattle.spec_text.specs.Reading.Outcome.{refused, accepted}
+use Rattle.spec_text.specs.Quoted.{text}
+use Rattle.law_text.specs.TextLaws.{same-equal, value-line}
 
 -- ---- ks for kl
 
@@ -248,7 +254,7 @@ own-count-kept p kept lines = ap (count p) (program-kept lines) ∙ count-kept p
 
 -- ---- each rule
 
--- T12, R9: the bounds
+-- T12: the bounds on lines
 bounded-kept : (lines : List Line) → bounded (map selected lines) ≡ bounded lines
 unfolding bounded
 bounded-kept lines =
@@ -262,6 +268,7 @@ bounded-kept lines =
       own-blocks-kept lines,
     )
 
+-- R9: the bounds with one line more
 bounds-kept : (before : List Line) (l : Line) → withinBounds (map selected before) (selected l) ≡ withinBounds before l
 unfolding withinBounds
 bounds-kept before l = ap bounded (sym (map-append selected before (l ∷ []))) ∙ bounded-kept (before ++ (l ∷ []))
@@ -347,11 +354,12 @@ setsFit-kept before l = go (l .kind) refl
     go En e = rw (e, setsFit)
     go Li e = rw (e, setsFit)
 
--- T7: a key, and a statement of the program at hand
+-- T7: a key
 key-kept : (lines : List Line) (f : ℕ) → key (map selected lines) f ≡ selected (key lines f)
 unfolding key
 key-kept lines f = place-kept isKey key-test lines f
 
+-- T7: a statement of the program at hand
 own-statement-kept : (lines : List Line) (s : ℕ) → statement (program (map selected lines)) s ≡ selected (statement (program lines) s)
 unfolding statement
 own-statement-kept lines s =
@@ -384,16 +392,101 @@ fault-as-select before l =
 
 -- ---- the line
 
--- T1 to T5: the bytes of a line with ks for kl give what those with kl give, with ks for kl
-pub line-as-select : (rest : List ℕ)
-    → lineOf (wordOf (St Ks) ++ (space ∷ rest)) ≡ Option·map selected (lineOf (wordOf (St Kl) ++ (space ∷ rest)))
-unfolding lineOf fieldsIn onFirst kindOf kinds same wordOf formsOf lineWith selectKind select
-line-as-select rest = go (valuesOf (formsOf (St Kl)) (fieldsIn rest))
+-- T1 to T5: a line that begins with the word ks gives what it gives with the word kl, with ks for kl
+pub line-as-select : (rest : List ℕ) → lineOf (wordOf (St Ks) ++ rest) ≡ Option·map selected (lineOf (wordOf (St Kl) ++ rest))
+unfolding lineOf fieldsIn onFirst kindOf kinds same wordOf formsOf valuesOf lineWith selectKind select
+line-as-select [] = refl
+line-as-select (b ∷ rest) = go (eqb b space) (fieldsIn rest)
   where
-    go : (o : Option (List ℕ)) → elim o [ none ↦ none | some values ↦ some (lineWith (St Ks) values) ]
+    parts : Bool → List (List ℕ) → List (List ℕ)
+    parts a fields = elim a [ true ↦ [] ∷ fields | false ↦ onFirst b fields ]
+
+    line : List (List ℕ) → Option Line
+    line fields =
+        elim fields [
+          | [] ↦ none
+          | word ∷ others ↦
+              elim (kindOf word) [
+                | none ↦ none
+                | some k ↦ elim (valuesOf (formsOf k) others) [ none ↦ none | some values ↦ some (lineWith k values) ]
+              ]
+        ]
+
+    by-values : (o : Option (List ℕ)) → elim o [ none ↦ none | some values ↦ some (lineWith (St Ks) values) ]
         ≡ Option·map selected (elim o [ none ↦ none | some values ↦ some (lineWith (St Kl) values) ])
-    go none = refl
-    go (some values) = refl
+    by-values none = refl
+    by-values (some values) = refl
+
+    go : (a : Bool) (fields : List (List ℕ)) → line (onFirst 0x6b (onFirst 0x73 (parts a fields)))
+        ≡ Option·map selected (line (onFirst 0x6b (onFirst 0x6c (parts a fields))))
+    go true fields = by-values (valuesOf (formsOf (St Kl)) fields)
+    go false [] = refl
+    go false (part ∷ others) = refl
+
+-- T1: a line begins with its first field
+first-field : (bytes : List ℕ) {word : List ℕ} {others : List (List ℕ)} → fieldsIn bytes ≡ word ∷ others
+    → (rest : List ℕ) × (bytes ≡ word ++ rest)
+unfolding fieldsIn onFirst
+first-field [] {word} h = let none-in : word ≡ [] = cc in ([], rw none-in)
+first-field (b ∷ bytes) {word} {others} h = go (eqb b space) (fieldsIn bytes) refl h (λ part parts e. first-field bytes e)
+  where
+    go : (a : Bool) (fields : List (List ℕ)) → fieldsIn bytes ≡ fields
+        → elim a [ true ↦ [] ∷ fields | false ↦ onFirst b fields ] ≡ word ∷ others
+        → ((part : List ℕ) (parts : List (List ℕ)) → fieldsIn bytes ≡ part ∷ parts → (rest : List ℕ) × (bytes ≡ part ++ rest))
+        → (rest : List ℕ) × (b ∷ bytes ≡ word ++ rest)
+    go true fields e h next = let none-in : word ≡ [] = cc in (b ∷ bytes, rw none-in)
+    go false [] e h next = let one : word ≡ b ∷ [] = cc in (bytes, rw one)
+    go false (part ∷ parts) e h next =
+        let t = next part parts e in
+        let more : word ≡ b ∷ part = cc in
+        (t .0, rw more (ap {B = List ℕ} (λ x. b ∷ x) (t .1)))
+
+-- T5: a line of kind kl begins with the word kl
+kl-word : (bytes : List ℕ) (l : Line) → lineOf bytes ≡ some l → l .kind ≡ St Kl → (rest : List ℕ) × (bytes ≡ wordOf (St Kl) ++ rest)
+unfolding kindOf
+kl-word bytes l h e =
+    let v = value-line bytes l h in
+    let passes = first-some (λ k. same (v .word) (wordOf k)) kinds (v .kind-word) .1 in
+    let word : v .word ≡ wordOf (St Kl) = same-equal (v .word) (wordOf (l .kind)) passes ∙ ap wordOf e in
+    first-field bytes (rw word at (v .fields))
+
+-- a line of another kind has no kl to put ks for
+other-kept : (l : Line) → (l .kind ≡ St Kl → ⊥) → selected l ≡ l
+unfolding selectKind select
+other-kept l other = go (l .kind) refl
+  where
+    with-kind : (k : LineKind) → l .kind ≡ k → selectKind k ≡ k → selected l ≡ l
+    with-kind k e h =
+        ap {B = Line}
+        (λ x. record { kind = x; id = l .id; rel = l .rel; to = l .to; reads = l .reads; writes = l .writes; tests = l .tests })
+        (ap selectKind e ∙ h ∙ sym e)
+
+    go : (k : LineKind) → l .kind ≡ k → selected l ≡ l
+    go Rl e = with-kind Rl e refl
+    go Fk e = with-kind Fk e refl
+    go Pr e = with-kind Pr e refl
+    go (St Is) e = with-kind (St Is) e refl
+    go (St Ks) e = with-kind (St Ks) e refl
+    go (St Ps) e = with-kind (St Ps) e refl
+    go (St Ku) e = with-kind (St Ku) e refl
+    go (St Pu) e = with-kind (St Pu) e refl
+    go (St Kd) e = with-kind (St Kd) e refl
+    go (St Pd) e = with-kind (St Pd) e refl
+    go (St Kl) e = absurd (other e)
+    go Lo e = with-kind Lo e refl
+    go Br e = with-kind Br e refl
+    go El e = with-kind El e refl
+    go En e = with-kind En e refl
+    go Li e = with-kind Li e refl
+
+-- a line that does not begin with the word kl gives what it gives with ks for kl
+pub other-as-select : (bytes : List ℕ) → ((rest : List ℕ) → bytes ≡ wordOf (St Kl) ++ rest → ⊥)
+    → lineOf bytes ≡ Option·map selected (lineOf bytes)
+other-as-select bytes other = go (lineOf bytes) refl
+  where
+    go : (o : Option Line) → lineOf bytes ≡ o → o ≡ Option·map selected o
+    go none h = refl
+    go (some l) h = ap {B = Option Line} some (sym (other-kept l (λ e. let t = kl-word bytes l h e in other (t .0) (t .1))))
 
 -- ---- the whole reading
 
@@ -456,3 +549,190 @@ read-as-select before (b ∷ bs) (c ∷ cs) w =
         ])
     by-line none e next = rw (e, length-map before selected)
     by-line (some l) e next = rw e (by-fault l (fault before l) (fault-as-select before l) (length-map before selected) (next l))
+
+-- ---- the text
+
+-- a place in a line: at its first byte, after a first byte k, further on
+pub data Place : Type 0 where
+  at-first after-k further : Place
+
+-- the place after a byte of the line
+unfoldable pub placeAfter : Place → ℕ → Place
+placeAfter at-first b = cond (eqb b 0x6b) after-k further
+placeAfter after-k b = further
+placeAfter further b = further
+
+-- the byte put for this one: s for the l of a word kl
+unfoldable pub bytePut : Place → ℕ → ℕ
+bytePut at-first b = b
+bytePut after-k b = cond (eqb b 0x6c) 0x73 b
+bytePut further b = b
+
+-- a line from this place on with the word ks for the word kl
+unfoldable pub linePut : Place → List ℕ → List ℕ
+linePut place [] = []
+linePut place (b ∷ line) = bytePut place b ∷ linePut (placeAfter place b) line
+
+-- a text from this place of a line on with the word ks for each word kl
+unfoldable pub textPut : Place → List ℕ → List ℕ
+textPut place [] = []
+textPut place (b ∷ text) = bytePut place b ∷ textPut (cond (eqb b newline) at-first (placeAfter place b)) text
+
+-- ks is put for the kl that begin lines
+put-example : textPut at-first (text ("kd 0 1 - - 3 -" ∷ "kl 1 1 - 2 - -" ∷ "kl" ∷ "li kl" ∷ []))
+    ≡ text ("kd 0 1 - - 3 -" ∷ "ks 1 1 - 2 - -" ∷ "ks" ∷ "li kl" ∷ [])
+unfolding textPut bytePut placeAfter text
+put-example = refl
+
+-- a test that does not tell s from l
+byte-kept : (p : ℕ → Bool) → p 0x73 ≡ p 0x6c → (place : Place) (b : ℕ) → p (bytePut place b) ≡ p b
+unfolding bytePut
+byte-kept p h at-first b = refl
+byte-kept p h after-k b = go (eqb b 0x6c) refl
+  where
+    go : (a : Bool) → eqb b 0x6c ≡ a → p (cond a 0x73 b) ≡ p b
+    go true e = h ∙ ap p (sym (eqb-true b 0x6c e))
+    go false e = refl
+byte-kept p h further b = refl
+
+-- nothing is put further on
+further-same : (line : List ℕ) → linePut further line ≡ line
+unfolding linePut bytePut placeAfter
+further-same [] = refl
+further-same (b ∷ line) = ap {B = List ℕ} (λ x. b ∷ x) (further-same line)
+
+-- the second byte of a line is put, and only that
+second-put : (a b : ℕ) (line : List ℕ) → linePut at-first (a ∷ b ∷ line) ≡ a ∷ cond (eqb a 0x6b && eqb b 0x6c) 0x73 b ∷ line
+unfolding linePut bytePut placeAfter
+second-put a b line = go (eqb a 0x6b)
+  where
+    go : (f : Bool) → a ∷ bytePut (cond f after-k further) b ∷ linePut (placeAfter (cond f after-k further) b) line
+        ≡ a ∷ cond (f && eqb b 0x6c) 0x73 b ∷ line
+    go true = ap {B = List ℕ} (λ x. a ∷ cond (eqb b 0x6c) 0x73 b ∷ x) (further-same line)
+    go false = ap {B = List ℕ} (λ x. a ∷ b ∷ x) (further-same line)
+
+-- T1 to T5: a line with the word ks put for kl gives what the line gives, with ks for kl
+pub put-as-select : (line : List ℕ) → lineOf (linePut at-first line) ≡ Option·map selected (lineOf line)
+unfolding linePut bytePut wordOf
+put-as-select [] = other-as-select [] (λ rest e. let wrong : _≡_ {A = ℕ} 0 1 = cc in omega arith)
+put-as-select (a ∷ []) = other-as-select (a ∷ []) (λ rest e. let wrong : _≡_ {A = ℕ} 0 1 = cc in omega arith)
+put-as-select (a ∷ b ∷ line) = ap lineOf (second-put a b line) ∙ go (eqb a 0x6b && eqb b 0x6c) refl
+  where
+    go : (f : Bool) → eqb a 0x6b && eqb b 0x6c ≡ f → lineOf (a ∷ cond f 0x73 b ∷ line) ≡ Option·map selected (lineOf (a ∷ b ∷ line))
+    go true e =
+        let both = and-true (eqb a 0x6b) (eqb b 0x6c) e in
+        rw (eqb-true a 0x6b (both .0), eqb-true b 0x6c (both .1)) (line-as-select line)
+    go false e =
+        other-as-select (a ∷ b ∷ line)
+        (λ rest h.
+        let k : a ≡ 0x6b = cc in
+        let l : b ≡ 0x6c = cc in
+        true-false (and-of (eq-eqb a 0x6b k) (eq-eqb b 0x6c l)) e)
+
+-- so lines with the word ks put for kl are lines with ks for kl
+lines-put : (lines : List (List ℕ)) → WithSelect lines (map (linePut at-first) lines)
+lines-put [] = tt
+lines-put (line ∷ lines) = (put-as-select line, lines-put lines)
+
+-- lines of which the first is put from this place on, and the others from their first bytes on
+unfoldable linesPut : Place → List (List ℕ) → List (List ℕ)
+linesPut place [] = []
+linesPut place (line ∷ lines) = linePut place line ∷ map (linePut at-first) lines
+
+-- T1: the lines of the text that is put are those of the text, each put
+lines-of-put : (place : Place) (text : List ℕ) → linesIn (textPut place text) ≡ linesPut place (linesIn text)
+unfolding linesIn textPut linePut onFirst linesPut
+lines-of-put place [] = refl
+lines-of-put place (b ∷ text) =
+    go (eqb b newline) (byte-kept (λ x. eqb x newline) refl place b) (λ next. lines-of-put next text)
+  where
+    whole : (lines : List (List ℕ)) → linesPut at-first lines ≡ map (linePut at-first) lines
+    whole [] = refl
+    whole (line ∷ lines) = refl
+
+    joined : (lines : List (List ℕ))
+        → onFirst (bytePut place b) (linesPut (placeAfter place b) lines) ≡ linesPut place (onFirst b lines)
+    joined [] = refl
+    joined (line ∷ lines) = refl
+
+    go : (a : Bool) {c : Bool} → c ≡ a → ((next : Place) → linesIn (textPut next text) ≡ linesPut next (linesIn text))
+        → elim c [
+          | true ↦ [] ∷ linesIn (textPut (cond a at-first (placeAfter place b)) text)
+          | false ↦ onFirst (bytePut place b) (linesIn (textPut (cond a at-first (placeAfter place b)) text))
+        ]
+        ≡ linesPut place (elim a [ true ↦ [] ∷ linesIn text | false ↦ onFirst b (linesIn text) ])
+    go true e next = rw e (ap {B = List (List ℕ)} (λ x. [] ∷ x) (next at-first ∙ whole (linesIn text)))
+    go false e next = rw e (ap (onFirst (bytePut place b)) (next (placeAfter place b)) ∙ joined (linesIn text))
+
+-- R1: there are as many bytes
+length-put : (place : Place) (text : List ℕ) → length (textPut place text) ≡ length text
+unfolding textPut
+length-put place [] = refl
+length-put place (b ∷ text) = ap suc (length-put (cond (eqb b newline) at-first (placeAfter place b)) text)
+
+-- R2: the first other byte is in the same line
+other-put : (place : Place) (n : ℕ) (text : List ℕ) → otherByte n (textPut place text) ≡ otherByte n text
+unfolding textPut otherByte isAllowed
+other-put place n [] = refl
+other-put place n (b ∷ text) =
+    go (isAllowed b) (byte-kept isAllowed refl place b)
+    (ap (λ m. otherByte m (textPut (cond (eqb b newline) at-first (placeAfter place b)) text))
+    (ap (λ c. cond c (suc n) n) (byte-kept (λ x. eqb x newline) refl place b))
+    ∙ other-put (cond (eqb b newline) at-first (placeAfter place b)) (cond (eqb b newline) (suc n) n) text)
+  where
+    go : (a : Bool) {c : Bool} {o : Option ℕ} → c ≡ a → o ≡ otherByte (cond (eqb b newline) (suc n) n) text
+        → _≡_ {A = Option ℕ} (elim c [ true ↦ o | false ↦ some n ])
+        (elim a [ true ↦ otherByte (cond (eqb b newline) (suc n) n) text | false ↦ some n ])
+    go true e h = rw e h
+    go false e h = rw e
+
+-- R2: the last byte is 0A or not
+ends-put : (place : Place) (text : List ℕ) → endsLine (textPut place text) ≡ endsLine text
+unfolding textPut endsLine
+ends-put place [] = refl
+ends-put place (b ∷ []) = byte-kept (λ x. eqb x newline) refl place b
+ends-put place (b ∷ c ∷ text) = ends-put (cond (eqb b newline) at-first (placeAfter place b)) (c ∷ text)
+
+-- R3: a line is the names line or not
+names-put : (line : List ℕ) → same (linePut at-first line) namesLine ≡ same line namesLine
+unfolding same namesLine linePut bytePut
+names-put [] = refl
+names-put (a ∷ []) = refl
+names-put (a ∷ b ∷ line) = ap (λ x. same x namesLine) (second-put a b line) ∙ go (eqb a 0x6b && eqb b 0x6c) refl
+  where
+    go : (f : Bool) → eqb a 0x6b && eqb b 0x6c ≡ f → same (a ∷ cond f 0x73 b ∷ line) namesLine ≡ same (a ∷ b ∷ line) namesLine
+    go true e = rw (eqb-true b 0x6c (and-true (eqb a 0x6b) (eqb b 0x6c) e .1))
+    go false e = refl
+
+-- a test, and a search that must find nothing, before what is read
+test-outcome : (m n : ℕ) (o : Outcome) (a : Bool) {c : Bool} {q : Outcome} → c ≡ a → q ≡ selectOutcome o
+    → elim c [ false ↦ refused m n | true ↦ q ] ≡ selectOutcome (elim a [ false ↦ refused m n | true ↦ o ])
+unfolding selectOutcome
+test-outcome m n o true e h = rw e h
+test-outcome m n o false e h = rw e
+
+search-outcome : (o : Outcome) (a : Option ℕ) {c : Option ℕ} {q : Outcome} → c ≡ a → q ≡ selectOutcome o
+    → elim c [ some line ↦ refused 2 line | none ↦ q ] ≡ selectOutcome (elim a [ some line ↦ refused 2 line | none ↦ o ])
+unfolding selectOutcome
+search-outcome o none e h = rw e h
+search-outcome o (some line) e h = rw e
+
+-- put ks for every kl of a text: it is refused by the same number at the same line, or accepted with the same lines but ks for kl
+pub text-as-select : (text : List ℕ) → read (textPut at-first text) ≡ selectOutcome (read text)
+unfolding read linesPut headD
+text-as-select text =
+    let lines = lines-of-put at-first text in
+    test-outcome 1 0 _ (leb (length text) 32768) (ap (λ n. leb n 32768) (length-put at-first text))
+    (search-outcome _ (otherByte 1 text) (other-put at-first 1 text)
+    (test-outcome 2 0 _ (endsLine text) (ends-put at-first text)
+    (test-outcome 3 1 _ (same (headD (linesIn text) []) namesLine)
+    (ap (λ x. same (headD x []) namesLine) lines ∙ names (linesIn text))
+    (ap (λ x. readLines [] (tail x)) lines ∙ body (linesIn text)))))
+  where
+    names : (lines : List (List ℕ)) → same (headD (linesPut at-first lines) []) namesLine ≡ same (headD lines []) namesLine
+    names [] = refl
+    names (line ∷ lines) = names-put line
+
+    body : (lines : List (List ℕ)) → readLines [] (tail (linesPut at-first lines)) ≡ selectOutcome (readLines [] (tail lines))
+    body [] = read-as-select [] [] [] tt
+    body (line ∷ lines) = read-as-select [] lines (map (linePut at-first) lines) (lines-put lines)
