@@ -10,3 +10,4 @@ pub mod LockedParent
 pub mod KindsClause
 pub mod LockedFirst
 pub mod RuleMachines
+pub mod LockedTurns
