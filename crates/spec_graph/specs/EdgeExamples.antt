@@ -525,7 +525,8 @@ unfolding edges
 E3-lock-as-update l child parent = refl
 
 -- E3: the shield does not ask of what kind the child is, on either side
-E3-any-child : (k : StatementKind) (key : ℕ) (s : Place) → (guardedNear key (ofKind k s) ≡ guardedNear key s) × (guardedFar key (ofKind k s) ≡ guardedFar key s)
+E3-any-child : (k : StatementKind) (key : ℕ) (s : Place)
+    → (guardedNear key (ofKind k s) ≡ guardedNear key s) × (guardedFar key (ofKind k s) ≡ guardedFar key s)
 unfolding edges
 E3-any-child k key s = (refl, refl)
 
