@@ -8,9 +8,9 @@ use Rattle.spec_text.specs.declared.LineKind.{LineKind}
 use Rattle.spec_base.specs.Basic.{first}
 use Rattle.spec_text.specs.Text.{wordOf}
 
--- the number of a word's two bytes
+-- the number of a word's two bytes, the second byte first
 abbrev pub twoBytes : List ℕ → ℕ
-twoBytes word = getD word 0 0 * 256 + getD word 1 0
+twoBytes word = getD word 1 0 * 256 + getD word 0 0
 
 -- the first of these kinds whose word has this number
 unfoldable pub kindBy : ℕ → List LineKind → Option LineKind

@@ -18,7 +18,7 @@ use Rattle.text_fields.specs.FieldLaws.{kind-word}
 use Rattle.text_fields.specs.Word.{twoBytes, kindBy}
 
 -- words of two bytes with the same number are the same
-same-word : (v w : List ℕ) → length v ≡ 2 → length w ≡ 2 → getD v 1 0 < 256 → getD w 1 0 < 256 → twoBytes v ≡ twoBytes w → v ≡ w
+same-word : (v w : List ℕ) → length v ≡ 2 → length w ≡ 2 → getD v 0 0 < 256 → getD w 0 0 < 256 → twoBytes v ≡ twoBytes w → v ≡ w
 same-word [] w e f h i q = absurd (omega arith)
 same-word (a ∷ []) w e f h i q = absurd (omega arith)
 same-word (a ∷ b ∷ []) [] e f h i q = absurd (omega arith)
@@ -31,7 +31,7 @@ same-word (a ∷ b ∷ []) (x ∷ y ∷ z ∷ w) e f h i q = absurd (omega arith
 same-word (a ∷ b ∷ d ∷ v) w e f h i q = absurd (omega arith)
 
 -- the word of a kind is its own
-pub kind-of-word : (k : LineKind) → (kindOf (wordOf k) ≡ some k) × (getD (wordOf k) 1 0 < 256)
+pub kind-of-word : (k : LineKind) → (kindOf (wordOf k) ≡ some k) × (getD (wordOf k) 0 0 < 256)
 unfolding kindOf kinds wordOf same
 kind-of-word Rl = (refl, omega arith)
 kind-of-word Fk = (refl, omega arith)
@@ -56,7 +56,7 @@ same-self [] = refl
 same-self (a ∷ l) = rw (eq-eqb a a refl) (same-self l)
 
 -- a word of two bytes has a kind's number exactly if it is the kind's word
-same-number : (word : List ℕ) → length word ≡ 2 → getD word 1 0 < 256 → (k : LineKind) (t : Bool) → same word (wordOf k) ≡ t
+same-number : (word : List ℕ) → length word ≡ 2 → getD word 0 0 < 256 → (k : LineKind) (t : Bool) → same word (wordOf k) ≡ t
     → eqb (twoBytes word) (twoBytes (wordOf k)) ≡ t
 same-number word e h k true q = eq-eqb _ _ (ap twoBytes (same-equal word (wordOf k) q))
 same-number word e h k false q =
@@ -68,7 +68,7 @@ same-number word e h k false q =
         let z : _≡_ {A = ℕ} 0 1 = cc in
         omega arith
 
-kinds-number : (word : List ℕ) → length word ≡ 2 → getD word 1 0 < 256 → (among : List LineKind)
+kinds-number : (word : List ℕ) → length word ≡ 2 → getD word 0 0 < 256 → (among : List LineKind)
     → kindBy (twoBytes word) among ≡ first (λ k. same word (wordOf k)) among
 unfolding kindBy
 kinds-number word e h [] = refl
@@ -77,7 +77,7 @@ kinds-number word e h (k ∷ among) =
     (ap (cond (same word (wordOf k)) (some k)) (kinds-number word e h among))
 
 -- the kind of a word of two bytes is the one that its number tells
-pub kind-number : (word : List ℕ) → length word ≡ 2 → getD word 1 0 < 256 → kindBy (twoBytes word) kinds ≡ kindOf word
+pub kind-number : (word : List ℕ) → length word ≡ 2 → getD word 0 0 < 256 → kindBy (twoBytes word) kinds ≡ kindOf word
 unfolding kindOf
 kind-number word e h = kinds-number word e h kinds
 

@@ -86,7 +86,8 @@ fn wide(b: u8) -> u32
 // How many bytes there are.
 const BYTES: u32 = 256;
 
-// The kind whose word this is; the two bytes of a word make one number.
+// The kind whose word this is; the two bytes of a word make one number, the second byte first: few kinds share it, so that they are told apart by
+// comparing alone.
 fn kind_of(word: &[u8]) -> KindRead
     ensures { λ r. ⌜ kindAnswer r ≡ kindOf (now (word .entry)) ⌝ }
 {
@@ -95,24 +96,24 @@ fn kind_of(word: &[u8]) -> KindRead
     }
     let a = wide(word[0]);
     let b = wide(word[1]);
-    let both = a * BYTES + b;
+    let both = b * BYTES + a;
     match both {
-        0x726c => KindRead::Kind(LineKind::Rl),
-        0x666b => KindRead::Kind(LineKind::Fk),
-        0x7072 => KindRead::Kind(LineKind::Pr),
-        0x6973 => KindRead::Kind(LineKind::St(StatementKind::Is)),
-        0x6b73 => KindRead::Kind(LineKind::St(StatementKind::Ks)),
-        0x7073 => KindRead::Kind(LineKind::St(StatementKind::Ps)),
-        0x6b75 => KindRead::Kind(LineKind::St(StatementKind::Ku)),
-        0x7075 => KindRead::Kind(LineKind::St(StatementKind::Pu)),
-        0x6b64 => KindRead::Kind(LineKind::St(StatementKind::Kd)),
-        0x7064 => KindRead::Kind(LineKind::St(StatementKind::Pd)),
-        0x6b6c => KindRead::Kind(LineKind::St(StatementKind::Kl)),
-        0x6c6f => KindRead::Kind(LineKind::Lo),
-        0x6272 => KindRead::Kind(LineKind::Br),
-        0x656c => KindRead::Kind(LineKind::El),
-        0x656e => KindRead::Kind(LineKind::En),
-        0x6c69 => KindRead::Kind(LineKind::Li),
+        0x6c72 => KindRead::Kind(LineKind::Rl),
+        0x6b66 => KindRead::Kind(LineKind::Fk),
+        0x7270 => KindRead::Kind(LineKind::Pr),
+        0x7369 => KindRead::Kind(LineKind::St(StatementKind::Is)),
+        0x736b => KindRead::Kind(LineKind::St(StatementKind::Ks)),
+        0x7370 => KindRead::Kind(LineKind::St(StatementKind::Ps)),
+        0x756b => KindRead::Kind(LineKind::St(StatementKind::Ku)),
+        0x7570 => KindRead::Kind(LineKind::St(StatementKind::Pu)),
+        0x646b => KindRead::Kind(LineKind::St(StatementKind::Kd)),
+        0x6470 => KindRead::Kind(LineKind::St(StatementKind::Pd)),
+        0x6c6b => KindRead::Kind(LineKind::St(StatementKind::Kl)),
+        0x6f6c => KindRead::Kind(LineKind::Lo),
+        0x7262 => KindRead::Kind(LineKind::Br),
+        0x6c65 => KindRead::Kind(LineKind::El),
+        0x6e65 => KindRead::Kind(LineKind::En),
+        0x696c => KindRead::Kind(LineKind::Li),
         _ => KindRead::Wrong,
     }
 }

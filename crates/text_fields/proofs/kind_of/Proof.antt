@@ -35,11 +35,11 @@ two c =
 
 -- so their number tells the kind
 told : (c : tie.After-wide2)
-    → kindBy (c .before .before .wide .result * 256 + c .wide2 .result) kinds
+    → kindBy (c .wide2 .result * 256 + c .before .before .wide .result) kinds
     ≡ kindOf (c .before .before .before .before .before .before .args .word .now)
 told c =
     rw (c .before .before .wide .ensures, c .wide2 .ensures)
-    (kind-number _ (c .before .before .before .before .if1 .left) (omega (arith, two c, c .wide2 .ensures)))
+    (kind-number _ (c .before .before .before .before .if1 .left) (omega (arith, two c, c .before .before .wide .ensures)))
 
 mul-both : tie.Need-mul-both
 mul-both c = omega (arith, two c)
