@@ -136,26 +136,30 @@ parent-kept Kl = refl
 abbrev Kept : (Line → Bool) → Type 0
 Kept p = (l : Line) → p (selected l) ≡ p l
 
--- the tests of the sorts, and that of statements, are such
+-- the test of a sort is such
+sort-test : (sorted : ℕ) → Kept (λ l. eqb (sort (l .kind)) sorted)
+sort-test sorted l = ap (λ n. eqb n sorted) (sort-kept (l .kind))
+
+-- and so are the tests by name, and that of statements
 relation-test : Kept isRelation
 unfolding isRelation
-relation-test l = ap (λ n. eqb n 0) (sort-kept (l .kind))
+relation-test = sort-test 0
 
 key-test : Kept isKey
 unfolding isKey
-key-test l = ap (λ n. eqb n 1) (sort-kept (l .kind))
+key-test = sort-test 1
 
 program-test : Kept isProgram
 unfolding isProgram
-program-test l = ap (λ n. eqb n 2) (sort-kept (l .kind))
+program-test = sort-test 2
 
 body-test : Kept isStatementOrFlow
 unfolding isStatementOrFlow
-body-test l = ap (λ n. eqb n 3) (sort-kept (l .kind))
+body-test = sort-test 3
 
 link-test : Kept isLink
 unfolding isLink
-link-test l = ap (λ n. eqb n 4) (sort-kept (l .kind))
+link-test = sort-test 4
 
 statement-test : Kept isStatement
 unfolding isStatement

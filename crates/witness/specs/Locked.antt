@@ -27,7 +27,7 @@ use Rattle.cases.specs.Computed.{allPass}
 use Rattle.witness.specs.Joined.{demand}
 use Rattle.witness.specs.Orders.{none-serves, one-serves, openOrders}
 use Rattle.witness.specs.Schedules.{inTurn, allVisible, interleaving, scheduled}
-use Rattle.witness.specs.Schedules.{lockBehindLock, lockBehindWrite, writeBehindLock, allObeyBut, Needed, openParts}
+use Rattle.witness.specs.Schedules.{lockBehindLock, lockBehindWrite, writeBehindLock, allObeyBut, Needed, needed, openParts}
 
 -- relation 0 is contacts; `kl`, or another kind in its place
 -- rl 0 - - 1 - -
@@ -212,24 +212,14 @@ two-refused = refl
 pub no-write-behind-lock : Needed (lines Kl) writeBehindLock
 unfolding openParts
 no-write-behind-lock =
-    record {
-      given = given;
-      robust = robust;
-      unbanned = interleaving (lines Kl) (0 ∷ 1 ∷ []) (judging Kl ∷ logging ∷ []) allVisible (λ f t. t) (loggedBetween lock) refl refl refl refl;
-      letThrough = refl;
-      refused = refl;
-      noOrder = none-serves 2 (loggedBetween lock) refl;
-    }
+    needed given robust
+    (interleaving (lines Kl) (0 ∷ 1 ∷ []) (judging Kl ∷ logging ∷ []) allVisible (λ f t. t) (loggedBetween lock) refl refl refl refl)
+    refl refl refl
 
 -- of `loggedBefore`, that a lock is behind another's write
 pub no-lock-behind-write : Needed (lines Kl) lockBehindWrite
 unfolding openParts
 no-lock-behind-write =
-    record {
-      given = given;
-      robust = robust;
-      unbanned = interleaving (lines Kl) (0 ∷ 1 ∷ []) (judging Kl ∷ logging ∷ []) allVisible (λ f t. t) (loggedBefore lock) refl refl refl refl;
-      letThrough = refl;
-      refused = refl;
-      noOrder = none-serves 2 (loggedBefore lock) refl;
-    }
+    needed given robust
+    (interleaving (lines Kl) (0 ∷ 1 ∷ []) (judging Kl ∷ logging ∷ []) allVisible (λ f t. t) (loggedBefore lock) refl refl refl refl)
+    refl refl refl

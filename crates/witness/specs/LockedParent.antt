@@ -26,7 +26,7 @@ use Rattle.cases.specs.Computed.{allPass}
 use Rattle.witness.specs.Joined.{demand}
 use Rattle.witness.specs.LateParent.{onPanelLine, linesShown, linesLast, panelOf, showing, logging}
 use Rattle.witness.specs.Orders.{none-serves, one-serves, openOrders}
-use Rattle.witness.specs.Schedules.{allVisible, interleaving, scheduled, Needed, lockBehindLock, openParts}
+use Rattle.witness.specs.Schedules.{allVisible, interleaving, scheduled, Needed, needed, lockBehindLock, openParts}
 use Rattle.witness.specs.Shields.{openShields}
 
 -- kl 0 0 - 2 - - first in program 0, kl 1 0 - 2 - - last in program 1
@@ -143,11 +143,6 @@ no-order = none-serves 2 (loggedBetween read) refl
 pub no-lock-behind-lock : Needed lines lockBehindLock
 unfolding openParts
 no-lock-behind-lock =
-    record {
-      given = given;
-      robust = robust;
-      unbanned = interleaving lines (0 ∷ 1 ∷ []) (showing Kl ∷ logging Kl ∷ []) allVisible panelOf (loggedBetween lock) refl refl refl refl;
-      letThrough = refl;
-      refused = refl;
-      noOrder = none-serves 2 (loggedBetween lock) refl;
-    }
+    needed given robust
+    (interleaving lines (0 ∷ 1 ∷ []) (showing Kl ∷ logging Kl ∷ []) allVisible panelOf (loggedBetween lock) refl refl refl refl)
+    refl refl refl

@@ -39,7 +39,7 @@ use Rattle.spec_schedule.specs.ScheduleExamples.{line, says, event, openWorkloa
 use Rattle.witness.specs.Joined.{demand}
 use Rattle.witness.specs.Orders.{none-serves, openOrders}
 use Rattle.witness.specs.Schedules.{inRow, performAll, link, allVisible, interleaving, scheduled}
-use Rattle.witness.specs.Schedules.{lockBehindLock, lockBehindWrite, writeBehindLock, Needed, openParts}
+use Rattle.witness.specs.Schedules.{lockBehindLock, lockBehindWrite, writeBehindLock, Needed, needed, openParts}
 use Rattle.witness.specs.Shields.{openShields}
 
 -- relation 0 is panels, relation 1 contacts; key 0 leads from a contact to its panel. `kl`, or another kind in its place, near and far
@@ -461,37 +461,20 @@ disjoint part w e = part w e && not (meets (w .attributes) (e .attributes))
 pub no-write-beside-lock : Needed lines (disjoint writeBehindLock)
 unfolding openParts
 no-write-beside-lock =
-    record {
-      given = given;
-      robust = robust;
-      unbanned =
-          interleaving lines (0 ∷ 1 ∷ []) (twoTurns Kl ∷ counting ∷ []) allVisible panelOf (loggedBetween lock countsOnPanel) refl refl refl refl;
-      letThrough = refl;
-      refused = refl;
-      noOrder = none-serves 2 (loggedBetween lock countsOnPanel) refl;
-    }
+    needed given robust
+    (interleaving lines (0 ∷ 1 ∷ []) (twoTurns Kl ∷ counting ∷ []) allVisible panelOf (loggedBetween lock countsOnPanel) refl refl refl refl)
+    refl refl refl
 
 pub no-lock-beside-lock : Needed lines (disjoint lockBehindLock)
 unfolding openParts
 no-lock-beside-lock =
-    record {
-      given = given;
-      robust = robust;
-      unbanned =
-          interleaving lines (0 ∷ 1 ∷ []) (twoTurns Kl ∷ locking ∷ []) allVisible panelOf (loggedBetween lock locksPanel) refl refl refl refl;
-      letThrough = refl;
-      refused = refl;
-      noOrder = none-serves 2 (loggedBetween lock locksPanel) refl;
-    }
+    needed given robust
+    (interleaving lines (0 ∷ 1 ∷ []) (twoTurns Kl ∷ locking ∷ []) allVisible panelOf (loggedBetween lock locksPanel) refl refl refl refl)
+    refl refl refl
 
 pub no-lock-beside-write : Needed lines (disjoint lockBehindWrite)
 unfolding openParts
 no-lock-beside-write =
-    record {
-      given = given;
-      robust = robust;
-      unbanned = interleaving lines (0 ∷ 1 ∷ []) (twoTurns Kl ∷ counting ∷ []) allVisible panelOf countedBefore refl refl refl refl;
-      letThrough = refl;
-      refused = refl;
-      noOrder = none-serves 2 countedBefore refl;
-    }
+    needed given robust
+    (interleaving lines (0 ∷ 1 ∷ []) (twoTurns Kl ∷ counting ∷ []) allVisible panelOf countedBefore refl refl refl refl)
+    refl refl refl

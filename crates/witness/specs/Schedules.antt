@@ -24,7 +24,7 @@ use Rattle.spec_schedule.specs.Event.{insertsFirst, deletesLast, meetsVisible, 
 use Rattle.spec_schedule.specs.Schedule.{Tuple, Transaction, Schedule, keysKept, eventsOf}
 use Rattle.spec_schedule.specs.Serial.{SerialOrder}
 use Rattle.spec_schedule.specs.ScheduleExamples.{kept, wanted, wholes, no-program, one-program, openWorkload}
-use Rattle.witness.specs.Orders.{openOrders}
+use Rattle.witness.specs.Orders.{noneServes, none-serves, openOrders}
 
 -- ---- a transaction
 
@@ -150,6 +150,22 @@ pub record Needed (lines : List Line) (part : Event → Event → Bool) : Type 0
   pub letThrough : allObeyBut part (unbanned .start) [] (unbanned .events) ≡ true
   pub refused : allObey (unbanned .start) [] (unbanned .events) ≡ false
   pub noOrder : SerialOrder (length (unbanned .transactions)) (unbanned .events) → ⊥
+
+-- by one computed test each
+abbrev pub needed : {lines : List Line} {part : Event → Event → Bool} → Given (valueOf lines) → Robust lines → (x : Interleaving lines)
+    → allObeyBut part (x .start) [] (x .events) ≡ true
+    → allObey (x .start) [] (x .events) ≡ false
+    → noneServes (length (x .transactions)) (x .events) ≡ true
+    → Needed lines part
+needed given robust x letThrough refused none =
+    record {
+      given = given;
+      robust = robust;
+      unbanned = x;
+      letThrough = letThrough;
+      refused = refused;
+      noOrder = none-serves (length (x .transactions)) (x .events) none;
+    }
 
 -- opens what the rules with pairs let through compute with
 unfoldable pub openParts : Bool
