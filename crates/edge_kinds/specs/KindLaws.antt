@@ -1,16 +1,16 @@
 -- The table of facts is the believed tables of the graph, and a kind is read back from its number.
-use mathlib.Core.Bool.{Bool, true, false, cond, not}
-use mathlib.Core.Path.{_≡_, refl, sym, ap, subst, _∙_}
+use mathlib.Core.Bool.{Bool, true, false, not}
+use mathlib.Core.Path.{_≡_, refl, sym, ap, _∙_}
 use Prim.Native.Nat.{ℕ, _<_, _%_}
 use native.Mathlib.Nat.{mod-eq-of-lt}
 use native.Mathlib.Omega.{arith}
 use lib.Dec.{eqb}
 use borrow.Author.Tests.{eq-eqb, ne-eqb}
-use Rattle.spec_base.specs.Basic.{all, numbers, meets}
+use Rattle.spec_base.specs.Basic.{meets}
 use Rattle.spec_text.specs.declared.StatementKind.{StatementKind}
 use Rattle.spec_text.specs.declared.StatementKind.the-variants.{Is, Ks, Ps, Ku, Pu, Kd, Pd, Kl}
 use Rattle.spec_graph.specs.Edge as E
-use Rattle.law_base.specs.ListLaws.{all-numbers}
+use Rattle.law_kinds.specs.EveryKind.{kinds-agree}
 use Rattle.edge_kinds.specs.Kinds.{testsBit, insertBit, deleteBit, selectBit, shieldBit, looseBit, kindFacts}
 use Rattle.edge_kinds.specs.Kinds.{kindCount, kindNumber, kindNamed, kindOf}
 
@@ -48,29 +48,11 @@ number-named k x e = sym (ap kindNamed e ∙ kindNamed-number k)
 pub kindOf-number : (k : StatementKind) → kindOf (kindNumber k) ≡ k
 kindOf-number k = sym (number-named k (kindNumber k) (mod-eq-of-lt (number-small k)))
 
--- ---- what is told of every kind is computed once, over the numbers of all
-
-pub every-kind : (test : StatementKind → Bool) → all (λ n. test (kindOf n)) (numbers kindCount) ≡ true → (k : StatementKind) → test k ≡ true
-every-kind test h k =
-    subst (λ (k : StatementKind). test k ≡ true) (kindOf-number k) (all-numbers (λ n. test (kindOf n)) kindCount h (kindNumber k) (number-small k))
-
--- two tests say the same
-abbrev both : Bool → Bool → Bool
-both a b = cond a b (not b)
-
-both-same : (a b : Bool) → both a b ≡ true → a ≡ b
-both-same true true h = refl
-both-same true false h = sym h
-both-same false true h = h
-both-same false false h = refl
+-- ---- what is told of every kind is computed once, over all of them
 
 -- the facts of a kind have this bit where the test passes
 abbrev Bit : ℕ → (StatementKind → Bool) → StatementKind → Type 0
 Bit bit test k = meets (kindFacts k) bit ≡ test k
-
-bit-of : (bit : ℕ) (test : StatementKind → Bool) → all (λ n. both (meets (kindFacts (kindOf n)) bit) (test (kindOf n))) (numbers kindCount) ≡ true
-    → (k : StatementKind) → Bit bit test k
-bit-of bit test h k = both-same _ (test k) (every-kind (λ k. both (meets (kindFacts k) bit) (test k)) h k)
 
 -- what the facts of a kind say: each bit is the table that the graph's definitions ask
 pub record Told (k : StatementKind) : Type 0 where
@@ -82,14 +64,13 @@ pub record Told (k : StatementKind) : Type 0 where
   pub loosens : Bit looseBit E.loosens k
 
 pub told : (k : StatementKind) → Told k
-unfolding kindOf kindNamed
 told k = record {
-  tests = bit-of testsBit E.hasTests refl k;
-  inserts = bit-of insertBit E.inserts refl k;
-  deletes = bit-of deleteBit E.deletes refl k;
-  selects = bit-of selectBit E.selects refl k;
-  shields = bit-of shieldBit E.shields refl k;
-  loosens = bit-of looseBit E.loosens refl k;
+  tests = kinds-agree (λ k. meets (kindFacts k) testsBit) E.hasTests refl k;
+  inserts = kinds-agree (λ k. meets (kindFacts k) insertBit) E.inserts refl k;
+  deletes = kinds-agree (λ k. meets (kindFacts k) deleteBit) E.deletes refl k;
+  selects = kinds-agree (λ k. meets (kindFacts k) selectBit) E.selects refl k;
+  shields = kinds-agree (λ k. meets (kindFacts k) shieldBit) E.shields refl k;
+  loosens = kinds-agree (λ k. meets (kindFacts k) looseBit) E.loosens refl k;
 }
 
 -- ---- code that has asked for a bit by `kind_has` knows what the bit tells

@@ -307,16 +307,3 @@ statement-sets text {lines} h {l} m k e =
       tests-within = rw same (fits .2);
       kind-sets = rw same (fits .3);
     }
-
--- T9: writes of is, kd, pd are the whole relation
-pub insert-whole : {whole : ℕ} {l : Line} → SetsLawful whole Is l → l .writes ≡ whole
-unfolding kindSets
-insert-whole s = eqb-true _ _ (s .kind-sets)
-
-pub key-delete-whole : {whole : ℕ} {l : Line} → SetsLawful whole Kd l → l .writes ≡ whole
-unfolding kindSets
-key-delete-whole s = eqb-true _ _ (s .kind-sets)
-
-pub predicate-delete-whole : {whole : ℕ} {l : Line} → SetsLawful whole Pd l → l .writes ≡ whole
-unfolding kindSets
-predicate-delete-whole s = eqb-true _ _ (s .kind-sets)

@@ -1,7 +1,6 @@
 pub mod AllNodes
 pub mod Before
 pub mod ClosedWalks
-pub mod EveryKind
 pub mod FirstWalks
 pub mod Greedy
 pub mod NodeParts

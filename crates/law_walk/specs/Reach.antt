@@ -23,7 +23,7 @@ use Rattle.spec_graph.specs.Unfolding.{Node, Occurrence}
 use Rattle.spec_graph.specs.Edge.{Place, Letter, at, holds, hasTests, selects, loosens, sameRelation, forward, back, shielded, stands, bothPass}
 use Rattle.spec_graph.specs.Edge.{loosensAt, placeAt, graphOf}
 use Rattle.spec_graph.specs.Walk.{Step, isEdge, dangerousPair, isDangerous, DangerousWalk}
-use Rattle.law_walk.specs.EveryKind.{kind-implies}
+use Rattle.law_kinds.specs.EveryKind.{kind-implies}
 
 -- what every summary graph has
 pub record Regular (g : Graph) : Type 0 where

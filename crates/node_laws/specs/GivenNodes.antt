@@ -13,19 +13,17 @@ use Rattle.law_base.specs.ListLaws.{member-split, count-append, getElem?-member
 use Rattle.spec_text.specs.declared.Line.{Line}
 use Rattle.spec_text.specs.declared.LineKind.the-variants.{St, Li}
 use Rattle.spec_text.specs.declared.StatementKind.{StatementKind}
-use Rattle.spec_text.specs.declared.StatementKind.the-variants.{Is, Ks, Ps, Ku, Pu, Kd, Pd, Kl}
 use Rattle.spec_text.specs.declared.Workload.{Workload}
 use Rattle.spec_text.specs.Reading.{sort, isRelation, isKey, isProgram, isStatement, isStatementOf, program, relationSet, kindSets}
 use Rattle.spec_text.specs.Reading.{inBody, withinBounds, ordered, named, read}
 use Rattle.spec_text.specs.Reading.Outcome.{accepted}
 use Rattle.spec_text.specs.Value.{Given, linesOf}
-use Rattle.law_text.specs.ReadingLaws.{SetsLawful, line-passes, statement-relation, statement-sets, insert-whole, key-delete-whole}
-use Rattle.law_text.specs.ReadingLaws.{predicate-delete-whole}
+use Rattle.law_text.specs.ReadingLaws.{line-passes, statement-relation, statement-sets}
 use Rattle.law_text.specs.LineCountLaws.{bounded-true, program-joins}
 use Rattle.law_text.specs.ValueLaws.{given-read}
 use Rattle.spec_graph.specs.Program.{Statement, Link, statementOf, programsOf}
 use Rattle.spec_graph.specs.Unfolding.{Node, Occurrence, nodesOf}
-use Rattle.spec_graph.specs.Edge.{hasReads, hasWrites, hasTests, inserts, deletes}
+use Rattle.law_kinds.specs.KindSets.{Allowed, allowed-sets}
 use Rattle.node_laws.specs.FromLines.{OnLines, execution-holds, program-holds}
 use Rattle.node_laws.specs.FromLinks.{program-link, node-program}
 
@@ -36,19 +34,9 @@ pub record LawfulStatement (lines : List Line) (s : Statement) : Type 0 where
   -- T7, T12: its relation is there, and below 32
   pub there : s .relation < count isRelation lines
   pub relation : s .relation < 32
-  -- T9: the relation has attributes, at most 64
-  pub nonempty : relationSet lines (s .relation) ≡ 0 → ⊥
+  -- T9: the relation has at most 64 attributes, and the statement's sets are those that its kind allows over them
   pub word : relationSet lines (s .relation) < 2 ^ 64
-  -- T9: its sets lie within the relation's
-  pub reads : within (s .reads) (relationSet lines (s .relation)) ≡ true
-  pub writes : within (s .writes) (relationSet lines (s .relation)) ≡ true
-  pub tests : within (s .tests) (relationSet lines (s .relation)) ≡ true
-  -- T9, Req 03: reads of ks and kl, the kinds with reads alone, are not 0
-  pub selected : hasReads (s .kind) && not (hasWrites (s .kind) || hasTests (s .kind)) ≡ true → s .reads ≡ 0 → ⊥
-  -- T9: writes of ku and pu, the kinds with reads and writes, are not 0
-  pub updated : hasReads (s .kind) && hasWrites (s .kind) ≡ true → s .writes ≡ 0 → ⊥
-  -- T9: writes of is, kd and pd are the whole relation
-  pub whole : inserts (s .kind) || deletes (s .kind) ≡ true → s .writes ≡ relationSet lines (s .relation)
+  pub sets : Allowed (relationSet lines (s .relation)) s
 
 -- a node of an accepted workload
 pub record LawfulNode (lines : List Line) (n : Node) : Type 0 where
@@ -56,44 +44,6 @@ pub record LawfulNode (lines : List Line) (n : Node) : Type 0 where
   pub keys : (l : Link) → List·Memᴰ l (n .links) → l .key < 32
   -- at each place stands such a statement
   pub places : (o : Occurrence) → List·Memᴰ o (n .places) → LawfulStatement lines (o .statement)
-
--- ---- T9 by kinds
-
-filled : (x : ℕ) → not (eqb x 0) ≡ true → x ≡ 0 → ⊥
-filled x h = eqb-false x 0 (not-true (eqb x 0) h)
-
-module _ {whole : ℕ} {l : Line} where
-  reads-filled : (k : StatementKind) → SetsLawful whole k l → hasReads k && not (hasWrites k || hasTests k) ≡ true → l .reads ≡ 0 → ⊥
-  unfolding kindSets
-  reads-filled Ks s h = filled (l .reads) (s .kind-sets)
-  reads-filled Kl s h = filled (l .reads) (s .kind-sets)
-  reads-filled Is s h = absurd (true-false h refl)
-  reads-filled Ps s h = absurd (true-false h refl)
-  reads-filled Ku s h = absurd (true-false h refl)
-  reads-filled Pu s h = absurd (true-false h refl)
-  reads-filled Kd s h = absurd (true-false h refl)
-  reads-filled Pd s h = absurd (true-false h refl)
-
-  writes-filled : (k : StatementKind) → SetsLawful whole k l → hasReads k && hasWrites k ≡ true → l .writes ≡ 0 → ⊥
-  unfolding kindSets
-  writes-filled Ku s h = filled (l .writes) (s .kind-sets)
-  writes-filled Pu s h = filled (l .writes) (s .kind-sets)
-  writes-filled Is s h = absurd (true-false h refl)
-  writes-filled Ks s h = absurd (true-false h refl)
-  writes-filled Ps s h = absurd (true-false h refl)
-  writes-filled Kd s h = absurd (true-false h refl)
-  writes-filled Pd s h = absurd (true-false h refl)
-  writes-filled Kl s h = absurd (true-false h refl)
-
-  writes-whole : (k : StatementKind) → SetsLawful whole k l → inserts k || deletes k ≡ true → l .writes ≡ whole
-  writes-whole Is s h = insert-whole s
-  writes-whole Kd s h = key-delete-whole s
-  writes-whole Pd s h = predicate-delete-whole s
-  writes-whole Ks s h = absurd (true-false h refl)
-  writes-whole Ps s h = absurd (true-false h refl)
-  writes-whole Ku s h = absurd (true-false h refl)
-  writes-whole Pu s h = absurd (true-false h refl)
-  writes-whole Kl s h = absurd (true-false h refl)
 
 -- ---- accepted lines
 
@@ -138,14 +88,8 @@ module _ (text : List ℕ) (lines : List Line) (taken : read text ≡ accepted l
         id = small .0;
         there = statement-relation text taken m k e;
         relation = small .1;
-        nonempty = sets .nonempty;
         word = sets .word;
-        reads = sets .reads-within;
-        writes = sets .writes-within;
-        tests = sets .tests-within;
-        selected = reads-filled k sets;
-        updated = writes-filled k sets;
-        whole = writes-whole k sets;
+        sets = allowed-sets k sets;
       }
 
   -- each node

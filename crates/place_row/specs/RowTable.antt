@@ -9,8 +9,9 @@ use lib.ListN.{length, getD}
 use Rattle.spec_base.specs.Basic.{numbers, meets}
 use Rattle.spec_graph.specs.Graph.{Flow}
 use Rattle.spec_graph.specs.Unfolding.{Node}
-use Rattle.spec_graph.specs.Edge.{hasTests, inserts, deletes, selects, R, W, T, Letter, Place, at, guardedNear, guardedFar, placesOf, Edge}
+use Rattle.spec_graph.specs.Edge.{selects, R, W, T, Letter, Place, at, guardedNear, guardedFar, placesOf, Edge}
 use Rattle.spec_graph.specs.Edge.Letter.{A, B, C, D, E}
+use Rattle.law_kinds.specs.Chances.{chanceOf, told}
 pub use Rattle.edge_kinds.specs.Kinds.{kindNumber}
 unfoldable pub use Rattle.edge_kinds.specs.Kinds.{kindOf}
 use Rattle.place_row.specs.declared.Row.{Row}
@@ -38,14 +39,19 @@ rowOf s = record {
 unfoldable pub rowsOf : List Node → List Row
 rowsOf nodes = map rowOf (placesOf 0 nodes)
 
--- EA to EE over rows. A row's sets are taken as they stand. Where the kind has no such set a row of a place holds 0 (`rowOf`), and so do all
--- rows that `place_table::fill_rows` makes: there a test of the set is a test of the kind too. Any other table is judged by the sets that it holds.
+-- E6: what a letter's two sets share between rows
+unfoldable pub rowShared : Letter → Row → Row → ℕ
+rowShared A p q = bitAnd (p .writes) (q .writes)
+rowShared B p q = bitAnd (p .writes) (q .reads)
+rowShared C p q = bitAnd (p .writes) (q .tests)
+rowShared D p q = bitAnd (p .reads) (q .writes)
+rowShared E p q = bitAnd (p .tests) (q .writes)
+
+-- EA to EE over rows, by the chances of their kinds (Req 04): what is impossible does not hold and what is certain holds, whatever sets a row has; what
+-- hangs on sets holds where those of the rows meet. Between the rows of places whose sets 01 allows this is 01's rule (`holds-rows`); a table with
+-- other rows is judged by it all the same.
 unfoldable pub rowHolds : Letter → Row → Row → Bool
-rowHolds A p q = not (deletes (p .kind)) && not (inserts (q .kind)) && meets (p .writes) (q .writes)
-rowHolds B p q = not (deletes (p .kind)) && meets (p .writes) (q .reads)
-rowHolds C p q = hasTests (q .kind) && (inserts (p .kind) || deletes (p .kind) || meets (p .writes) (q .tests))
-rowHolds D p q = not (inserts (q .kind)) && meets (p .reads) (q .writes)
-rowHolds E p q = hasTests (p .kind) && (inserts (q .kind) || deletes (q .kind) || meets (q .writes) (p .tests))
+rowHolds letter p q = told (chanceOf letter (p .kind) (q .kind)) (not (eqb (rowShared letter p q) 0))
 
 -- E1 over rows
 unfoldable pub rowForward : Row → Row → Bool
@@ -69,13 +75,6 @@ unfoldable pub rowLetter : Flow → Row → Row → Letter
 rowLetter Flow.forward p q =
     cond (rowHolds A p q) A (cond (rowHolds B p q) B (cond (rowHolds C p q) C (cond (rowHolds D p q) D E)))
 rowLetter Flow.back p q = cond (rowHolds E p q) E D
-
-unfoldable pub rowShared : Letter → Row → Row → ℕ
-rowShared A p q = bitAnd (p .writes) (q .writes)
-rowShared B p q = bitAnd (p .writes) (q .reads)
-rowShared C p q = bitAnd (p .writes) (q .tests)
-rowShared D p q = bitAnd (p .reads) (q .writes)
-rowShared E p q = bitAnd (p .tests) (q .writes)
 
 unfoldable pub rowEdge : Flow → Row → Row → Edge
 rowEdge flow p q =

@@ -1,5 +1,5 @@
 -- Laws of tables: the edges between the rows of places are the edges between the places, and rows are read back from their words.
-use mathlib.Core.Path.{_≡_, refl, sym, ap, ap₂, _∙_, fun-ext}
+use mathlib.Core.Path.{_≡_, refl, sym, ap, ap₂, subst, _∙_, fun-ext}
 use mathlib.Core.Bool.{Bool, true, false, cond, not, _&&_}
 use mathlib.Core.List.{List, [], _∷_, _++_, map, flatMap, List·Memᴰ}
 use mathlib.Core.List.List·Memᴰ.{List·Memᴰ·head, List·Memᴰ·tail}
@@ -14,34 +14,21 @@ use lib.ListN.{length, getD}
 use lib.Seq.{getD-append-add}
 use borrow.Author.Tests.{eqb-true, eq-eqb, ne-eqb}
 use Rattle.spec_base.specs.Basic.{numbers, numbersFrom, has, meets}
-use Rattle.law_base.specs.BoolLaws.{same-test, and-true, and-of, and-right}
+use Rattle.law_base.specs.BoolLaws.{same-test, and-true, and-of, and-left}
 use Rattle.law_base.specs.ListLaws.{any-true, any-of}
-use Rattle.law_base.specs.SetLaws.{has-first, has-later, meets-has-below, has-meets, meets-comm, meets-empty}
+use Rattle.law_base.specs.SetLaws.{has-first, has-later, meets-has-below, has-meets, meets-comm}
 use Rattle.spec_graph.specs.Graph.{Flow}
 use Rattle.spec_graph.specs.Program.{Link}
 use Rattle.spec_graph.specs.Unfolding.{Node, Occurrence}
-use Rattle.spec_graph.specs.Edge.{
-  R,
-  W,
-  hasWrites,
-  inserts,
-  deletes,
-  Letter,
-  Place,
-  at,
-  holds,
-  sameRelation,
-  hasParent,
-  guardedNear,
-  guardedFar,
-  shielded,
-  forward,
-  back,
-  letterOf,
-  shared,
-}
+use Rattle.spec_graph.specs.Edge.{Letter, Place, at, holds, sameRelation, hasParent, guardedNear, guardedFar, shielded, forward, back, letterOf, shared}
 use Rattle.spec_graph.specs.Edge.{edgeOf, edgesBetween, placesFrom, placesOf, edgesOf}
 use Rattle.spec_graph.specs.Edge.Letter.{A, B, C, D, E}
+use Rattle.spec_text.specs.declared.Line.{Line}
+use Rattle.spec_text.specs.Reading.{relationSet}
+use Rattle.law_kinds.specs.KindSets.{Allowed}
+use Rattle.law_kinds.specs.Chances.{chanceOf, told}
+use Rattle.law_kinds.specs.ChanceLaws.{chance-told}
+use Rattle.node_laws.specs.GivenNodes.{LawfulStatement, LawfulNode}
 use Rattle.edge_kinds.specs.KindLaws.{kindOf-number}
 use Rattle.place_row.specs.declared.Row.{Row}
 use Rattle.place_row.specs.KeyWord.{farIn, far-packed, near-packed}
@@ -78,10 +65,6 @@ wordOf-has test (suc n) (suc k) h =
 
 -- ---- the rows of places
 
--- every key of the node's links is below 32
-abbrev pub KeysSmall : Node → Type 0
-KeysSmall n = (l : Link) → List·Memᴰ l (n .links) → l .key < 32
-
 -- a key that guards a place is the key of a link of its node
 near-link : (s : Place) (f : ℕ) → guardedNear f s ≡ true → (l : Link) × List·Memᴰ l (s .node .links) × (l .key ≡ f)
 unfolding guardedNear hasParent
@@ -106,7 +89,8 @@ far-small : (s : Place) → farIn (rowOf s .keys) < 2 ^ 32
 far-small s = rw (far-word s) (wordOf-small (λ k. guardedFar k s) 32)
 
 -- a pair of places is shielded where the keys of the place left meet those of the place entered: keys that meet are below 32
-pub shielded-rows : (s t : Place) → KeysSmall (s .node) → shielded s t ≡ meets (rowOf s .keys) (farIn (rowOf t .keys))
+pub shielded-rows : (s t : Place) → ((l : Link) → List·Memᴰ l (s .node .links) → l .key < 32)
+    → shielded s t ≡ meets (rowOf s .keys) (farIn (rowOf t .keys))
 unfolding shielded
 shielded-rows s t small = same-test _ _ meeting shielding
   where
@@ -125,48 +109,6 @@ shielded-rows s t small = same-test _ _ meeting shielding
         let link = near-link s (found .0) one in
         any-of _ (link .1) (and-of (ap (λ (f : ℕ). guardedNear f s) (link .2) ∙ one) (ap (λ (f : ℕ). guardedFar f t) (link .2) ∙ two))
 
--- a set that the kind lacks meets nothing
-lacking-left : (b : Bool) (rest : Bool) (x y : ℕ) → b && rest && meets (cond b x 0) y ≡ rest && meets (cond b x 0) y
-lacking-left true rest x y = refl
-lacking-left false rest x y = sym (and-right rest (meets-empty y))
-
-lacking-right : (b : Bool) (rest : Bool) (x y : ℕ) → b && rest && meets x (cond b y 0) ≡ rest && meets x (cond b y 0)
-lacking-right true rest x y = refl
-lacking-right false rest x y = sym (and-right rest (meets-comm x 0 ∙ meets-empty x))
-
-lacking-both : (a b c d : Bool) (x y : ℕ)
-    → a && b && c && d && meets (cond a x 0) (cond b y 0) ≡ c && d && meets (cond a x 0) (cond b y 0)
-lacking-both true true c d x y = refl
-lacking-both true false c d x y = sym (and-right (c && d) (meets-comm x 0 ∙ meets-empty x))
-lacking-both false b c d x y = sym (and-right (c && d) (meets-empty (cond b y 0)))
-
--- letters between rows are letters between their statements
-pub holds-rows : (letter : Letter) (s t : Place) → holds letter (at s) (at t) ≡ rowHolds letter (rowOf s) (rowOf t)
-unfolding holds rowHolds rowOf W
-holds-rows A s t =
-    lacking-both (hasWrites (at s .kind)) (hasWrites (at t .kind)) (not (deletes (at s .kind))) (not (inserts (at t .kind))) (at s .writes)
-    (at t .writes)
-holds-rows B s t = lacking-left (hasWrites (at s .kind)) (not (deletes (at s .kind))) (at s .writes) (R (at t))
-holds-rows C s t = refl
-holds-rows D s t = lacking-right (hasWrites (at t .kind)) (not (inserts (at t .kind))) (R (at s)) (at t .writes)
-holds-rows E s t = refl
-
--- a forward edge stands between places where it stands between their rows
-pub forward-rows : (s t : Place) → forward s t ≡ rowForward (rowOf s) (rowOf t)
-unfolding forward sameRelation rowForward rowOf
-forward-rows s t = simp (holds-rows A s t, holds-rows B s t, holds-rows C s t, holds-rows D s t, holds-rows E s t) refl
-
--- a back edge stands between places where it stands between their rows
-pub back-rows : (s t : Place) → KeysSmall (s .node) → back s t ≡ rowBack (rowOf s) (rowOf t)
-unfolding back sameRelation rowBack rowOf
-back-rows s t small = simp (holds-rows D s t, holds-rows E s t, shielded-rows s t small) refl
-
--- the letter between places is the letter between their rows
-pub letter-rows : (flow : Flow) (s t : Place) → letterOf flow (at s) (at t) ≡ rowLetter flow (rowOf s) (rowOf t)
-unfolding letterOf rowLetter
-letter-rows Flow.forward s t = simp (holds-rows A s t, holds-rows B s t, holds-rows C s t, holds-rows D s t)
-letter-rows Flow.back s t = simp (holds-rows E s t)
-
 -- what a letter's sets share between places they share between their rows
 pub shared-rows : (letter : Letter) (s t : Place) → shared letter (at s) (at t) ≡ rowShared letter (rowOf s) (rowOf t)
 unfolding shared rowShared rowOf
@@ -176,27 +118,81 @@ shared-rows C s t = refl
 shared-rows D s t = refl
 shared-rows E s t = refl
 
--- the edge between places is the edge between their rows
-pub edge-rows : (flow : Flow) (s t : Place) → edgeOf flow s t ≡ rowEdge flow (rowOf s) (rowOf t)
-unfolding edgeOf rowEdge rowOf
-edge-rows flow s t = λ i. record {
-  node = s .number;
-  leaves = s .place;
-  into = t .number;
-  enters = t .place;
-  flow = flow;
-  letter = letter-rows flow s t i;
-  sharing = onesIn 64 (meeting i);
-  lowest = trailingZeros 64 (meeting i);
-}
-  where
-    meeting : shared (letterOf flow (at s) (at t)) (at s) (at t) ≡ rowShared (rowLetter flow (rowOf s) (rowOf t)) (rowOf s) (rowOf t)
-    meeting = shared-rows (letterOf flow (at s) (at t)) s t ∙ ap (λ (l : Letter). rowShared l (rowOf s) (rowOf t)) (letter-rows flow s t)
+-- a letter between rows is the letter between their statements, where 01 allows their sets over one relation
+pub holds-rows : (letter : Letter) {full : ℕ} (s t : Place) → Allowed full (at s) → Allowed full (at t)
+    → holds letter (at s) (at t) ≡ rowHolds letter (rowOf s) (rowOf t)
+unfolding rowHolds rowOf
+holds-rows letter s t f g =
+    chance-told (at s) (at t) f g letter
+    ∙ ap (λ (x : ℕ). told (chanceOf letter (at s .kind) (at t .kind)) (not (eqb x 0))) (shared-rows letter s t)
 
--- the edges between two places are those between their rows
-pub between-rows : (s t : Place) → KeysSmall (s .node) → edgesBetween s t ≡ rowEdges (rowOf s) (rowOf t)
-unfolding edgesBetween rowEdges
-between-rows s t small = simp (forward-rows s t, back-rows s t small, edge-rows Flow.forward s t, edge-rows Flow.back s t)
+-- what is asked only of numbers that agree
+where-equal : (a b : ℕ) {x y : Bool} → (a ≡ b → x ≡ y) → eqb a b && x ≡ eqb a b && y
+where-equal a b {x} {y} same = go (eqb a b) refl
+  where
+    go : (e : Bool) → eqb a b ≡ e → e && x ≡ e && y
+    go true e = same (eqb-true a b e)
+    go false e = refl
+
+-- two places of lawful nodes
+module _ (lines : List Line) (s t : Place) (f : LawfulStatement lines (at s)) (g : LawfulStatement lines (at t)) where
+  -- over one relation both statements have sets that 01 allows over its set
+  module _ (over : at s .relation ≡ at t .relation) where
+    same-holds : (letter : Letter) → holds letter (at s) (at t) ≡ rowHolds letter (rowOf s) (rowOf t)
+    same-holds letter =
+        holds-rows letter s t (f .sets) (subst (λ (r : ℕ). Allowed (relationSet lines r) (at t)) (sym over) (g .sets))
+
+    -- the letter between places is the letter between their rows
+    letter-rows : (flow : Flow) → letterOf flow (at s) (at t) ≡ rowLetter flow (rowOf s) (rowOf t)
+    unfolding letterOf rowLetter
+    letter-rows Flow.forward = simp (same-holds A, same-holds B, same-holds C, same-holds D)
+    letter-rows Flow.back = simp (same-holds E)
+
+    -- the edge between places is the edge between their rows
+    edge-rows : (flow : Flow) → edgeOf flow s t ≡ rowEdge flow (rowOf s) (rowOf t)
+    unfolding edgeOf rowEdge rowOf
+    edge-rows flow = λ i. record {
+      node = s .number;
+      leaves = s .place;
+      into = t .number;
+      enters = t .place;
+      flow = flow;
+      letter = letter-rows flow i;
+      sharing = onesIn 64 (meeting i);
+      lowest = trailingZeros 64 (meeting i);
+    }
+      where
+        meeting : shared (letterOf flow (at s) (at t)) (at s) (at t) ≡ rowShared (rowLetter flow (rowOf s) (rowOf t)) (rowOf s) (rowOf t)
+        meeting = shared-rows (letterOf flow (at s) (at t)) s t ∙ ap (λ (l : Letter). rowShared l (rowOf s) (rowOf t)) (letter-rows flow)
+
+  -- a forward edge stands between places where it stands between their rows
+  pub forward-rows : forward s t ≡ rowForward (rowOf s) (rowOf t)
+  unfolding forward sameRelation rowForward rowOf
+  forward-rows =
+      where-equal (at s .relation) (at t .relation)
+      (λ over. simp (same-holds over A, same-holds over B, same-holds over C, same-holds over D, same-holds over E))
+
+  module _ (small : (l : Link) → List·Memᴰ l (s .node .links) → l .key < 32) where
+    -- a back edge stands between places where it stands between their rows
+    pub back-rows : back s t ≡ rowBack (rowOf s) (rowOf t)
+    unfolding back sameRelation rowBack rowOf
+    back-rows =
+        where-equal (at s .relation) (at t .relation)
+        (λ over. simp (same-holds over D, same-holds over E, shielded-rows s t small))
+
+    -- the edges between two places are those between their rows: none where the relations differ
+    pub between-rows : edgesBetween s t ≡ rowEdges (rowOf s) (rowOf t)
+    unfolding edgesBetween rowEdges
+    between-rows = go (eqb (at s .relation) (at t .relation)) refl
+      where
+        go : (b : Bool) → eqb (at s .relation) (at t .relation) ≡ b → edgesBetween s t ≡ rowEdges (rowOf s) (rowOf t)
+        unfolding forward back sameRelation
+        go true e =
+            let over = eqb-true (at s .relation) (at t .relation) e in
+            simp (forward-rows, back-rows, edge-rows over Flow.forward, edge-rows over Flow.back)
+        go false e =
+            let none = and-left _ e in
+            simp (sym forward-rows, sym back-rows, none)
 
 -- ---- all pairs
 
@@ -232,14 +228,43 @@ placesOf-node m (n ∷ nodes) h =
     (λ r. List·Memᴰ·tail (placesOf-node (suc m) nodes r))
     (List·Memᴰ·append-cases (placesFrom m n 0 (n .places)) h)
 
--- E5: all edges of nodes are the edges of their rows
-pub edges-rows : (nodes : List Node) → ((n : Node) → List·Memᴰ n nodes → KeysSmall n) → edgesOf nodes ≡ edgesOfRows (rowsOf nodes)
-unfolding edgesOf edgesOfRows rowsOf
-edges-rows nodes small =
-    let places = placesOf 0 nodes in
-    flatMap-same _ _ places (λ s m. flatMap-same _ _ places (λ t k. between-rows s t (small (s .node) (placesOf-node 0 nodes m)))
-    ∙ sym (flatMap-map (rowEdges (rowOf s)) rowOf places))
-    ∙ sym (flatMap-map (λ p. flatMap (λ q. rowEdges p q) (map rowOf places)) rowOf places)
+-- what stands at a place of nodes stands in the place's node
+placesFrom-occurrence : (m : ℕ) (n : Node) (i : ℕ) (l : List Occurrence) {s : Place} → List·Memᴰ s (placesFrom m n i l) → List·Memᴰ (s .occurrence) l
+unfolding placesFrom
+placesFrom-occurrence m n i [] h = absurd (List·Memᴰ·not-nil h)
+placesFrom-occurrence m n i (o ∷ l) h =
+    ⊎-elim
+    (λ e. List·Memᴰ·head (ap (λ (s : Place). s .occurrence) e))
+    (λ r. List·Memᴰ·tail (placesFrom-occurrence m n (suc i) l r))
+    (List·Memᴰ·cases-cons h)
+
+pub placesOf-occurrence : (m : ℕ) (nodes : List Node) {s : Place} → List·Memᴰ s (placesOf m nodes) → List·Memᴰ (s .occurrence) (s .node .places)
+unfolding placesOf
+placesOf-occurrence m [] h = absurd (List·Memᴰ·not-nil h)
+placesOf-occurrence m (n ∷ nodes) {s} h =
+    ⊎-elim
+    (λ e. subst (λ (n : Node). List·Memᴰ (s .occurrence) (n .places)) (sym (placesFrom-node m n 0 (n .places) e))
+    (placesFrom-occurrence m n 0 (n .places) e))
+    (λ r. placesOf-occurrence (suc m) nodes r)
+    (List·Memᴰ·append-cases (placesFrom m n 0 (n .places)) h)
+
+module _ (lines : List Line) (nodes : List Node) (lawful : (n : Node) → List·Memᴰ n nodes → LawfulNode lines n) where
+  -- at each place of lawful nodes stands a lawful statement, and the keys of its links are small
+  pub place-lawful : {s : Place} → List·Memᴰ s (placesOf 0 nodes) → LawfulStatement lines (at s)
+  place-lawful {s} m = lawful (s .node) (placesOf-node 0 nodes m) .places (s .occurrence) (placesOf-occurrence 0 nodes m)
+
+  pub place-keys : {s : Place} → List·Memᴰ s (placesOf 0 nodes) → (l : Link) → List·Memᴰ l (s .node .links) → l .key < 32
+  place-keys {s} m = lawful (s .node) (placesOf-node 0 nodes m) .keys
+
+  -- E5: all edges of nodes are the edges of their rows
+  pub edges-rows : edgesOf nodes ≡ edgesOfRows (rowsOf nodes)
+  unfolding edgesOf edgesOfRows rowsOf
+  edges-rows =
+      let places = placesOf 0 nodes in
+      flatMap-same _ _ places (λ s m.
+      flatMap-same _ _ places (λ t k. between-rows lines s t (place-lawful m) (place-lawful k) (place-keys m))
+      ∙ sym (flatMap-map (rowEdges (rowOf s)) rowOf places))
+      ∙ sym (flatMap-map (λ p. flatMap (λ q. rowEdges p q) (map rowOf places)) rowOf places)
 
 -- ---- rows read back from their words
 

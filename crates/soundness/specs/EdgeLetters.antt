@@ -12,7 +12,7 @@ use Rattle.spec_graph.specs.Edge.{W, R, T, holds, hasReads, hasWrites, hasTests
 use Rattle.spec_graph.specs.Edge.Letter.{A, B, C, D, E}
 use Rattle.spec_schedule.specs.Event.{Action, isRead, isWrite, isPredicateRead, isInsert, isDelete, isLock}
 use Rattle.spec_schedule.specs.Schedule.{Performed, Operation}
-use Rattle.law_walk.specs.EveryKind.{kind-implies, kinds-apart}
+use Rattle.law_kinds.specs.EveryKind.{kind-implies, kinds-apart}
 use Rattle.soundness.specs.transactions.Operations.{Does, does-test, does-read, does-lock, does-write, does-insert, does-delete}
 use Rattle.soundness.specs.transactions.Operations.{updates, locks, readsPlainly, statementDone}
 

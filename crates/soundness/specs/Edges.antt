@@ -30,7 +30,7 @@ use Rattle.soundness.specs.committing.WriteKinds.{write-write-kinds, wri
 use Rattle.soundness.specs.transactions.Operations.{Does, updates, readsPlainly, statementDone}
 use Rattle.soundness.specs.transactions.Events.{schedule-lawful}
 use Rattle.soundness.specs.transactions.Statements.{Stated, operationOf, update-next, place-order}
-use Rattle.law_walk.specs.EveryKind.{kind-implies, kinds-apart}
+use Rattle.law_kinds.specs.EveryKind.{kind-implies, kinds-apart}
 use Rattle.soundness.specs.EdgeLetters.{Sets, letter-A, letter-B, letter-C, letter-D, letter-E, does-plainly, does-test-what}
 use Rattle.soundness.specs.Visits.{Visit, At, Spot, Guard, guard-near, guard-far, performed-occurrence}
 

@@ -19,32 +19,17 @@ use Rattle.spec_graph.specs.Edge.{R, W, hasReads, hasWrites, inserts, deletes}
 use Rattle.spec_schedule.specs.Schedule.{Transaction, Schedule}
 use Rattle.node_laws.specs.FromLines.{execution-holds, program-holds}
 use Rattle.node_laws.specs.GivenNodes.{LawfulStatement, accepted-lines}
-use Rattle.law_walk.specs.EveryKind.{kind-implies}
+use Rattle.law_kinds.specs.EveryKind.{kind-implies}
 use Rattle.soundness.specs.EdgeLetters.{Sets}
-
--- the empty set lies within every set
-within-empty : (x : ℕ) → within 0 x ≡ true
-within-empty x = eq-eqb (bitAnd 0 x) 0 (and-zero-l x)
-
--- a set that counts only where the kind has it
-within-if : (b : Bool) (x whole : ℕ) → within x whole ≡ true → within (cond b x 0) whole ≡ true
-within-if true x whole h = h
-within-if false x whole h = within-empty whole
-
--- inserts and deletes write
-writing : (k : StatementKind) → inserts k || deletes k ≡ true → hasWrites k ≡ true
-writing = kind-implies (λ k. inserts k || deletes k) hasWrites refl
 
 -- a lawful statement has the sets of T9
 sets-of : (lines : List Line) (s : Statement) → LawfulStatement lines s → Sets (relationSet lines) s
-unfolding R W
-sets-of lines s h =
-    record {
-      reads = within-if (hasReads (s .kind)) (s .reads) (relationSet lines (s .relation)) (h .reads);
-      writes = within-if (hasWrites (s .kind)) (s .writes) (relationSet lines (s .relation)) (h .writes);
-      whole = λ t. ap (λ (b : Bool). cond b (s .writes) 0) (writing (s .kind) t) ∙ h .whole t;
-      filled = λ t. h .nonempty;
-    }
+sets-of lines s h = record {
+  reads = reads-within (h .sets);
+  writes = writes-within (h .sets);
+  whole = writes-whole (h .sets);
+  filled = λ t. h .sets .attributes;
+}
 
 -- every statement that a transaction of the workload performs
 pub schedule-sets : (text : List ℕ) (lines : List Line) → read text ≡ accepted lines → (s : Schedule lines)

@@ -14,7 +14,7 @@ use Rattle.spec_graph.specs.Edge.{Place, at, holds, hasTests, selects, loosens,
 use Rattle.spec_graph.specs.Edge.{stands, bothPass, loosensAt, placeAt, graphOf}
 use Rattle.spec_graph.specs.Edge.Letter.{A, B, C, D, E}
 use Rattle.spec_graph.specs.Walk.{isEdge, dangerousPair, isDangerous}
-use Rattle.law_walk.specs.EveryKind.{kind-implies}
+use Rattle.law_kinds.specs.EveryKind.{kind-implies}
 use Rattle.law_walk.specs.Reach.{Regular, regular}
 use Rattle.cases.specs.Computed.{allPass}
 

@@ -18,7 +18,7 @@ use Rattle.spec_text.specs.declared.StatementKind.the-variants.{Is, Ks, Ps, Ku,
 use Rattle.spec_graph.specs.Program.{Statement}
 use Rattle.spec_graph.specs.Unfolding.{Occurrence, occurrences}
 use Rattle.spec_graph.specs.Edge.{W, R, T, hasTests, hasReads, hasWrites, inserts, deletes, shields}
-use Rattle.law_walk.specs.EveryKind.{every-kind, kind-implies, kinds-apart}
+use Rattle.law_kinds.specs.EveryKind.{every-kind, kind-implies, kinds-apart}
 use Rattle.spec_schedule.specs.Event.{Action, isClaim}
 use Rattle.spec_schedule.specs.Event.Action.{read, lock, write, insert, delete, predicateRead, commit}
 use Rattle.spec_schedule.specs.Schedule.{Transaction, Performed, Operation, chosen, performedFrom, performed}

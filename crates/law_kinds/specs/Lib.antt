@@ -1,0 +1,4 @@
+pub mod EveryKind
+pub mod KindSets
+pub mod Chances
+pub mod ChanceLaws
