@@ -1,72 +1,59 @@
-// The letter of the edge between two rows of a table of places, and whether one stands. A row's sets are taken as they stand; in the rows that
-// `place_table::fill_rows` makes, a set that the kind lacks is 0.
+// The letter of the edge between two rows of a table of places, and whether one stands, by the code of their kinds (Req 04): what is impossible or
+// certain is decided without a look at the sets.
 
 ghost use mathlib.Core.Path.{_≡_};
+ghost use Prim.Native.Nat.{_/_, _%_, _<_};
+ghost use Rattle.spec_base.specs.Basic.{meets};
 ghost use Rattle.spec_graph.specs.Graph as G;
-ghost use Rattle.spec_graph.specs.Edge as E;
-ghost use Rattle.place_row.specs.RowTable.{rowHolds, rowForward, rowBack};
-ghost use Rattle.edge_test.specs.Letters.{letterBetween};
-use edge_kinds::DELETE;
-use edge_kinds::INSERT;
+ghost use Rattle.place_row.specs.RowTable.{rowForward, rowBack};
+ghost use Rattle.kind_table.specs.Codes.{codeOf, toldBy};
+ghost use Rattle.edge_test.specs.Letters.{letterBetween, firstLetter};
 use edge_kinds::SELECT;
-use edge_kinds::TESTS;
 use edge_kinds::kind_has;
+use kind_table::A;
+use kind_table::B;
+use kind_table::C;
+use kind_table::CERTAIN;
+use kind_table::D;
+use kind_table::DIGITS;
+use kind_table::E;
+use kind_table::pair_code;
 use place_row::FAR;
 use place_row::Row;
 
-// A: neither a delete first nor an insert second, and the writes meet.
-fn holds_a(p: Row, q: Row) -> bool
-    ensures { λ r. ⌜ r ≡ rowHolds E.Letter.A p q ⌝ }
+// Whether a letter holds, by its digit in a code: where it hangs on sets, if the two meet.
+fn letter_holds(code: u32, letter: u32, a: u64, b: u64) -> bool
+    requires { ⌜ 0 < letter ⌝ }
+    ensures { λ r. ⌜ r ≡ toldBy (code / letter % 16) (meets a b) ⌝ }
 {
-    let k = p.kind;
-    if kind_has(k, DELETE) {
-        return false;
+    match code / letter % DIGITS {
+        0 => false,
+        1 => true,
+        _ => a & b != 0,
     }
-    let l = q.kind;
-    if kind_has(l, INSERT) {
-        return false;
-    }
-    p.writes & q.writes != 0
 }
 
-// B: no delete first, and its writes meet the reads.
-fn holds_b(p: Row, q: Row) -> bool
-    ensures { λ r. ⌜ r ≡ rowHolds E.Letter.B p q ⌝ }
+// The first letter that holds between two rows of one relation, by the code of their kinds; 0 where none does.
+fn first_letter(code: u32, p: Row, q: Row) -> u8
+    requires { ⌜ code ≡ codeOf (p .kind) (q .kind) ⌝ }
+    ensures { λ r. ⌜ r ≡ firstLetter p q ⌝ }
 {
-    let k = p.kind;
-    if kind_has(k, DELETE) {
-        return false;
+    if letter_holds(code, A, p.writes, q.writes) {
+        return b'A';
     }
-    p.writes & q.reads != 0
-}
-
-// C: the first changes what the second's predicate takes. E is the same the other way round.
-fn changes(p: Row, q: Row) -> bool
-    ensures { λ r. ⌜ r ≡ rowHolds E.Letter.C p q ⌝ }
-{
-    let l = q.kind;
-    if kind_has(l, TESTS) {
-        let k = p.kind;
-        if kind_has(k, INSERT) {
-            return true;
-        }
-        if kind_has(k, DELETE) {
-            return true;
-        }
-        return p.writes & q.tests != 0;
+    if letter_holds(code, B, p.writes, q.reads) {
+        return b'B';
     }
-    false
-}
-
-// D: the reads meet the writes of a second that is no insert.
-fn holds_d(p: Row, q: Row) -> bool
-    ensures { λ r. ⌜ r ≡ rowHolds E.Letter.D p q ⌝ }
-{
-    let l = q.kind;
-    if kind_has(l, INSERT) {
-        return false;
+    if letter_holds(code, C, p.writes, q.tests) {
+        return b'C';
     }
-    p.reads & q.writes != 0
+    if letter_holds(code, D, p.reads, q.writes) {
+        return b'D';
+    }
+    if letter_holds(code, E, p.tests, q.writes) {
+        return b'E';
+    }
+    0
 }
 
 // The letter of the forward edge between two rows: the first that holds; 0 where no edge stands. Most pairs of rows differ in their relation.
@@ -76,22 +63,9 @@ pub fn forward_letter(p: Row, q: Row) -> u8
     if p.relation != q.relation {
         return 0;
     }
-    if holds_a(p, q) {
-        return b'A';
-    }
-    if holds_b(p, q) {
-        return b'B';
-    }
-    if changes(p, q) {
-        return b'C';
-    }
-    if holds_d(p, q) {
-        return b'D';
-    }
-    if changes(q, p) {
-        return b'E';
-    }
-    0
+    let k = p.kind;
+    let l = q.kind;
+    first_letter(pair_code(k, l), p, q)
 }
 
 // The letter of the back edge between two rows: E whatever the keys say, else D for a select that no key shields; 0 where no edge stands. The
@@ -102,15 +76,17 @@ pub fn back_letter(p: Row, q: Row) -> u8
     if p.relation != q.relation {
         return 0;
     }
+    let k = p.kind;
+    let l = q.kind;
+    let code = pair_code(k, l);
     let free = p.keys & q.keys / FAR == 0;
-    let phantom = changes(q, p);
+    let phantom = letter_holds(code, E, p.tests, q.writes);
     // E stands whatever the keys say.
     if phantom {
         return b'E';
     }
-    let k = p.kind;
     if kind_has(k, SELECT) {
-        if holds_d(p, q) {
+        if letter_holds(code, D, p.reads, q.writes) {
             if free {
                 return b'D';
             }
@@ -119,11 +95,20 @@ pub fn back_letter(p: Row, q: Row) -> u8
     0
 }
 
-// Whether a forward edge stands: the rows are of one relation and some letter holds.
+// Whether a forward edge stands: the rows are of one relation and some letter holds. Where one is certain, no set is asked.
 pub fn forward_stands(p: Row, q: Row) -> bool
     ensures { λ r. ⌜ r ≡ rowForward p q ⌝ }
 {
-    forward_letter(p, q) != 0
+    if p.relation != q.relation {
+        return false;
+    }
+    let k = p.kind;
+    let l = q.kind;
+    let code = pair_code(k, l);
+    if code & CERTAIN != 0 {
+        return true;
+    }
+    first_letter(code, p, q) != 0
 }
 
 // Whether a back edge stands: E holds, or D for a select that no key shields.

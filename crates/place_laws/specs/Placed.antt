@@ -1,4 +1,4 @@
--- The table of the places of a given workload: its keys are below 32 and its rows at most 512, so it has the workload's edges.
+-- The table of the places of a given workload: its statements are lawful and its rows at most 512, so it has the workload's edges.
 use mathlib.Core.Path.{_≡_, refl, ap, _∙_}
 use mathlib.Core.Bool.{false}
 use mathlib.Core.List.{List, [], _∷_, map}
@@ -48,4 +48,4 @@ given-edges {w} given fits =
     let nodes = nodesOf (linesOf w) in
     let few = ltb-false 512 (statementsIn nodes) (or-false (ltb 64 (length nodes)) (ltb 512 (statementsIn nodes)) fits .1) in
     let rows = rowsOf-length nodes in
-    table-edges nodes (λ n m. given-places given n m .keys) (omega arith)
+    table-edges (linesOf w) nodes (given-places given) (omega arith)

@@ -182,17 +182,17 @@ module _ (lines : List Line) (s t : Place) (f : LawfulStatement lines (at s)) (g
 
     -- the edges between two places are those between their rows: none where the relations differ
     pub between-rows : edgesBetween s t ≡ rowEdges (rowOf s) (rowOf t)
-    unfolding edgesBetween rowEdges
+    unfolding edgesBetween rowEdges forward back sameRelation
     between-rows = go (eqb (at s .relation) (at t .relation)) refl
       where
         go : (b : Bool) → eqb (at s .relation) (at t .relation) ≡ b → edgesBetween s t ≡ rowEdges (rowOf s) (rowOf t)
-        unfolding forward back sameRelation
         go true e =
             let over = eqb-true (at s .relation) (at t .relation) e in
             simp (forward-rows, back-rows, edge-rows over Flow.forward, edge-rows over Flow.back)
         go false e =
-            let none = and-left _ e in
-            simp (sym forward-rows, sym back-rows, none)
+            let f : forward s t ≡ false = and-left _ e in
+            let b : back s t ≡ false = and-left _ e in
+            simp (f, b, sym forward-rows ∙ f, sym back-rows ∙ b)
 
 -- ---- all pairs
 

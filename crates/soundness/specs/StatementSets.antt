@@ -1,25 +1,19 @@
 -- The sets of the statements of an accepted text are those of T9.
-use mathlib.Core.Bool.{Bool, true, false, cond, _||_}
 use mathlib.Core.List.{List, List·Memᴰ}
 use mathlib.Core.Option.{some}
-use mathlib.Core.Path.{_≡_, refl, ap, _∙_}
+use mathlib.Core.Path.{_≡_}
 use Prim.Native.Nat.{ℕ}
-use lib.Bits.{bitAnd, and-zero-l}
 use lib.ListN.{getElem?}
-use borrow.Author.Tests.{eq-eqb}
-use Rattle.spec_base.specs.Basic.{within}
 use Rattle.law_base.specs.ListLaws.{getElem?-member}
 use Rattle.spec_text.specs.declared.Line.{Line}
-use Rattle.spec_text.specs.declared.StatementKind.{StatementKind}
 use Rattle.spec_text.specs.Reading.{read, relationSet}
 use Rattle.spec_text.specs.Reading.Outcome.{accepted}
 use Rattle.spec_graph.specs.Program.{Statement}
 use Rattle.spec_graph.specs.Unfolding.{Occurrence, occurrences}
-use Rattle.spec_graph.specs.Edge.{R, W, hasReads, hasWrites, inserts, deletes}
 use Rattle.spec_schedule.specs.Schedule.{Transaction, Schedule}
+use Rattle.law_kinds.specs.KindSets.{reads-within, writes-within, writes-whole}
 use Rattle.node_laws.specs.FromLines.{execution-holds, program-holds}
 use Rattle.node_laws.specs.GivenNodes.{LawfulStatement, accepted-lines}
-use Rattle.law_kinds.specs.EveryKind.{kind-implies}
 use Rattle.soundness.specs.EdgeLetters.{Sets}
 
 -- a lawful statement has the sets of T9

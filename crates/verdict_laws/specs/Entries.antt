@@ -11,14 +11,16 @@ use lib.ListN.{length}
 use borrow.Author.Tests.{eqb-true, eq-eqb, lt-ltb, leb-true, leb-false}
 use Rattle.law_base.specs.BoolLaws.{decide, and-true, and-of}
 use Rattle.law_base.specs.ListLaws.{map-member}
+use Rattle.spec_text.specs.declared.Line.{Line}
 use Rattle.spec_graph.specs.Graph.{Flow, Graph}
 use Rattle.spec_graph.specs.Unfolding.{Node}
 use Rattle.spec_graph.specs.Edge.{Place, at, loosens, forward, back, stands, bothPass, loosensAt, placesOf, placeAt, graphOf}
 use Rattle.law_walk.specs.Reach.{regular, both-pass}
 use Rattle.spec_report.specs.State.{statementsIn}
+use Rattle.node_laws.specs.GivenNodes.{LawfulNode}
 use Rattle.place_row.specs.declared.Row.{Row}
 use Rattle.place_row.specs.RowTable.{rowOf, rowsOf, rowStands}
-use Rattle.place_row.specs.RowTableLaws.{KeysSmall, placesOf-node, forward-rows, back-rows}
+use Rattle.place_row.specs.RowTableLaws.{place-lawful, place-keys, forward-rows, back-rows}
 use Rattle.edge_word.specs.Coding.{forwardWord, backWord, entry}
 use Rattle.edge_word.specs.Greatest.{GreatestWords, Small}
 use Rattle.walk_pick.specs.Picks.{rowForwardWord, rowBackWord, greatest, standsIn, wordFor, between, wordsBetween}
@@ -182,11 +184,13 @@ module _ (nodes : List Node) where
         let q = places-few nodes n in
         (omega (arith, inside .0), omega (arith, inside .1), omega (arith, inside .2), omega (arith, inside .3))
 
-    module _ (keys : (n : Node) → List·Memᴰ n nodes → KeysSmall n) where
+    module _ (lines : List Line) (lawful : (n : Node) → List·Memᴰ n nodes → LawfulNode lines n) where
       -- E1, E2: the edges of a flow between rows are those between their places
-      pub stands-rows : (flow : Flow) (s t : Place) → List·Memᴰ s (placesOf 0 nodes) → stands flow s t ≡ rowStands flow (rowOf s) (rowOf t)
-      stands-rows Flow.forward s t l = forward-rows s t
-      stands-rows Flow.back s t l = back-rows s t (keys (s .node) (placesOf-node 0 nodes l))
+      pub stands-rows : (flow : Flow) (s t : Place) → List·Memᴰ s (placesOf 0 nodes) → List·Memᴰ t (placesOf 0 nodes)
+          → stands flow s t ≡ rowStands flow (rowOf s) (rowOf t)
+      stands-rows Flow.forward s t l r = forward-rows lines s t (place-lawful lines nodes lawful l) (place-lawful lines nodes lawful r)
+      stands-rows Flow.back s t l r =
+          back-rows lines s t (place-lawful lines nodes lawful l) (place-lawful lines nodes lawful r) (place-keys lines nodes lawful l)
 
       -- the word of an edge, by its places
       module _ (flow : Flow) (code : Row → Row → ℕ) where
@@ -220,7 +224,7 @@ module _ (nodes : List Node) where
                   ap (λ (p : Row). p .node) (a .2) ∙ f .leaves,
                   ap (λ (p : Row). p .node) (b .2) ∙ f .enters,
                   a .1,
-                  ends-edge flow (a .0) (b .0) (a .1) (b .1) ∙ stands-rows flow (a .0) (b .0) (a .1) ∙ ap₂ (rowStands flow) (a .2) (b .2) ∙ f .passes,
+                  ends-edge flow (a .0) (b .0) (a .1) (b .1) ∙ stands-rows flow (a .0) (b .0) (a .1) (b .1) ∙ ap₂ (rowStands flow) (a .2) (b .2) ∙ f .passes,
                   here ∙ f .same ∙ sym (ap₂ code (a .2) (b .2)),
                 )
 
@@ -233,7 +237,7 @@ module _ (nodes : List Node) where
             let e = edge-ends flow u i v j h in
             let small = small-graph u i v j flow h in
             let most = between-most (rowStands flow) code (rowsOf nodes) (rowOf (e .s)) (rowOf (e .t))
-            (Memᴰ·map rowOf (e .left)) (Memᴰ·map rowOf (e .right)) (sym (stands-rows flow (e .s) (e .t) (e .left)) ∙ e .edge)
+            (Memᴰ·map rowOf (e .left)) (Memᴰ·map rowOf (e .right)) (sym (stands-rows flow (e .s) (e .t) (e .left) (e .right)) ∙ e .edge)
             (let q = e .leavesAt in omega (arith, small .2)) (let q = e .entersAt in omega (arith, small .3)) in
             let there : between flowWord (rowsOf nodes) (e .s .number) (e .t .number) ≡ entry (wordsBetween flowWord (rowsOf nodes)) u v
             = ap₂ (between flowWord (rowsOf nodes)) (e .leaves) (e .enters) ∙ sym (entry-between flowWord (rowsOf nodes) u v (small .0) (small .1)) in

@@ -6,13 +6,14 @@ use Prim.Native.Nat.{ℕ, _≤_, _<_}
 use native.Mathlib.Omega.{arith}
 use lib.ListN.{length, getD}
 use Rattle.law_base.specs.ListLaws.{map-member}
+use Rattle.spec_text.specs.declared.Line.{Line}
 use Rattle.spec_graph.specs.Graph.{Flow, isBack}
 use Rattle.spec_graph.specs.Unfolding.{Node}
 use Rattle.spec_graph.specs.Edge.{Place, loosens, placesOf, graphOf}
 use Rattle.spec_report.specs.State.{statementsIn}
+use Rattle.node_laws.specs.GivenNodes.{LawfulNode}
 use Rattle.place_row.specs.declared.Row.{Row}
 use Rattle.place_row.specs.RowTable.{rowOf, rowsOf, rowStands, tableRows}
-use Rattle.place_row.specs.RowTableLaws.{KeysSmall}
 use Rattle.step_word.specs.declared.Taken.{Taken}
 use Rattle.step_word.specs.StepWord.{flowOf, stepWord, stepOf}
 use Rattle.step_word.specs.StepWordLaws.{word-step, flow-back}
@@ -22,7 +23,7 @@ use Rattle.walk_step.specs.LeastStepLaws.{RowStep, counts-same, least-found, le
 use Rattle.verdict_laws.specs.Entries.{Ends, edge-ends, ends-edge, place-loose, ends-loose, small-graph, stands-rows}
 
 module _ (nodes : List Node) (few : length nodes ≤ 64) (statements : statementsIn nodes ≤ 512)
-    (keys : (n : Node) → List·Memᴰ n nodes → KeysSmall n) (table : List ℕ) (rows : tableRows table ≡ rowsOf nodes)
+    (lines : List Line) (lawful : (n : Node) → List·Memᴰ n nodes → LawfulNode lines n) (table : List ℕ) (rows : tableRows table ≡ rowsOf nodes)
     (x : ℕ) (needs limits : List ℕ) where
   -- a step between rows is an edge between their places
   row-edge : {word : ℕ} (s : RowStep (rowsOf nodes) x needs limits word)
@@ -47,7 +48,7 @@ module _ (nodes : List Node) (few : length nodes ≤ 64) (statements : statement
       edge =
           sym (ap₂ (λ (u i : ℕ). graphOf nodes .edge u i (b .0 .number) (b .0 .place) (s .flow)) node place
           ∙ ap (λ (q : Row). graphOf nodes .edge x (s .p .place) (q .node) (q .place) (s .flow)) (b .2))
-          ∙ ends-edge nodes (s .flow) (a .0) (b .0) (a .1) (b .1) ∙ stands-rows nodes few statements keys (s .flow) (a .0) (b .0) (a .1)
+          ∙ ends-edge nodes (s .flow) (a .0) (b .0) (a .1) (b .1) ∙ stands-rows nodes few statements lines lawful (s .flow) (a .0) (b .0) (a .1) (b .1)
           ∙ ap₂ (rowStands (s .flow)) (a .2) (b .2) ∙ s .stands
 
       loose : graphOf nodes .loose x (s .p .place) ≡ loosens (s .p .kind)
@@ -100,7 +101,7 @@ module _ (nodes : List Node) (few : length nodes ≤ 64) (statements : statement
         leavesSmall = let q = e .leavesAt in omega (arith, small .2);
         entersSmall = let q = e .entersAt in omega (arith, small .3);
         intoSmall = let q = e .enters in omega (arith, small .1);
-        stands = sym (stands-rows nodes few statements keys flow (e .s) (e .t) (e .left)) ∙ e .edge;
+        stands = sym (stands-rows nodes few statements lines lawful flow (e .s) (e .t) (e .left) (e .right)) ∙ e .edge;
         counts = counts-same flow (ap (λ (k : ℕ). getD needs k 0) (sym (e .enters))) (ap (λ (k : ℕ). getD limits k 0) (sym (e .enters)))
             (ends-loose nodes flow x i y j e)
             (sym (e .leavesAt)) (sym (e .entersAt)) c;

@@ -43,7 +43,7 @@ unfolding tooMany summaryGraph countsOf picksOf tableCounts
 given-picked w table r given fits whole picked = record {
   edges = ap (λ (p : PickedEdges). p .edges) picked ∙ ap length same;
   back = ap (λ (p : PickedEdges). p .back) picked ∙ ap (count (λ e. isBack (e .flow))) same;
-  held = nodes-held (nodesOf (linesOf w)) few statements (λ n m. given-places given n m .keys) table
+  held = nodes-held (nodesOf (linesOf w)) few statements (linesOf w) (given-places given) table
       (ap tableRows whole ∙ rows-same (nodesOf (linesOf w)) statements) r picked;
 }
   where

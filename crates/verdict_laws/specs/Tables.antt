@@ -9,14 +9,15 @@ use borrow.Author.Tests.{eqb-true, eq-eqb}
 use Rattle.spec_base.specs.Basic.{any}
 use Rattle.law_base.specs.BoolLaws.{same-test, and-true, and-of}
 use Rattle.law_base.specs.ListLaws.{any-true, any-of, map-member}
+use Rattle.spec_text.specs.declared.Line.{Line}
 use Rattle.spec_graph.specs.Graph.{Flow}
 use Rattle.spec_graph.specs.Unfolding.{Node}
 use Rattle.spec_graph.specs.Edge.{loosens, placesOf, graphOf}
 use Rattle.law_walk.specs.Reach.{regular}
 use Rattle.spec_report.specs.State.{statementsIn}
+use Rattle.node_laws.specs.GivenNodes.{LawfulNode}
 use Rattle.place_row.specs.declared.Row.{Row}
 use Rattle.place_row.specs.RowTable.{rowOf, rowsOf, tableRows}
-use Rattle.place_row.specs.RowTableLaws.{KeysSmall}
 use Rattle.edge_word.specs.Greatest.{GreatestWords, greatest-picked}
 use Rattle.walk_pick.specs.declared.PickedEdges.{PickedEdges}
 use Rattle.walk_pick.specs.Picks.{rowForwardWord, rowBackWord, wordsBetween, picksOf}
@@ -52,13 +53,13 @@ loose-rows nodes flow x i y j h = same-test (any (looseRow x i) (rowsOf nodes)) 
         (sym (ends-loose nodes flow x i y j e) ∙ t))
 
 module _ (nodes : List Node) (few : length nodes ≤ 64) (statements : statementsIn nodes ≤ 512)
-    (keys : (n : Node) → List·Memᴰ n nodes → KeysSmall n) (table : List ℕ) (rows : tableRows table ≡ rowsOf nodes) where
+    (lines : List Line) (lawful : (n : Node) → List·Memᴰ n nodes → LawfulNode lines n) (table : List ℕ) (rows : tableRows table ≡ rowsOf nodes) where
   -- the table has the graph's edges and its loose places
   pub rows-tabled : Tabled table (graphOf nodes)
   unfolding looseAt
   rows-tabled = record {
-    found = step-found nodes few statements keys table rows;
-    least = step-least nodes few statements keys table rows;
+    found = step-found nodes few statements lines lawful table rows;
+    least = step-least nodes few statements lines lawful table rows;
     loose = λ x i y j flow h. ap (any (looseRow x i)) rows ∙ loose-rows nodes flow x i y j h;
   }
 
@@ -69,7 +70,7 @@ module _ (nodes : List Node) (few : length nodes ≤ 64) (statements : statement
     picks-greatest =
         subst (λ (p : PickedEdges). GreatestWords (graphOf nodes) (p .forwards) (p .backs)) (sym picked)
         (subst (λ (l : List Row). GreatestWords (graphOf nodes) (wordsBetween rowForwardWord l) (wordsBetween rowBackWord l)) (sym rows)
-        (rows-greatest nodes few statements keys))
+        (rows-greatest nodes few statements lines lawful))
 
     pub nodes-held : Held table (r .forwards) (r .backs) (graphOf nodes)
     unfolding graphOf
