@@ -1,10 +1,12 @@
 -- The chances of all letters between two kinds as one number, the code of the two: a hexadecimal digit for each letter.
-use mathlib.Core.Bool.{Bool, true, false, cond}
-use Prim.Native.Nat.{ℕ, _+_, _*_, _/_, _%_}
-use lib.Dec.{eqb}
+use mathlib.Core.Bool.{Bool, cond, _&&_, _||_}
+use mathlib.Core.List.{List, map}
+use Prim.Native.Nat.{ℕ, _+_, _*_}
+use Rattle.spec_base.specs.Basic.{meets}
 use Rattle.spec_text.specs.declared.StatementKind.{StatementKind}
 use Rattle.spec_graph.specs.Edge.{Letter}
 use Rattle.spec_graph.specs.Edge.Letter.{A, B, C, D, E}
+use Rattle.law_kinds.specs.EveryKind.{kinds}
 use Rattle.law_kinds.specs.Chances.{Chance, chanceOf}
 use Rattle.law_kinds.specs.Chances.Chance.{impossible, certain, hanging}
 
@@ -14,28 +16,37 @@ digitOf impossible = 0
 digitOf certain = 1
 digitOf hanging = 2
 
--- what a letter's digit counts
-abbrev pub weightOf : Letter → ℕ
-weightOf A = 0x10000
-weightOf B = 0x1000
-weightOf C = 0x100
-weightOf D = 0x10
-weightOf E = 1
+-- the bit of a letter that is certain: what its digit counts
+abbrev pub certainBit : Letter → ℕ
+certainBit A = 0x10000
+certainBit B = 0x1000
+certainBit C = 0x100
+certainBit D = 0x10
+certainBit E = 1
+
+-- the bit of a letter that hangs on its sets
+abbrev pub hangingBit : Letter → ℕ
+hangingBit x = 2 * certainBit x
 
 abbrev part : Letter → StatementKind → StatementKind → ℕ
-part x k l = digitOf (chanceOf x k l) * weightOf x
+part x k l = digitOf (chanceOf x k l) * certainBit x
 
 -- Req 04: the code of two kinds, from the rules
 unfoldable pub codeOf : StatementKind → StatementKind → ℕ
 codeOf k l = part A k l + part B k l + part C k l + part D k l + part E k l
 
--- a letter's digit in a code, and the chance that it stands for
-abbrev pub digitIn : Letter → ℕ → ℕ
-digitIn x code = code / weightOf x % 16
+-- the codes of a kind that an edge leaves, for all that it may enter
+unfoldable pub codesFrom : StatementKind → List ℕ
+codesFrom k = map (codeOf k) kinds
 
-abbrev pub chanceIn : Letter → ℕ → Chance
-chanceIn x code = cond (eqb (digitIn x code) 0) impossible (cond (eqb (digitIn x code) 1) certain hanging)
+-- Req 04: the table that the rules give
+unfoldable pub letterTable : List (List ℕ)
+letterTable = map codesFrom kinds
 
--- whether a letter with this digit holds, by whether its two sets meet
-abbrev pub toldBy : ℕ → Bool → Bool
-toldBy digit meet = cond (eqb digit 0) false (cond (eqb digit 1) true meet)
+-- what a code, any number, says of a letter
+abbrev pub chanceIn : ℕ → Letter → Chance
+chanceIn code x = cond (meets code (certainBit x)) certain (cond (meets code (hangingBit x)) hanging impossible)
+
+-- whether a letter is told to hold, by a code and by whether its two sets meet
+abbrev pub toldIn : ℕ → Letter → Bool → Bool
+toldIn code x meet = meets code (certainBit x) || meets code (hangingBit x) && meet

@@ -2,8 +2,13 @@
 
 use spec_text::StatementKind;
 ghost use mathlib.Core.Path.{_≡_};
-ghost use Rattle.kind_table.specs.Codes.{codeOf};
+ghost use lib.ListN.{getD};
+ghost use Rattle.edge_kinds.specs.Kinds.{kindNumber};
+ghost use Rattle.kind_table.specs.Codes.{codeOf, codesFrom, letterTable};
 use edge_kinds::kind_number;
+
+// How many kinds there are: so many rows, and so many codes in each.
+pub const KINDS: usize = 8;
 
 // A code tells of each of the letters A to E whether it can hold between two statements over one relation, whatever sets document 01 allows them:
 // a hexadecimal digit to each letter, A's first; 0 impossible, 1 certain, 2 hanging on a meeting of its two sets. The same stands in its name, a
@@ -61,7 +66,7 @@ const ____E: u32 = 0x00001;
 const _____: u32 = 0x00000;
 
 // Rows: the kind of the statement that an edge leaves. Columns: the kind of the statement that it enters.
-const LETTERS: [[u32; 8]; 8] = [
+const LETTERS: [[u32; KINDS]; KINDS] = [
     // is     ks     ps     ku     pu     kd     pd     kl
     [_____, _B___, _bC__, Ab___, AbC__, A____, A_C__, _B___], // is
     [_____, _____, _____, ___d_, ___d_, ___D_, ___D_, _____], // ks
@@ -73,7 +78,7 @@ const LETTERS: [[u32; 8]; 8] = [
     [_____, _____, _____, ___d_, ___d_, ___D_, ___D_, _____], // kl
 ];
 
-// What a letter's digit counts in a code, and how many values a digit has.
+// The bits of a code that say of a letter that it is certain,
 pub const A: u32 = 0x10000;
 
 pub const B: u32 = 0x01000;
@@ -84,17 +89,56 @@ pub const D: u32 = 0x00010;
 
 pub const E: u32 = 0x00001;
 
-pub const DIGITS: u32 = 0x10;
-
-// The bits of a code that say that a letter is certain.
+// that some letter is certain,
 pub const CERTAIN: u32 = 0x11111;
+
+// and that it hangs on its sets.
+pub const A_HANGS: u32 = 0x20000;
+
+pub const B_HANGS: u32 = 0x02000;
+
+pub const C_HANGS: u32 = 0x00200;
+
+pub const D_HANGS: u32 = 0x00020;
+
+pub const E_HANGS: u32 = 0x00002;
+
+// The table, as the rules give it.
+fn letters() -> [[u32; KINDS]; KINDS]
+    ensures { λ r. ⌜ r ≡ letterTable ⌝ }
+{
+    LETTERS
+}
+
+// The codes of a kind that an edge leaves, looked up once for all that it may enter. Arms and no index: for an index that it does not know the
+// compiler lays the whole table out anew.
+pub fn codes_from(k: StatementKind) -> [u32; KINDS]
+    ensures { λ r. ⌜ r ≡ codesFrom k ⌝ }
+{
+    let table = letters();
+    match k {
+        StatementKind::Is => table[0],
+        StatementKind::Ks => table[1],
+        StatementKind::Ps => table[2],
+        StatementKind::Ku => table[3],
+        StatementKind::Pu => table[4],
+        StatementKind::Kd => table[5],
+        StatementKind::Pd => table[6],
+        StatementKind::Kl => table[7],
+    }
+}
+
+// Of the codes of a kind that an edge leaves, that of the kind which it enters.
+pub fn code_to(codes: &[u32; KINDS], l: StatementKind) -> u32
+    ensures { λ r. ⌜ r ≡ getD (now (codes .entry)) (kindNumber l) 0 ⌝ }
+{
+    codes[kind_number(l) as usize]
+}
 
 // The code of two kinds.
 pub fn pair_code(k: StatementKind, l: StatementKind) -> u32
     ensures { λ r. ⌜ r ≡ codeOf k l ⌝ }
 {
-    let i = kind_number(k) as usize;
-    let j = kind_number(l) as usize;
-    let row = LETTERS[i];
-    row[j]
+    let codes = codes_from(k);
+    code_to(&codes, l)
 }

@@ -53,28 +53,38 @@ rowShared E p q = bitAnd (p .tests) (q .writes)
 unfoldable pub rowHolds : Letter → Row → Row → Bool
 rowHolds letter p q = told (chanceOf letter (p .kind) (q .kind)) (not (eqb (rowShared letter p q) 0))
 
--- E1 over rows
+-- E1: some letter holds between rows of one relation
+abbrev pub forwardBy : (Letter → Bool) → Row → Row → Bool
+forwardBy holds p q = eqb (p .relation) (q .relation) && (holds A || holds B || holds C || holds D || holds E)
+
+-- E2: some key shields the pair where the keys of the first, as it is left, meet those of the second, as it is entered
+abbrev pub backBy : (Letter → Bool) → Row → Row → Bool
+backBy holds p q =
+    eqb (p .relation) (q .relation) && (holds E || selects (p .kind) && holds D && not (meets (p .keys) (farIn (q .keys))))
+
+-- an edge with this flow stands, by which letters hold
+abbrev pub standsBy : Flow → (Letter → Bool) → Row → Row → Bool
+standsBy Flow.forward holds p q = forwardBy holds p q
+standsBy Flow.back holds p q = backBy holds p q
+
+-- E6: the letter of an edge, by which letters hold
+abbrev pub letterBy : Flow → (Letter → Bool) → Letter
+letterBy Flow.forward holds = cond (holds A) A (cond (holds B) B (cond (holds C) C (cond (holds D) D E)))
+letterBy Flow.back holds = cond (holds E) E D
+
+-- E1, E2 and E6 over rows
 unfoldable pub rowForward : Row → Row → Bool
-rowForward p q =
-    eqb (p .relation) (q .relation)
-    && (rowHolds A p q || rowHolds B p q || rowHolds C p q || rowHolds D p q || rowHolds E p q)
+rowForward p q = forwardBy (λ x. rowHolds x p q) p q
 
--- E2 over rows: some key shields the pair where the keys of the first, as it is left, meet those of the second, as it is entered
 unfoldable pub rowBack : Row → Row → Bool
-rowBack p q =
-    eqb (p .relation) (q .relation)
-    && (rowHolds E p q || selects (p .kind) && rowHolds D p q && not (meets (p .keys) (farIn (q .keys))))
+rowBack p q = backBy (λ x. rowHolds x p q) p q
 
--- an edge with this flow stands between the two rows
 abbrev pub rowStands : Flow → Row → Row → Bool
 rowStands Flow.forward p q = rowForward p q
 rowStands Flow.back p q = rowBack p q
 
--- E6 over rows
 unfoldable pub rowLetter : Flow → Row → Row → Letter
-rowLetter Flow.forward p q =
-    cond (rowHolds A p q) A (cond (rowHolds B p q) B (cond (rowHolds C p q) C (cond (rowHolds D p q) D E)))
-rowLetter Flow.back p q = cond (rowHolds E p q) E D
+rowLetter flow p q = letterBy flow (λ x. rowHolds x p q)
 
 unfoldable pub rowEdge : Flow → Row → Row → Edge
 rowEdge flow p q =

@@ -1,42 +1,38 @@
--- The letters are asked in turn, each as the code of the two kinds tells it (row-told): the first that holds is the letter.
-use mathlib.Core.Bool.{Bool, not}
+-- The letters are asked in turn, and the first that holds is the letter.
+use mathlib.Core.Bool.{Bool}
 use mathlib.Core.Path.{_≡_, sym, _∙_}
-use Prim.Native.Nat.{ℕ}
-use lib.Dec.{eqb}
 use borrow.Author.Needs.{needs}
-use Rattle.spec_graph.specs.Edge.{Letter}
 use Rattle.spec_graph.specs.Edge.Letter.{A, B, C, D, E}
-use Rattle.place_row.specs.declared.Row.{Row}
-use Rattle.place_row.specs.RowTable.{rowHolds, rowShared}
-use Rattle.kind_table.specs.Codes.{codeOf, digitIn, toldBy}
-use Rattle.edge_test.specs.LetterLaws.{row-told}
+use Rattle.place_row.specs.RowTable.{rowShared}
+use Rattle.edge_test.specs.Letters.{toldBetween}
 use Rattle.edge_test.proofs.first_letter.Statement.{statement}
 use Rattle.edge_test.proofs.first_letter.Tie as tie
 
--- what was answered for a letter
-asked : (x : Letter) (p q : Row) {code : ℕ} {r is : Bool} → code ≡ codeOf (p .kind) (q .kind)
-    → r ≡ toldBy (digitIn x code) (not (eqb (rowShared x p q) 0)) → r ≡ is → rowHolds x p q ≡ is
-asked x p q known r is = sym (r ∙ row-told x p q known) ∙ is
+-- what was answered for each letter
+at-a : (c : tie.After-letter-holds) {is : Bool} → c .letter-holds .result ≡ is
+    → toldBetween (c .before .args .code) (c .before .args .p) (c .before .args .q) A ≡ is
+unfolding toldBetween rowShared
+at-a c is = sym (c .letter-holds .ensures) ∙ is
 
-at-a : (c : tie.After-letter-holds) {is : Bool} → c .letter-holds .result ≡ is → rowHolds A (c .before .args .p) (c .before .args .q) ≡ is
-unfolding rowShared
-at-a c = asked A _ _ (c .before .pre) (c .letter-holds .ensures)
+at-b : (c : tie.After-letter-holds2) {is : Bool} → c .letter-holds2 .result ≡ is
+    → toldBetween (c .before .before .before .args .code) (c .before .before .before .args .p) (c .before .before .before .args .q) B ≡ is
+unfolding toldBetween rowShared
+at-b c is = sym (c .letter-holds2 .ensures) ∙ is
 
-at-b : (c : tie.After-letter-holds2) {is : Bool} → c .letter-holds2 .result ≡ is → rowHolds B (c .before .before .before .args .p) (c .before .before .before .args .q) ≡ is
-unfolding rowShared
-at-b c = asked B _ _ (c .before .before .before .pre) (c .letter-holds2 .ensures)
+at-c : (c : tie.After-letter-holds3) {is : Bool} → c .letter-holds3 .result ≡ is
+    → toldBetween (c .before .before .before .before .before .args .code) (c .before .before .before .before .before .args .p) (c .before .before .before .before .before .args .q) C ≡ is
+unfolding toldBetween rowShared
+at-c c is = sym (c .letter-holds3 .ensures) ∙ is
 
-at-c : (c : tie.After-letter-holds3) {is : Bool} → c .letter-holds3 .result ≡ is → rowHolds C (c .before .before .before .before .before .args .p) (c .before .before .before .before .before .args .q) ≡ is
-unfolding rowShared
-at-c c = asked C _ _ (c .before .before .before .before .before .pre) (c .letter-holds3 .ensures)
+at-d : (c : tie.After-letter-holds4) {is : Bool} → c .letter-holds4 .result ≡ is
+    → toldBetween (c .before .before .before .before .before .before .before .args .code) (c .before .before .before .before .before .before .before .args .p) (c .before .before .before .before .before .before .before .args .q) D ≡ is
+unfolding toldBetween rowShared
+at-d c is = sym (c .letter-holds4 .ensures) ∙ is
 
-at-d : (c : tie.After-letter-holds4) {is : Bool} → c .letter-holds4 .result ≡ is → rowHolds D (c .before .before .before .before .before .before .before .args .p) (c .before .before .before .before .before .before .before .args .q) ≡ is
-unfolding rowShared
-at-d c = asked D _ _ (c .before .before .before .before .before .before .before .pre) (c .letter-holds4 .ensures)
-
-at-e : (c : tie.After-letter-holds5) {is : Bool} → c .letter-holds5 .result ≡ is → rowHolds E (c .before .before .before .before .before .before .before .before .before .args .p) (c .before .before .before .before .before .before .before .before .before .args .q) ≡ is
-unfolding rowShared
-at-e c = asked E _ _ (c .before .before .before .before .before .before .before .before .before .pre) (c .letter-holds5 .ensures)
+at-e : (c : tie.After-letter-holds5) {is : Bool} → c .letter-holds5 .result ≡ is
+    → toldBetween (c .before .before .before .before .before .before .before .before .before .args .code) (c .before .before .before .before .before .before .before .before .before .args .p) (c .before .before .before .before .before .before .before .before .before .args .q) E ≡ is
+unfolding toldBetween rowShared
+at-e c is = sym (c .letter-holds5 .ensures) ∙ is
 
 returns : tie.Need-returns
 returns c = simp (at-a (c .before) (c .if1 .taken))
