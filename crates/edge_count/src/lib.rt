@@ -1,11 +1,13 @@
-// The edges of the summary graph, counted row by row in a table of places: eight words to a row. A row's sets are taken as they stand; in the
-// rows that `place_table::fill_rows` makes, a set that the kind lacks is 0.
+// The edges of the summary graph, counted row by row in a table of places: eight words to a row. Which letters hold between two rows is told by the
+// codes of their kinds (Req 04).
 
 ghost use mathlib.Core.Path.{_≡_};
 ghost use Prim.Native.Nat.{_+_, _*_, _<_};
 ghost use Rattle.edge_count.specs.Slots.{tableCounts, pairCounts, countsBelow, CountedTo};
 use edge_test::back_stands;
 use edge_test::forward_stands;
+use kind_table::code_to;
+use kind_table::codes_from;
 use place_fetch::row_at;
 use place_fetch::row_count;
 
@@ -37,12 +39,16 @@ fn count_row(table: &[u64], n: usize, i: usize, before: Counts) -> Counts
     ensures { λ r. ⌜ r ≡ countsBelow (now (table .entry)) (i * 1024 + 1024) ⌝ }
 {
     let p = row_at(table, i);
+    let k = p.kind;
+    let codes = codes_from(k);
     let mut edges = before.edges;
     let mut back = before.back;
     let mut j: usize = 0;
     while j < n {
         let q = row_at(table, j);
-        let c = pair_counts(forward_stands(p, q), back_stands(p, q));
+        let l = q.kind;
+        let code = code_to(&codes, l);
+        let c = pair_counts(forward_stands(code, p, q), back_stands(code, p, q));
         edges += c.edges;
         back += c.back;
         j += 1;
