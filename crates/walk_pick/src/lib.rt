@@ -2,6 +2,7 @@
 
 ghost use mathlib.Core.Path.{_≡_};
 ghost use Prim.Native.Nat.{_≤_, _<_};
+ghost use Rattle.kind_table.specs.Codes.{codeOf};
 ghost use Rattle.walk_pick.specs.Picks.{picksOf};
 ghost use Rattle.walk_pick.specs.PickSteps.{keptAt, hasEntries, PairKept, RowAdded};
 use edge_count::Counts;
@@ -15,6 +16,8 @@ use edge_word::PAIRS;
 use edge_word::PLACES;
 use edge_word::back_word;
 use edge_word::forward_word;
+use kind_table::code_to;
+use kind_table::codes_from;
 use place_fetch::row_at;
 use place_fetch::row_count;
 use place_row::Row;
@@ -48,12 +51,19 @@ fn keep_word(words: &mut [u64; PAIRS], x: usize, word: u64)
     }
 }
 
-// Counts the edges from row p to row q, and keeps their words for the nodes of the two where the tables have room.
-fn pick_pair(p: Row, q: Row, forwards: &mut [u64; PAIRS], backs: &mut [u64; PAIRS]) -> Counts
+// Counts the edges from row p to row q by the code of their kinds, and keeps their words for the nodes of the two where the tables have room.
+fn pick_pair(
+    code: u32,
+    p: Row,
+    q: Row,
+    forwards: &mut [u64; PAIRS],
+    backs: &mut [u64; PAIRS],
+) -> Counts
+    requires { ⌜ code ≡ codeOf (p .kind) (q .kind) ⌝ }
     ensures { λ r. ⌜ PairKept p q (now (forwards .entry)) (now (backs .entry)) (now (forwards .exit)) (now (backs .exit)) r ⌝ }
 {
-    let f = forward_stands(p, q);
-    let b = back_stands(p, q);
+    let f = forward_stands(code, p, q);
+    let b = back_stands(code, p, q);
     let t = pair_counts(f, b);
     if has_entries(p) {
         if has_entries(q) {
@@ -82,12 +92,16 @@ fn pick_row(
     ensures { λ r. ⌜ RowAdded (now (table .entry)) n i (now (forwards .entry)) (now (backs .entry)) (now (forwards .exit)) (now (backs .exit)) r ⌝ }
 {
     let p = row_at(table, i);
+    let k = p.kind;
+    let codes = codes_from(k);
     let mut edges: usize = 0;
     let mut back: usize = 0;
     let mut j: usize = 0;
     while j < n {
         let q = row_at(table, j);
-        let t = pick_pair(p, q, forwards, backs);
+        let l = q.kind;
+        let code = code_to(&codes, l);
+        let t = pick_pair(code, p, q, forwards, backs);
         edges += t.edges;
         back += t.back;
         j += 1;

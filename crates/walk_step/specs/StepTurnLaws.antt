@@ -7,10 +7,11 @@ use Prim.Native.Nat.{ℕ, zero, suc, _+_, _*_, _≤_, _<_, min}
 use native.Mathlib.Nat.{le-antisymm, add-zero, zero-add, suc-add, add-suc}
 use native.Mathlib.Numerals.{add-one}
 use native.Mathlib.Omega.{arith}
+use lib.Dec.{leb, ltb}
 use lib.ListN.{getD}
 use borrow.Author.Tests.{eq-eqb, ne-eqb, ltb-true, lt-ltb, le-ltb, lt-leb, le-leb}
 use Rattle.spec_base.specs.Basic.{numbers, numbersFrom, meets}
-use Rattle.law_base.specs.BoolLaws.{decide, and-true}
+use Rattle.law_base.specs.BoolLaws.{decide, and-true, and-right}
 use Rattle.spec_graph.specs.Graph.{Flow}
 use Rattle.spec_graph.specs.Edge.{loosens}
 use Rattle.edge_kinds.specs.Kinds.{kindFacts, looseBit}
@@ -99,6 +100,18 @@ module _ (need limit : ℕ) (p q : Row) where
       pub counted-none : b ≡ false → 134217728 ≡ countedStep need limit p q
       unfolding countedStep
       counted-none t = let a = flow-none Flow.forward (sym forward ∙ no) in let d = flow-none Flow.back (sym back ∙ t) in omega arith
+
+-- between rows of two relations no step counts
+pub counted-apart : (need limit : ℕ) (p q : Row) → (p .relation ≡ q .relation → ⊥) → 134217728 ≡ countedStep need limit p q
+unfolding forwardCounts backCounts rowForward rowBack
+counted-apart need limit p q apart =
+    counted-none need limit p q (sym (and-right (leb need (opensTo p q)) forward)) (sym (and-right (ltb (p .place) limit) back)) refl refl
+  where
+    forward : rowForward p q ≡ false
+    forward = simp (ne-eqb (p .relation) (q .relation) apart)
+
+    back : rowBack p q ≡ false
+    back = simp (ne-eqb (p .relation) (q .relation) apart)
 
 -- what counts into a row for which a word has room
 module _ (needs limits : List ℕ) (p q : Row) {b : Bool} (room : b ≡ hasWord q) where

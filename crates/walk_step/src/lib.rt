@@ -4,6 +4,7 @@
 ghost use mathlib.Core.Path.{_≡_};
 ghost use Prim.Native.Nat.{_≤_, min};
 ghost use Rattle.walk_step.specs.LeastStep.{hasWord, opensTo, forwardCounts, backCounts, countedStep, pairStep, leastStep};
+ghost use Rattle.kind_table.specs.Codes.{codeOf};
 ghost use Rattle.place_row.specs.RowTable.{rowAt};
 ghost use Rattle.walk_step.specs.LeastStep.{looseRow, looseAt};
 ghost use Rattle.walk_step.specs.StepTurns.{mayCount, rowLeast, fromRow};
@@ -13,6 +14,7 @@ use edge_test::back_stands;
 use edge_test::forward_stands;
 use edge_word::NODES;
 use edge_word::PLACES;
+use kind_table::pair_code;
 use place_fetch::row_at;
 use place_fetch::row_count;
 use place_row::ROW_WORDS;
@@ -45,33 +47,42 @@ fn opens_to(p: Row, q: Row) -> u64
 }
 
 // Whether a forward edge stands from row p to row q and opens as far as is needed. How far is tested first: that is cheaper than the edge.
-fn forward_counts(p: Row, q: Row, need: u64) -> bool
+fn forward_counts(code: u32, p: Row, q: Row, need: u64) -> bool
+    requires { ⌜ code ≡ codeOf (p .kind) (q .kind) ⌝ }
     ensures { λ r. ⌜ r ≡ forwardCounts need p q ⌝ }
 {
     if opens_to(p, q) < need {
         return false;
     }
-    forward_stands(p, q)
+    forward_stands(code, p, q)
 }
 
 // Whether a back edge stands from row p to row q and leaves below the limit.
-fn back_counts(p: Row, q: Row, limit: u64) -> bool
+fn back_counts(code: u32, p: Row, q: Row, limit: u64) -> bool
+    requires { ⌜ code ≡ codeOf (p .kind) (q .kind) ⌝ }
     ensures { λ r. ⌜ r ≡ backCounts limit p q ⌝ }
 {
     if limit <= p.place {
         return false;
     }
-    back_stands(p, q)
+    back_stands(code, p, q)
 }
 
 // The word of the least step from row p to row q that counts. Of the two the forward step is less.
 fn counted_step(p: Row, q: Row, need: u64, limit: u64) -> u64
     ensures { λ r. ⌜ r ≡ countedStep need limit p q ⌝ }
 {
-    if forward_counts(p, q, need) {
+    // Most pairs of rows differ in their relation: they need no code.
+    if p.relation != q.relation {
+        return NO_STEP;
+    }
+    let k = p.kind;
+    let l = q.kind;
+    let code = pair_code(k, l);
+    if forward_counts(code, p, q, need) {
         return step_word(p.place, q.place, false, q.node);
     }
-    if back_counts(p, q, limit) {
+    if back_counts(code, p, q, limit) {
         return step_word(p.place, q.place, true, q.node);
     }
     NO_STEP

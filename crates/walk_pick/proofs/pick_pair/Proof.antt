@@ -1,5 +1,6 @@
--- The edges are counted by whether they stand. Where both rows have entries the words are kept at the pair of their nodes (pair-in); else the
+-- The edges are counted by whether they stand, which the code of the two kinds tells (forward-told, back-told). Where both rows have entries the words are kept at the pair of their nodes (pair-in); else the
 -- tables stay (left-out, right-out).
+use Rattle.edge_test.specs.LetterLaws.{forward-told, back-told}
 use Rattle.walk_pick.specs.PairLaws.{entries-small, left-out, right-out, pair-in}
 use native.Mathlib.Omega.{arith}
 use mathlib.Core.Path.{sym, _∙_}
@@ -72,8 +73,8 @@ returns c =
     let c14 = c13 .before in
     let c15 = c14 .before in
     pair-in _ _
-    (c15 .forward-stands .ensures)
-    (c14 .back-stands .ensures)
+    (c15 .forward-stands .ensures ∙ forward-told _ _ (c15 .before .pre))
+    (c14 .back-stands .ensures ∙ back-told _ _ (c15 .before .pre))
     (c13 .pair-counts .ensures)
     (sym (c12 .has-entries .ensures)
     ∙ c11 .if1 .taken)
@@ -85,14 +86,16 @@ returns c =
 
 returns-2 : tie.Need-returns-2
 returns-2 c =
-    right-out _ _ (c .before .before .before .before .before .before .forward-stands .ensures)
-    (c .before .before .before .before .before .back-stands .ensures) (c .before .before .before .before .pair-counts .ensures)
+    let known = c .before .before .before .before .before .before .before .pre in
+    right-out _ _ (c .before .before .before .before .before .before .forward-stands .ensures ∙ forward-told _ _ known)
+    (c .before .before .before .before .before .back-stands .ensures ∙ back-told _ _ known) (c .before .before .before .before .pair-counts .ensures)
     (sym (c .before .has-entries2 .ensures) ∙ c .if2 .left)
 
 returns-3 : tie.Need-returns-3
 returns-3 c =
-    left-out _ _ (c .before .before .before .before .forward-stands .ensures)
-    (c .before .before .before .back-stands .ensures) (c .before .before .pair-counts .ensures)
+    let known = c .before .before .before .before .before .pre in
+    left-out _ _ (c .before .before .before .before .forward-stands .ensures ∙ forward-told _ _ known)
+    (c .before .before .before .back-stands .ensures ∙ back-told _ _ known) (c .before .before .pair-counts .ensures)
     (sym (c .before .has-entries .ensures) ∙ c .if1 .left)
 
 pub pick-pair-spec : {M : Type 1} → statement M
