@@ -11,7 +11,7 @@ use Rattle.spec_text.specs.declared.StatementKind.{StatementKind}
 use Rattle.spec_text.specs.declared.StatementKind.the-variants.{Is, Ks, Ps, Ku, Pu, Kd, Pd, Kl}
 use Rattle.spec_graph.specs.Edge as E
 use Rattle.law_kinds.specs.EveryKind.{kinds-agree}
-use Rattle.edge_kinds.specs.Kinds.{testsBit, insertBit, deleteBit, selectBit, shieldBit, looseBit, kindFacts}
+use Rattle.edge_kinds.specs.Kinds.{selectBit, shieldBit, looseBit, kindFacts}
 use Rattle.edge_kinds.specs.Kinds.{kindCount, kindNumber, kindNamed, kindOf}
 
 -- ---- kinds and numbers
@@ -56,18 +56,12 @@ Bit bit test k = meets (kindFacts k) bit ≡ test k
 
 -- what the facts of a kind say: each bit is the table that the graph's definitions ask
 pub record Told (k : StatementKind) : Type 0 where
-  pub tests : Bit testsBit E.hasTests k
-  pub inserts : Bit insertBit E.inserts k
-  pub deletes : Bit deleteBit E.deletes k
   pub selects : Bit selectBit E.selects k
   pub shields : Bit shieldBit E.shields k
   pub loosens : Bit looseBit E.loosens k
 
 pub told : (k : StatementKind) → Told k
 told k = record {
-  tests = kinds-agree (λ k. meets (kindFacts k) testsBit) E.hasTests refl k;
-  inserts = kinds-agree (λ k. meets (kindFacts k) insertBit) E.inserts refl k;
-  deletes = kinds-agree (λ k. meets (kindFacts k) deleteBit) E.deletes refl k;
   selects = kinds-agree (λ k. meets (kindFacts k) selectBit) E.selects refl k;
   shields = kinds-agree (λ k. meets (kindFacts k) shieldBit) E.shields refl k;
   loosens = kinds-agree (λ k. meets (kindFacts k) looseBit) E.loosens refl k;

@@ -5,36 +5,27 @@ use lib.Dec.{eqb}
 use Rattle.spec_text.specs.declared.StatementKind.{StatementKind}
 use Rattle.spec_text.specs.declared.StatementKind.the-variants.{Is, Ks, Ps, Ku, Pu, Kd, Pd, Kl}
 
--- it has tests; it inserts, deletes, selects
-abbrev pub testsBit : ℕ
-testsBit = 1
-
-abbrev pub insertBit : ℕ
-insertBit = 2
-
-abbrev pub deleteBit : ℕ
-deleteBit = 4
-
+-- a back D may leave it
 abbrev pub selectBit : ℕ
-selectBit = 8
+selectBit = 1
 
 -- as a parent it shields
 abbrev pub shieldBit : ℕ
-shieldBit = 16
+shieldBit = 2
 
 -- a pair is dangerous where the first edge leaves it
 abbrev pub looseBit : ℕ
-looseBit = 32
+looseBit = 4
 
 -- the facts of a kind of statement
 abbrev pub kindFacts : StatementKind → ℕ
-kindFacts Is = insertBit + shieldBit
+kindFacts Is = shieldBit
 kindFacts Ks = selectBit + looseBit
-kindFacts Ps = testsBit + selectBit + looseBit
+kindFacts Ps = selectBit + looseBit
 kindFacts Ku = shieldBit
-kindFacts Pu = testsBit + looseBit
-kindFacts Kd = deleteBit + shieldBit
-kindFacts Pd = testsBit + deleteBit + looseBit
+kindFacts Pu = looseBit
+kindFacts Kd = shieldBit
+kindFacts Pd = looseBit
 kindFacts Kl = shieldBit
 
 -- how many kinds there are

@@ -1,37 +1,31 @@
-// What rules E and W ask of a kind of statement, as one table, and a kind as a number in a row. Code over places and edges asks a kind nothing
-// else, so that a new kind of statement is a line here.
+// What rules E2, E3 and W ask of a kind of statement, as one table, and a kind as a number in a row. Code over places and edges asks a kind nothing
+// else, but for the letters between two kinds (kind_table), so that a new kind of statement is a line here and a row and a column there.
 
 use spec_text::StatementKind;
 ghost use mathlib.Core.Path.{_≡_};
 ghost use Rattle.spec_base.specs.Basic.{meets};
 ghost use Rattle.edge_kinds.specs.Kinds.{kindFacts, kindNumber, kindOf};
 
-// The facts of a kind, a bit each. It has tests; it inserts, deletes, selects;
-pub const TESTS: u64 = 1;
+// The facts of a kind, a bit each. A back D may leave it (E2); as a parent it shields (E3); a pair is dangerous where the first edge leaves it (W4).
+// Which letters can hold between two kinds is in kind_table.
+pub const SELECT: u64 = 1;
 
-pub const INSERT: u64 = 2;
+pub const SHIELD: u64 = 2;
 
-pub const DELETE: u64 = 4;
-
-pub const SELECT: u64 = 8;
-
-// as a parent it shields (E3); a pair is dangerous where the first edge leaves it (W4).
-pub const SHIELD: u64 = 16;
-
-pub const LOOSE: u64 = 32;
+pub const LOOSE: u64 = 4;
 
 // The facts of a kind.
 pub fn kind_facts(k: StatementKind) -> u64
     ensures { λ r. ⌜ r ≡ kindFacts k ⌝ }
 {
     match k {
-        StatementKind::Is => INSERT + SHIELD,
+        StatementKind::Is => SHIELD,
         StatementKind::Ks => SELECT + LOOSE,
-        StatementKind::Ps => TESTS + SELECT + LOOSE,
+        StatementKind::Ps => SELECT + LOOSE,
         StatementKind::Ku => SHIELD,
-        StatementKind::Pu => TESTS + LOOSE,
-        StatementKind::Kd => DELETE + SHIELD,
-        StatementKind::Pd => TESTS + DELETE + LOOSE,
+        StatementKind::Pu => LOOSE,
+        StatementKind::Kd => SHIELD,
+        StatementKind::Pd => LOOSE,
         StatementKind::Kl => SHIELD,
     }
 }
