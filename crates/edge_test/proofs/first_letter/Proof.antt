@@ -1,6 +1,6 @@
--- The letters are asked in turn, and the first that holds is the letter.
+-- A code of 0 tells no letter. Else the letters are asked in turn, and the first that holds is the letter.
 use mathlib.Core.Bool.{Bool}
-use mathlib.Core.Path.{_≡_, sym, _∙_}
+use mathlib.Core.Path.{_≡_, refl, sym, _∙_}
 use borrow.Author.Needs.{needs}
 use Rattle.spec_graph.specs.Edge.Letter.{A, B, C, D, E}
 use Rattle.place_row.specs.RowTable.{rowShared}
@@ -8,79 +8,82 @@ use Rattle.edge_test.specs.Letters.{toldBetween}
 use Rattle.edge_test.proofs.first_letter.Statement.{statement}
 use Rattle.edge_test.proofs.first_letter.Tie as tie
 
+returns : tie.Need-returns
+unfolding toldBetween
+returns c = rw (c .if1 .taken) refl
+
 -- what was answered for each letter
 at-a : (c : tie.After-letter-holds) {is : Bool} → c .letter-holds .result ≡ is
-    → toldBetween (c .before .args .code) (c .before .args .p) (c .before .args .q) A ≡ is
+    → toldBetween (c .before .before .args .code) (c .before .before .args .p) (c .before .before .args .q) A ≡ is
 unfolding toldBetween rowShared
 at-a c is = sym (c .letter-holds .ensures) ∙ is
 
 at-b : (c : tie.After-letter-holds2) {is : Bool} → c .letter-holds2 .result ≡ is
-    → toldBetween (c .before .before .before .args .code) (c .before .before .before .args .p) (c .before .before .before .args .q) B ≡ is
+    → toldBetween (c .before .before .before .before .args .code) (c .before .before .before .before .args .p) (c .before .before .before .before .args .q) B ≡ is
 unfolding toldBetween rowShared
 at-b c is = sym (c .letter-holds2 .ensures) ∙ is
 
 at-c : (c : tie.After-letter-holds3) {is : Bool} → c .letter-holds3 .result ≡ is
-    → toldBetween (c .before .before .before .before .before .args .code) (c .before .before .before .before .before .args .p) (c .before .before .before .before .before .args .q) C ≡ is
+    → toldBetween (c .before .before .before .before .before .before .args .code) (c .before .before .before .before .before .before .args .p) (c .before .before .before .before .before .before .args .q) C ≡ is
 unfolding toldBetween rowShared
 at-c c is = sym (c .letter-holds3 .ensures) ∙ is
 
 at-d : (c : tie.After-letter-holds4) {is : Bool} → c .letter-holds4 .result ≡ is
-    → toldBetween (c .before .before .before .before .before .before .before .args .code) (c .before .before .before .before .before .before .before .args .p) (c .before .before .before .before .before .before .before .args .q) D ≡ is
+    → toldBetween (c .before .before .before .before .before .before .before .before .args .code) (c .before .before .before .before .before .before .before .before .args .p) (c .before .before .before .before .before .before .before .before .args .q) D ≡ is
 unfolding toldBetween rowShared
 at-d c is = sym (c .letter-holds4 .ensures) ∙ is
 
 at-e : (c : tie.After-letter-holds5) {is : Bool} → c .letter-holds5 .result ≡ is
-    → toldBetween (c .before .before .before .before .before .before .before .before .before .args .code) (c .before .before .before .before .before .before .before .before .before .args .p) (c .before .before .before .before .before .before .before .before .before .args .q) E ≡ is
+    → toldBetween (c .before .before .before .before .before .before .before .before .before .before .args .code) (c .before .before .before .before .before .before .before .before .before .before .args .p) (c .before .before .before .before .before .before .before .before .before .before .args .q) E ≡ is
 unfolding toldBetween rowShared
 at-e c is = sym (c .letter-holds5 .ensures) ∙ is
 
-returns : tie.Need-returns
-returns c = simp (at-a (c .before) (c .if1 .taken))
-
 returns-2 : tie.Need-returns-2
-returns-2 c = simp (
-  at-a (c .before .before .before) (c .before .before .if1 .left),
-  at-b (c .before) (c .if2 .taken),
-)
+returns-2 c = simp (at-a (c .before) (c .if2 .taken))
 
 returns-3 : tie.Need-returns-3
 returns-3 c = simp (
-  at-a (c .before .before .before .before .before) (c .before .before .before .before .if1 .left),
-  at-b (c .before .before .before) (c .before .before .if2 .left),
-  at-c (c .before) (c .if3 .taken),
+  at-a (c .before .before .before) (c .before .before .if2 .left),
+  at-b (c .before) (c .if3 .taken),
 )
 
 returns-4 : tie.Need-returns-4
 returns-4 c = simp (
-  at-a (c .before .before .before .before .before .before .before) (c .before .before .before .before .before .before .if1 .left),
-  at-b (c .before .before .before .before .before) (c .before .before .before .before .if2 .left),
-  at-c (c .before .before .before) (c .before .before .if3 .left),
-  at-d (c .before) (c .if4 .taken),
+  at-a (c .before .before .before .before .before) (c .before .before .before .before .if2 .left),
+  at-b (c .before .before .before) (c .before .before .if3 .left),
+  at-c (c .before) (c .if4 .taken),
 )
 
 returns-5 : tie.Need-returns-5
 returns-5 c = simp (
-  at-a (c .before .before .before .before .before .before .before .before .before) (c .before .before .before .before .before .before .before .before .if1 .left),
-  at-b (c .before .before .before .before .before .before .before) (c .before .before .before .before .before .before .if2 .left),
-  at-c (c .before .before .before .before .before) (c .before .before .before .before .if3 .left),
-  at-d (c .before .before .before) (c .before .before .if4 .left),
-  at-e (c .before) (c .if5 .taken),
+  at-a (c .before .before .before .before .before .before .before) (c .before .before .before .before .before .before .if2 .left),
+  at-b (c .before .before .before .before .before) (c .before .before .before .before .if3 .left),
+  at-c (c .before .before .before) (c .before .before .if4 .left),
+  at-d (c .before) (c .if5 .taken),
 )
 
 returns-6 : tie.Need-returns-6
 returns-6 c = simp (
-  at-a (c .before .before .before .before .before .before .before .before .before) (c .before .before .before .before .before .before .before .before .if1 .left),
-  at-b (c .before .before .before .before .before .before .before) (c .before .before .before .before .before .before .if2 .left),
-  at-c (c .before .before .before .before .before) (c .before .before .before .before .if3 .left),
-  at-d (c .before .before .before) (c .before .before .if4 .left),
-  at-e (c .before) (c .if5 .left),
+  at-a (c .before .before .before .before .before .before .before .before .before) (c .before .before .before .before .before .before .before .before .if2 .left),
+  at-b (c .before .before .before .before .before .before .before) (c .before .before .before .before .before .before .if3 .left),
+  at-c (c .before .before .before .before .before) (c .before .before .before .before .if4 .left),
+  at-d (c .before .before .before) (c .before .before .if5 .left),
+  at-e (c .before) (c .if6 .taken),
+)
+
+returns-7 : tie.Need-returns-7
+returns-7 c = simp (
+  at-a (c .before .before .before .before .before .before .before .before .before) (c .before .before .before .before .before .before .before .before .if2 .left),
+  at-b (c .before .before .before .before .before .before .before) (c .before .before .before .before .before .before .if3 .left),
+  at-c (c .before .before .before .before .before) (c .before .before .before .before .if4 .left),
+  at-d (c .before .before .before) (c .before .before .if5 .left),
+  at-e (c .before) (c .if6 .left),
 )
 
 pub first-letter-spec : {M : Type 1} → statement M
 first-letter-spec =
     tie.close
     (tie.spec
-    (λ c κs. search needs)
     returns
     (λ c κs. search needs)
     returns-2
@@ -90,4 +93,6 @@ first-letter-spec =
     returns-4
     (λ c κs. search needs)
     returns-5
-    returns-6)
+    (λ c κs. search needs)
+    returns-6
+    returns-7)
