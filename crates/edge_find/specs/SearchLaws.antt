@@ -17,7 +17,7 @@ use Rattle.law_base.specs.ListLaws.{getElem?-past, getElem?-append-right}
 use Rattle.spec_graph.specs.Graph as G
 use Rattle.spec_graph.specs.Edge as E
 use Rattle.place_row.specs.declared.Row.{Row}
-use Rattle.place_row.specs.RowTable.{rowAt, rowCount, rowStands, rowLetter, rowEdge}
+use Rattle.place_row.specs.RowTable.{rowAt, rowCount, rowForward, rowBack, rowStands, rowLetter, rowEdge}
 use Rattle.place_row.specs.RowTableLaws.{onesIn-ones}
 use Rattle.edge_find.specs.declared.EdgeStep.{EdgeStep}
 use Rattle.edge_record.specs.declared.Edge.{Edge}
@@ -78,6 +78,12 @@ step-letter x flow p q E.Letter.B e = rw e
 step-letter x flow p q E.Letter.C e = rw e
 step-letter x flow p q E.Letter.D e = rw e
 step-letter x flow p q E.Letter.E e = rw e
+
+-- the letter between two rows is that of the edge, where one stands
+letter-of : (flow : G.Flow) (p q : Row) → letterBetween flow p q ≡ cond (rowStands flow p q) (byteOf (rowLetter flow p q)) 0
+unfolding letterBetween rowForward rowBack rowLetter
+letter-of G.Flow.forward p q = refl
+letter-of G.Flow.back p q = refl
 
 -- ---- the edges before a slot
 
@@ -178,6 +184,17 @@ module _ (table : List ℕ) where
 
   -- ---- looking at a slot
 
+  -- no edge stands before y, which is the next slot to look at
+  pub looked-none : (x y : ℕ) {r : EdgeStep} → x < y → edgeFrom table y ≡ edgeFrom table x → r ≡ nothingTo y → Looked table x r
+  looked-none x y l same e = rw e (record { here = λ t. absurd (true-false t refl); later = λ t. (l, same) })
+
+  -- a look from y on serves for one from x on, where no edge stands between
+  pub looked-on : (x y : ℕ) {r : EdgeStep} → x ≤ y → edgeFrom table y ≡ edgeFrom table x → Looked table y r → Looked table x r
+  looked-on x y l same looked = record {
+    here = λ t. looked .here t ∙ same;
+    later = λ t. let h = looked .later t .0 in (omega arith, looked .later t .1 ∙ same);
+  }
+
   module _ (x : ℕ) (bound : x < 524288) where
     -- a slot of a row
     within : x / 1024 < length table / 8 → x < slots table
@@ -186,18 +203,12 @@ module _ (table : List ℕ) where
 
     -- slots in which nothing stands are passed over
     passed : (y : ℕ) → x < y → y ≤ slots table → ((z : ℕ) → x ≤ z → z < y → standsAt table z ≡ false) → Looked table x (nothingTo y)
-    passed y l m empty = record {
-      here = λ t. absurd (true-false t refl);
-      later = λ t. (l, edge-skip x y (omega arith) m empty);
-    }
+    passed y l m empty = looked-none x y l (edge-skip x y (omega arith) m empty) refl
 
     -- past the last row from which an edge can leave
     pub looked-end : (r : EdgeStep) → length table / 8 ≤ x / 1024 → r ≡ nothingTo 524288 → Looked table x r
     unfolding slots rowCount
-    looked-end r h e = rw e (record {
-      here = λ t. absurd (true-false t refl);
-      later = λ t. (bound, sym (edge-end 524288 (omega arith)) ∙ edge-end x (omega arith));
-    })
+    looked-end r h e = looked-none x 524288 bound (sym (edge-end 524288 (omega arith)) ∙ edge-end x (omega arith)) e
 
     module _ (left : x / 1024 < length table / 8) where
       -- past the last row that an edge can enter
@@ -228,8 +239,9 @@ module _ (table : List ℕ) where
           → coded (rowEdge flow (leftRow table x) (rightRow table x)) ≡ edgeAt table x
           → Looked table x
           (stepIn x (flowByte flow) (letterBetween flow (leftRow table x) (rightRow table x)) (leftRow table x) (rightRow table x))
-      unfolding letterBetween stepIn
-      slot-looked flow s f = go (rowStands flow (leftRow table x) (rightRow table x)) (sym s)
+      unfolding stepIn
+      slot-looked flow s f =
+          rw (letter-of flow (leftRow table x) (rightRow table x)) (go (rowStands flow (leftRow table x) (rightRow table x)) (sym s))
         where
           go : (b : Bool) → standsAt table x ≡ b
               → Looked table x
