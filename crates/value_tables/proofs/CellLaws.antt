@@ -18,7 +18,7 @@ use Rattle.spec_text.specs.declared.Line.{Line}
 use Rattle.spec_text.specs.declared.LineKind.{LineKind}
 use Rattle.spec_text.specs.declared.Workload.{Workload}
 use Rattle.spec_text.proofs.Workload.{the-type}
-use Rattle.edge_kinds.specs.Kinds.{kindFacts, kindOf}
+use Rattle.edge_kinds.specs.Kinds.{shieldBit, kindFacts, kindOf}
 use Rattle.edge_kinds.specs.KindLaws.{told, bit-clear, bit-set}
 use Rattle.unfold_laws.specs.Codes.{codeOf, codesOf, idsOf, markIn, bitIn, marksOf}
 use Rattle.spec_text.specs.declared.StatementKind.{StatementKind}
@@ -105,11 +105,11 @@ unfolding markBy
 mark-some n id x h e = e ∙ sym (simp (lt-ltb n prNumber h))
 
 module _ (n facts : ℕ) (k : StatementKind) (e : k ≡ kindOf n) (f : facts ≡ kindFacts k) where
-  pub shield-clear : bitAnd facts 16 ≡ 0 → shields (kindOf n) ≡ false
-  shield-clear h = rw (← e) (bit-clear (ap (λ (x : ℕ). bitAnd x 16) (sym f) ∙ h) (told k .shields))
+  pub shield-clear : bitAnd facts shieldBit ≡ 0 → shields (kindOf n) ≡ false
+  shield-clear h = rw (← e) (bit-clear (ap (λ (x : ℕ). bitAnd x shieldBit) (sym f) ∙ h) (told k .shields))
 
-  pub shield-set : (bitAnd facts 16 ≡ 0 → ⊥) → shields (kindOf n) ≡ true
-  shield-set h = rw (← e) (bit-set (λ z. h (ap (λ (x : ℕ). bitAnd x 16) f ∙ z)) (told k .shields))
+  pub shield-set : (bitAnd facts shieldBit ≡ 0 → ⊥) → shields (kindOf n) ≡ true
+  shield-set h = rw (← e) (bit-set (λ z. h (ap (λ (x : ℕ). bitAnd x shieldBit) f ∙ z)) (told k .shields))
 
 pub bit-unshielding : (k : StatementKind) (id : ℕ) → shields k ≡ false → 0 ≡ bitIn k id
 unfolding bitIn
