@@ -2,15 +2,14 @@
 use mathlib.Core.Bool.{Bool, true, false, cond}
 use mathlib.Core.List.{List}
 use mathlib.Core.Path.{_≡_}
-use Prim.Native.Nat.{ℕ, _+_, _/_, _<_}
+use Prim.Native.Nat.{ℕ, _+_, _<_}
 use lib.Dec.{eqb}
-use lib.ListN.{length, getElem?}
+use lib.ListN.{getElem?}
 use lib.Count.{onesIn, trailingZeros}
 use Rattle.spec_graph.specs.Edge.{Letter}
 use Rattle.spec_graph.specs.Edge.Letter.{A, B, C, D, E}
-use Rattle.kind_table.specs.Codes.{codesFrom}
 use Rattle.place_row.specs.declared.Row.{Row}
-use Rattle.place_row.specs.RowTable.{rowAt, rowShared}
+use Rattle.place_row.specs.RowTable.{rowShared}
 use Rattle.edge_record.specs.declared.Found.{Found}
 use Rattle.edge_record.specs.Coded.{foundAs}
 use Rattle.edge_count.specs.Slots.{tableEdges, edgesBelow, nextSlot}
@@ -55,13 +54,6 @@ stepIn x flow letter p q =
 abbrev pub isThere : Found → Bool
 isThere (Found.There e) = true
 isThere Found.Absent = false
-
--- the edge in slot x leaves row p, which is there, and these are the codes of its kind
-pub record Leaves (table : List ℕ) (x : ℕ) (p : Row) (codes : List ℕ) : Type 0 where
-  pub bound : x < 524288
-  pub there : x / 1024 < length table / 8
-  pub row : p ≡ rowAt table (x / 1024)
-  pub kinds : codes ≡ codesFrom (p .kind)
 
 -- from slot x on: the answer, or a later slot with the same answer
 pub record Looked (table : List ℕ) (x : ℕ) (r : EdgeStep) : Type 0 where

@@ -16,9 +16,10 @@ use Rattle.law_base.specs.BoolLaws.{true-false}
 use Rattle.law_base.specs.ListLaws.{getElem?-past, getElem?-append-right}
 use Rattle.spec_graph.specs.Graph as G
 use Rattle.spec_graph.specs.Edge as E
+use Rattle.spec_graph.specs.Edge.{loosens}
 use Rattle.place_row.specs.declared.Row.{Row}
 use Rattle.place_row.specs.RowTable.{rowAt, rowCount, rowForward, rowBack, rowStands, rowLetter, rowEdge}
-use Rattle.place_row.specs.RowTableLaws.{onesIn-ones}
+use Rattle.place_row.specs.RowTableLaws.{back-loose, onesIn-ones}
 use Rattle.edge_find.specs.declared.EdgeStep.{EdgeStep}
 use Rattle.edge_record.specs.declared.Edge.{Edge}
 use Rattle.edge_record.specs.declared.Found.{Found}
@@ -184,17 +185,6 @@ module _ (table : List ℕ) where
 
   -- ---- looking at a slot
 
-  -- no edge stands before y, which is the next slot to look at
-  pub looked-none : (x y : ℕ) {r : EdgeStep} → x < y → edgeFrom table y ≡ edgeFrom table x → r ≡ nothingTo y → Looked table x r
-  looked-none x y l same e = rw e (record { here = λ t. absurd (true-false t refl); later = λ t. (l, same) })
-
-  -- a look from y on serves for one from x on, where no edge stands between
-  pub looked-on : (x y : ℕ) {r : EdgeStep} → x ≤ y → edgeFrom table y ≡ edgeFrom table x → Looked table y r → Looked table x r
-  looked-on x y l same looked = record {
-    here = λ t. looked .here t ∙ same;
-    later = λ t. let h = looked .later t .0 in (omega arith, looked .later t .1 ∙ same);
-  }
-
   module _ (x : ℕ) (bound : x < 524288) where
     -- a slot of a row
     within : x / 1024 < length table / 8 → x < slots table
@@ -203,12 +193,18 @@ module _ (table : List ℕ) where
 
     -- slots in which nothing stands are passed over
     passed : (y : ℕ) → x < y → y ≤ slots table → ((z : ℕ) → x ≤ z → z < y → standsAt table z ≡ false) → Looked table x (nothingTo y)
-    passed y l m empty = looked-none x y l (edge-skip x y (omega arith) m empty) refl
+    passed y l m empty = record {
+      here = λ t. absurd (true-false t refl);
+      later = λ t. (l, edge-skip x y (omega arith) m empty);
+    }
 
     -- past the last row from which an edge can leave
     pub looked-end : (r : EdgeStep) → length table / 8 ≤ x / 1024 → r ≡ nothingTo 524288 → Looked table x r
     unfolding slots rowCount
-    looked-end r h e = looked-none x 524288 bound (sym (edge-end 524288 (omega arith)) ∙ edge-end x (omega arith)) e
+    looked-end r h e = rw e (record {
+      here = λ t. absurd (true-false t refl);
+      later = λ t. (bound, sym (edge-end 524288 (omega arith)) ∙ edge-end x (omega arith));
+    })
 
     module _ (left : x / 1024 < length table / 8) where
       -- past the last row that an edge can enter
@@ -279,6 +275,16 @@ module _ (table : List ℕ) where
         pub looked-back : (x % 2 ≡ 0 → ⊥) → letter ≡ letterBetween G.Flow.back p q → r ≡ stepIn x 0x62 letter p q → Looked table x r
         looked-back odd e g =
             slot-step G.Flow.back (stands-back table x (rowCount table) refl inside odd) (edge-back table x odd) e g
+
+      -- in the slot of a back edge that would leave a kind that is not loose
+      pub looked-firm : (r : EdgeStep) (p : Row) → x % 1024 / 2 < length table / 8 → p ≡ rowAt table (x / 1024) → (x % 2 ≡ 0 → ⊥)
+          → loosens (p .kind) ≡ false → r ≡ nothingTo (x + 1) → Looked table x r
+      unfolding rowCount
+      looked-firm r p right first odd firm e =
+          let none = back-loose (leftRow table x) (rightRow table x) (ap (λ (t : Row). loosens (t .kind)) (sym first) ∙ firm) in
+          let empty = sym (stands-back table x (rowCount table) refl (omega arith) odd) ∙ none in
+          rw e (passed (x + 1) (omega arith) (let i = within left in omega arith)
+          (λ z l m. let s : z ≡ x = omega arith in ap (standsAt table) s ∙ empty))
 
   -- ---- the edges after the first one from a slot on
 

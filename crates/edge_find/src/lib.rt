@@ -1,16 +1,16 @@
-// The first edge from some slot on in a table of places: each pair of rows has two slots, the forward edge's and the back edge's. Which letters
-// hold between two rows is told by the codes of their kinds (Req 04).
+// The first edge from some slot on in a table of places: each pair of rows has two slots, the forward edge's and the back edge's. Which letters hold
+// between two rows is told by the code of their kinds (Req 04).
 
 ghost use mathlib.Core.Path.{_≡_};
 ghost use Prim.Native.Nat.{_<_};
-ghost use Rattle.edge_find.specs.Search.{sharedBy, nothingTo, stepIn, isThere, edgeFrom, Leaves, Looked};
+ghost use Rattle.edge_find.specs.Search.{sharedBy, nothingTo, stepIn, isThere, edgeFrom, Looked};
+use edge_kinds::LOOSE;
+use edge_kinds::kind_facts;
 use edge_record::Edge;
 use edge_record::Found;
 use edge_test::back_letter;
 use edge_test::forward_letter;
-use kind_table::KINDS;
-use kind_table::code_to;
-use kind_table::codes_from;
+use kind_table::pair_code;
 use place_fetch::row_at;
 use place_fetch::row_count;
 use place_row::ROW_SLOTS;
@@ -68,23 +68,35 @@ fn step_with(slot: usize, flow: u8, letter: u8, p: Row, q: Row) -> EdgeStep
     EdgeStep { slot, found }
 }
 
-// The edge in a slot, of row p to another, where codes are those of p's kind; where none stands, the next slot to look at. Slots past the last
-// row are passed over at once, and so are both slots of a pair of rows of two relations. That the other row is whole is tested first, so that
-// it is not looked up word by word.
-fn look_at(table: &[u64], slot: usize, p: Row, codes: &[u32; KINDS]) -> EdgeStep
-    requires { ⌜ Leaves (now table) slot p (now codes) ⌝ }
+// The edge in a slot; where none stands, the next slot to look at. Slots past the last row are passed over at once, and so are both slots
+// of a pair of rows of two relations. That both rows are whole is tested first, so that no row is looked up word by word.
+fn look_at(table: &[u64], slot: usize) -> EdgeStep
+    requires { ⌜ slot < 524288 ⌝ }
     ensures { λ r. ⌜ Looked (now (table .entry)) slot r ⌝ }
 {
+    let rows = table.len() / ROW_WORDS;
+    let i = slot / ROW_SLOTS;
+    if rows <= i {
+        return nothing_to(SLOTS);
+    }
     let j = slot % ROW_SLOTS / 2;
-    if table.len() / ROW_WORDS <= j {
-        return nothing_to(slot / ROW_SLOTS * ROW_SLOTS + ROW_SLOTS);
+    if rows <= j {
+        return nothing_to(i * ROW_SLOTS + ROW_SLOTS);
+    }
+    let p = row_at(table, i);
+    let k = p.kind;
+    if slot % 2 == 1 {
+        // A back edge leaves a loose kind alone: the other row need not be looked up.
+        if kind_facts(k) & LOOSE == 0 {
+            return nothing_to(slot + 1);
+        }
     }
     let q = row_at(table, j);
     if p.relation != q.relation {
         return nothing_to(slot / 2 * 2 + 2);
     }
     let l = q.kind;
-    let code = code_to(codes, l);
+    let code = pair_code(k, l);
     if slot % 2 == 0 {
         let letter = forward_letter(code, p, q);
         return step_with(slot, b'f', letter, p, q);
@@ -104,38 +116,13 @@ fn is_found(step: EdgeStep) -> bool
     }
 }
 
-// The first edge from a slot to the end of its row; where none stands, a later slot to look at. The row and the codes of its kind are fetched
-// once for all its slots. Where the row is not there, no later one is.
-fn look_along(table: &[u64], slot: usize) -> EdgeStep
-    requires { ⌜ slot < 524288 ⌝ }
-    ensures { λ r. ⌜ Looked (now (table .entry)) slot r ⌝ }
-{
-    let i = slot / ROW_SLOTS;
-    if table.len() / ROW_WORDS <= i {
-        return nothing_to(SLOTS);
-    }
-    let p = row_at(table, i);
-    let k = p.kind;
-    let codes = codes_from(k);
-    let end = i * ROW_SLOTS + ROW_SLOTS;
-    let mut x = slot;
-    while x < end {
-        let step = look_at(table, x, p, &codes);
-        if is_found(step) {
-            return step;
-        }
-        x = step.slot;
-    }
-    nothing_to(x)
-}
-
 // The first edge from a slot on: from 0, and from after each edge's slot, it gives all edges of a table in order.
 pub fn edge_from(table: &[u64], from: usize) -> EdgeStep
     ensures { λ r. ⌜ r ≡ edgeFrom (now (table .entry)) from ⌝ }
 {
     let mut x = from;
     while x < SLOTS {
-        let step = look_along(table, x);
+        let step = look_at(table, x);
         if is_found(step) {
             return step;
         }

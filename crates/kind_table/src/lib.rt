@@ -135,10 +135,25 @@ pub fn code_to(codes: &[u32; KINDS], l: StatementKind) -> u32
     codes[kind_number(l) as usize]
 }
 
+// The same of codes that are looked at once: by arms, so that they need not be laid out.
+fn code_in(codes: [u32; KINDS], l: StatementKind) -> u32
+    ensures { λ r. ⌜ r ≡ getD codes (kindNumber l) 0 ⌝ }
+{
+    match l {
+        StatementKind::Is => codes[0],
+        StatementKind::Ks => codes[1],
+        StatementKind::Ps => codes[2],
+        StatementKind::Ku => codes[3],
+        StatementKind::Pu => codes[4],
+        StatementKind::Kd => codes[5],
+        StatementKind::Pd => codes[6],
+        StatementKind::Kl => codes[7],
+    }
+}
+
 // The code of two kinds.
 pub fn pair_code(k: StatementKind, l: StatementKind) -> u32
     ensures { λ r. ⌜ r ≡ codeOf k l ⌝ }
 {
-    let codes = codes_from(k);
-    code_to(&codes, l)
+    code_in(codes_from(k), l)
 }

@@ -14,17 +14,19 @@ use lib.ListN.{length, getD}
 use lib.Seq.{getD-append-add}
 use borrow.Author.Tests.{eqb-true, eq-eqb, ne-eqb}
 use Rattle.spec_base.specs.Basic.{numbers, numbersFrom, has, meets}
-use Rattle.law_base.specs.BoolLaws.{same-test, and-true, and-of, and-left}
+use Rattle.law_base.specs.BoolLaws.{same-test, and-true, and-of, and-left, and-right, not-of-false}
 use Rattle.law_base.specs.ListLaws.{any-true, any-of}
 use Rattle.law_base.specs.SetLaws.{has-first, has-later, meets-has-below, has-meets, meets-comm}
 use Rattle.spec_graph.specs.Graph.{Flow}
 use Rattle.spec_graph.specs.Program.{Link}
 use Rattle.spec_graph.specs.Unfolding.{Node, Occurrence}
+use Rattle.spec_graph.specs.Edge.{hasTests, selects, loosens}
 use Rattle.spec_graph.specs.Edge.{Letter, Place, at, holds, sameRelation, hasParent, guardedNear, guardedFar, shielded, forward, back, letterOf, shared}
 use Rattle.spec_graph.specs.Edge.{edgeOf, edgesBetween, placesFrom, placesOf, edgesOf}
 use Rattle.spec_graph.specs.Edge.Letter.{A, B, C, D, E}
 use Rattle.spec_text.specs.declared.Line.{Line}
 use Rattle.spec_text.specs.Reading.{relationSet}
+use Rattle.law_kinds.specs.EveryKind.{kinds-apart}
 use Rattle.law_kinds.specs.KindSets.{Allowed}
 use Rattle.law_kinds.specs.Chances.{chanceOf, told}
 use Rattle.law_kinds.specs.ChanceLaws.{chance-told}
@@ -193,6 +195,15 @@ module _ (lines : List Line) (s t : Place) (f : LawfulStatement lines (at s)) (g
             let f : forward s t ≡ false = and-left _ e in
             let b : back s t ≡ false = and-left _ e in
             simp (f, b, sym forward-rows ∙ f, sym back-rows ∙ b)
+
+-- E2: a back edge leaves a select, or a kind that tests: no other kind is loose
+pub back-loose : (p q : Row) → loosens (p .kind) ≡ false → rowBack p q ≡ false
+unfolding rowBack rowHolds chanceOf
+back-loose p q firm =
+    let other = not-of-false firm in
+    let tests = kinds-apart (λ k. not (loosens k)) hasTests refl (p .kind) other in
+    let select = kinds-apart (λ k. not (loosens k)) selects refl (p .kind) other in
+    and-right (eqb (p .relation) (q .relation)) (simp (tests, select))
 
 -- ---- all pairs
 

@@ -1,4 +1,4 @@
--- The first edge from slot x on is the first from `from` on: where `look_along` finds none it names a later slot with the same first edge. Past the
+-- The first edge from slot x on is the first from `from` on: where `look_at` finds none it names a later slot with the same first edge. Past the
 -- last slot there is none (edge-none).
 use mathlib.Core.Path.{_≡_, refl, sym, _∙_}
 use Prim.Native.Nat.{_-_}
@@ -22,18 +22,17 @@ loop-holds c = refl
 returns : tie.Need-returns Inv-loop μ-loop
 returns c =
     let c4 = c .before .before .before .before in
-    c .before .before .look-along .ensures .here (sym (c .before .is-found .ensures) ∙ c .if1 .taken) ∙ c4 .loop .inv
+    c .before .before .look-at .ensures .here (sym (c .before .is-found .ensures) ∙ c .if1 .taken) ∙ c4 .loop .inv
 
 loop-less : tie.Need-loop-less Inv-loop μ-loop
 loop-less c =
-    let h = c .before .before .look-along .ensures .later (sym (c .before .is-found .ensures) ∙ c .if1 .left) .0 in
+    let h = c .before .before .look-at .ensures .later (sym (c .before .is-found .ensures) ∙ c .if1 .left) .0 in
     let l = c .before .before .before .loop-test .taken in
     omega arith
 
 loop-again : tie.Need-loop-again Inv-loop μ-loop
 loop-again c =
-    c .before .before .look-along .ensures .later (sym (c .before .is-found .ensures) ∙ c .if1 .left) .1
-    ∙ c .before .before .before .before .loop .inv
+    c .before .before .look-at .ensures .later (sym (c .before .is-found .ensures) ∙ c .if1 .left) .1 ∙ c .before .before .before .before .loop .inv
 
 mul-nothing-to : tie.Need-mul-nothing-to Inv-loop μ-loop
 mul-nothing-to c = let h = rows-few _ _ (c .row-count .ensures) in record { fits = omega arith }

@@ -5,7 +5,7 @@ use Rattle.kind_table.proofs.pair_code.Statement.{statement}
 use Rattle.kind_table.proofs.pair_code.Tie as tie
 
 returns : tie.Need-returns
-returns c = code-right _ _ (c .before .before .codes-from .ensures) (c .code-to .ensures)
+returns c = code-right _ _ (c .before .codes-from .ensures) (c .code-in .ensures)
 
 pub pair-code-spec : {M : Type 1} → statement M
 pair-code-spec = tie.close (tie.spec (λ c κs. search needs) (λ c κs. search needs) returns)
