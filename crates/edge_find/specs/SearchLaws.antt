@@ -277,12 +277,11 @@ module _ (table : List ℕ) where
             slot-step G.Flow.back (stands-back table x (rowCount table) refl inside odd) (edge-back table x odd) e g
 
       -- in the slot of a back edge that would leave a kind that is not loose
-      pub looked-firm : (r : EdgeStep) (p : Row) → x % 1024 / 2 < length table / 8 → p ≡ rowAt table (x / 1024) → (x % 2 ≡ 0 → ⊥)
-          → loosens (p .kind) ≡ false → r ≡ nothingTo (x + 1) → Looked table x r
+      pub looked-firm : (r : EdgeStep) → x % 1024 / 2 < length table / 8 → (x % 2 ≡ 0 → ⊥) → loosens (rowAt table (x / 1024) .kind) ≡ false
+          → r ≡ nothingTo (x + 1) → Looked table x r
       unfolding rowCount
-      looked-firm r p right first odd firm e =
-          let none = back-loose (leftRow table x) (rightRow table x) (ap (λ (t : Row). loosens (t .kind)) (sym first) ∙ firm) in
-          let empty = sym (stands-back table x (rowCount table) refl (omega arith) odd) ∙ none in
+      looked-firm r right odd firm e =
+          let empty = sym (stands-back table x (rowCount table) refl (omega arith) odd) ∙ back-loose (leftRow table x) (rightRow table x) firm in
           rw e (passed (x + 1) (omega arith) (let i = within left in omega arith)
           (λ z l m. let s : z ≡ x = omega arith in ap (standsAt table) s ∙ empty))
 

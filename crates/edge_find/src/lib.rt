@@ -6,6 +6,7 @@ ghost use Prim.Native.Nat.{_<_};
 ghost use Rattle.edge_find.specs.Search.{sharedBy, nothingTo, stepIn, isThere, edgeFrom, Looked};
 use edge_kinds::LOOSE;
 use edge_kinds::kind_facts;
+use edge_kinds::kind_of;
 use edge_record::Edge;
 use edge_record::Found;
 use edge_test::back_letter;
@@ -13,10 +14,12 @@ use edge_test::forward_letter;
 use kind_table::pair_code;
 use place_fetch::row_at;
 use place_fetch::row_count;
+use place_row::KIND;
 use place_row::ROW_SLOTS;
 use place_row::ROW_WORDS;
 use place_row::Row;
 use place_row::SLOTS;
+use word_list::word_at;
 
 // The first edge from some slot on, and its slot; where there is none, the number of slots.
 pub struct EdgeStep {
@@ -83,18 +86,19 @@ fn look_at(table: &[u64], slot: usize) -> EdgeStep
     if rows <= j {
         return nothing_to(i * ROW_SLOTS + ROW_SLOTS);
     }
-    let p = row_at(table, i);
-    let k = p.kind;
     if slot % 2 == 1 {
-        // A back edge leaves a loose kind alone: the other row need not be looked up.
-        if kind_facts(k) & LOOSE == 0 {
+        // A back edge leaves a loose kind alone: the rows of the others need not be fetched.
+        let kind = kind_of(word_at(table, i * ROW_WORDS + KIND));
+        if kind_facts(kind) & LOOSE == 0 {
             return nothing_to(slot + 1);
         }
     }
+    let p = row_at(table, i);
     let q = row_at(table, j);
     if p.relation != q.relation {
         return nothing_to(slot / 2 * 2 + 2);
     }
+    let k = p.kind;
     let l = q.kind;
     let code = pair_code(k, l);
     if slot % 2 == 0 {
