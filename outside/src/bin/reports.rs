@@ -1,26 +1,27 @@
-//! `reports PROGRAM SEED COUNT [TEXT...]`: what a program prints on the texts and on COUNT generated ones, those with a line kl left out, one report
-//! right after the other, for `same.sh` to compare. A program that fails or writes errors ends it. PROGRAM `-`: the texts themselves.
-//! On standard error: how many texts there were, and of which outcome.
+//! `reports PROGRAM SEED COUNT [TEXT...] [--locks]`: what a program prints on the texts and on COUNT generated ones, one report right after the
+//! other, for `same.sh` to compare; without `--locks` those with a line kl are left out. A program that fails or writes errors ends it. PROGRAM `-`:
+//! the texts themselves. On standard error: how many texts there were, and of which outcome.
 
+use outside::arguments::words_and_locks;
 use outside::generator::text_number;
 use outside::outcome::run;
 use std::collections::BTreeMap;
 use std::io::Write;
 
 fn main() {
-    let words: Vec<String> = std::env::args().collect();
+    let (words, locks) = words_and_locks();
     let number = |at: usize| words.get(at).and_then(|word| word.parse::<u64>().ok());
     let (Some(program), Some(seed), Some(count)) = (words.get(1), number(2), number(3)) else {
-        eprintln!("usage: reports PROGRAM SEED COUNT [TEXT...]");
+        eprintln!("usage: reports PROGRAM SEED COUNT [TEXT...] [--locks]");
         std::process::exit(2);
     };
     let given = words[4..].iter().map(|path| std::fs::read(path).unwrap_or_else(|error| panic!("{path}: {error}")));
     let mut outcomes: BTreeMap<String, usize> = BTreeMap::new();
     let (mut taken, mut left_out) = (0, 0);
     let mut out = std::io::BufWriter::new(std::io::stdout());
-    for text in given.chain((0..count).map(|k| text_number(seed, k, false))) {
+    for text in given.chain((0..count).map(|k| text_number(seed, k, locks))) {
         // a changed byte may turn a ks into one
-        if text.split(|&byte| byte == b'\n').any(|line| line.starts_with(b"kl")) {
+        if !locks && text.split(|&byte| byte == b'\n').any(|line| line.starts_with(b"kl")) {
             left_out += 1;
             continue;
         }
