@@ -1,17 +1,17 @@
 -- Before line i the programs are those that the lines before it begin; each line adds its part (begun-next), up to the last (begun-all).
-use Rattle.place_keys.proofs.KeyLaws.{begun-fits, begun-next, begun-all}
+use Rattle.place_programs.proofs.BegunLaws.{begun-fits, begun-next, begun-all}
 use Prim.Native.Nat.{_/_}
-use Rattle.place_keys.specs.LineKeys.{begunBefore}
+use Rattle.place_programs.specs.LinePrograms.{begunBefore}
 use borrow.Author.Needs.{needs}
 use native.Mathlib.Omega.{arith}
 use mathlib.Core.Path.{_≡_, refl, ap, sym, _∙_}
 use Prim.Native.Nat.{ℕ, _+_, _-_, _*_, _≤_, _<_}
 use lib.ListN.{length, set, getD, length-set, take, drop}
-use Rattle.place_keys.proofs.programs_in.Statement.{statement}
-use Rattle.place_keys.proofs.programs_in.Tie as tie
-use Rattle.place_keys.proofs.programs_in.Reads as reads
-use Rattle.place_keys.proofs.programs_in.Lts as lts
-use Rattle.place_keys.proofs.begin_line.Reads as begin-line-reads
+use Rattle.place_programs.proofs.programs_in.Statement.{statement}
+use Rattle.place_programs.proofs.programs_in.Tie as tie
+use Rattle.place_programs.proofs.programs_in.Reads as reads
+use Rattle.place_programs.proofs.programs_in.Lts as lts
+use Rattle.place_programs.proofs.begin_line.Reads as begin-line-reads
 
 abbrev Inv-loop : tie.InvT-loop
 Inv-loop lines b₀ n i₀ b i = (i ≤ length lines / 8) × (b ≡ begunBefore lines i)

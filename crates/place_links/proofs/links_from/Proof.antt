@@ -1,13 +1,13 @@
 -- What the lines from i on give beside the marks so far is what those from `first` on give: each line that is no `pr` and no `li` keeps this
 -- (links-next), and at one of these or at the end the links begin (links-program, links-link, links-end).
-use Rattle.place_keys.proofs.KeyLaws.{links-next, links-program, links-link, links-end}
-use Rattle.place_keys.specs.LineKeys.{linksFrom, linksIn}
+use Rattle.place_links.proofs.LinkLaws.{links-next, links-program, links-link, links-end}
+use Rattle.place_links.specs.LineLinks.{linksFrom, linksIn}
 use borrow.Author.Needs.{needs}
 use mathlib.Core.Path.{_≡_, refl, _∙_}
 use Prim.Native.Nat.{_-_, _/_}
 use lib.ListN.{length}
-use Rattle.place_keys.proofs.links_from.Statement.{statement}
-use Rattle.place_keys.proofs.links_from.Tie as tie
+use Rattle.place_links.proofs.links_from.Statement.{statement}
+use Rattle.place_links.proofs.links_from.Tie as tie
 
 abbrev Inv-loop : tie.InvT-loop
 Inv-loop lines first n marks₀ i₀ marks i =

@@ -2,10 +2,10 @@
 -- 16 cells setting one changes nothing (begun-past).
 use mathlib.Core.Path.{_∙_}
 use borrow.Author.Needs.{needs}
-use Rattle.place_keys.specs.LineKeys.{begunWith}
-use Rattle.place_keys.proofs.KeyLaws.{begun-none, begun-one, begun-past}
-use Rattle.place_keys.proofs.begin_line.Statement.{statement}
-use Rattle.place_keys.proofs.begin_line.Tie as tie
+use Rattle.place_programs.specs.LinePrograms.{begunWith}
+use Rattle.place_programs.proofs.BegunLaws.{begun-none, begun-one, begun-past}
+use Rattle.place_programs.proofs.begin_line.Statement.{statement}
+use Rattle.place_programs.proofs.begin_line.Tie as tie
 
 returns : tie.Need-returns
 returns c = begun-none _ _ _ _ (c .before .word-at .ensures) (c .if1 .taken)
