@@ -19,10 +19,12 @@ use Rattle.pick_laws.specs.Demands.{goingAfter}
 use Rattle.pick_laws.specs.PickLaws.{Picked}
 use Rattle.pick_laws.specs.CompletingLaws.{SmallPlaces}
 use Rattle.edge_word.specs.Coding.{forwardsIn, backsIn}
-use Rattle.walk_reach.specs.Layers.{joinedRows}
+use Rattle.walk_reach.specs.Layers.{filled, joinedRows}
 use Rattle.walk_lead.specs.Leads.{leadRows, returnIn, wrapStart}
-use Rattle.walk_ways.specs.Ways.{filled, waysTo, openings, firstStart, widestTable}
-use Rattle.walk_need.specs.Needs.{needsOf, limitsOf}
+use Rattle.walk_ways.specs.Ways.{waysTo, openings, firstStart}
+use Rattle.walk_wide.specs.Wide.{widestTable}
+use Rattle.walk_need.specs.Needs.{needsOf}
+use Rattle.walk_limit.specs.Limits.{limitsOf}
 use Rattle.step_word.specs.declared.Taken.{Taken}
 use Rattle.step_word.specs.StepWord.{flowOf, stepOf}
 use Rattle.walk_step.specs.LeastStep.{looseAt, leastStep}

@@ -10,10 +10,12 @@ use Rattle.spec_graph.specs.Walk.{Step}
 use Rattle.spec_report.specs.Area.{flowWord}
 use Rattle.pick_laws.specs.declared.Going.{Going}
 use Rattle.pick_laws.specs.Demands.{goingAfter}
-use Rattle.walk_need.specs.Needs.{needsOf, limitsOf}
+use Rattle.walk_need.specs.Needs.{needsOf}
+use Rattle.walk_limit.specs.Limits.{limitsOf}
 use Rattle.walk_reach.specs.Layers.{joinedRows}
 use Rattle.walk_lead.specs.Leads.{leadRows, shortestReturn, returnIn, wrapStart}
-use Rattle.walk_ways.specs.Ways.{waysTo, openings, firstStart, widestTable}
+use Rattle.walk_ways.specs.Ways.{waysTo, openings, firstStart}
+use Rattle.walk_wide.specs.Wide.{widestTable}
 use Rattle.step_word.specs.declared.Taken.{Taken}
 use Rattle.step_word.specs.StepWord.{flowOf, stepOf}
 use Rattle.walk_step.specs.LeastStep.{leastStep}

@@ -1,9 +1,9 @@
 -- Phase by phase: the limit is that of the first step, of the step before, or none.
-use Rattle.walk_need.specs.NeedTurns.{limit-starting, limit-there, limit-elsewhere, limit-closing, limit-ending}
+use Rattle.walk_limit.specs.LimitTurns.{limit-starting, limit-there, limit-elsewhere, limit-closing, limit-ending}
 use Prim.Native.Nat.{_-_}
 use borrow.Author.Needs.{needs}
-use Rattle.walk_need.proofs.limit_at.Statement.{statement}
-use Rattle.walk_need.proofs.limit_at.Tie as tie
+use Rattle.walk_limit.proofs.limit_at.Statement.{statement}
+use Rattle.walk_limit.proofs.limit_at.Tie as tie
 
 enum-told : tie.Need-enum-told
 enum-told c = search needs

@@ -1,8 +1,8 @@
 -- A word of the first row is how far the edge itself opens (widest-first), a later one the greatest in the row before it (widest-later).
-use Rattle.walk_ways.specs.TurnLaws.{widest-first, widest-later}
+use Rattle.walk_wide.specs.WideLaws.{widest-first, widest-later}
 use borrow.Author.Needs.{needs}
-use Rattle.walk_ways.proofs.widest_from.Statement.{statement}
-use Rattle.walk_ways.proofs.widest_from.Tie as tie
+use Rattle.walk_wide.proofs.widest_from.Statement.{statement}
+use Rattle.walk_wide.proofs.widest_from.Tie as tie
 
 width-into-requires : tie.Need-width-into-requires
 width-into-requires c κs = search needs

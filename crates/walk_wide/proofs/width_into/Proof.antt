@@ -1,8 +1,8 @@
 -- The word of the edge to a node is asked how far it opens (width-in); to another number there is no edge (width-out).
-use Rattle.walk_ways.specs.TurnLaws.{width-in, width-out}
+use Rattle.walk_wide.specs.WideLaws.{width-in, width-out}
 use borrow.Author.Needs.{needs}
-use Rattle.walk_ways.proofs.width_into.Statement.{statement}
-use Rattle.walk_ways.proofs.width_into.Tie as tie
+use Rattle.walk_wide.proofs.width_into.Statement.{statement}
+use Rattle.walk_wide.proofs.width_into.Tie as tie
 
 mul-word-at : tie.Need-mul-word-at
 mul-word-at c = search needs

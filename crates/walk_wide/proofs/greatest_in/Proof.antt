@@ -1,14 +1,14 @@
 -- After y turns it is the greatest of the first y words that stand at one of the nodes (greatest-turn); after 64 of all.
 use Rattle.pick_laws.specs.Completing.{greatestBelow}
 use Rattle.walk_reach.specs.NodeWordLaws.{last-turn}
-use Rattle.walk_ways.specs.Ways.{wordFor, greatestIn}
-use Rattle.walk_ways.specs.TurnLaws.{greatest-turn, word-for}
+use Rattle.walk_wide.specs.Wide.{wordFor, greatestIn}
+use Rattle.walk_wide.specs.WideLaws.{greatest-turn, word-for}
 use borrow.Author.Needs.{needs}
 use native.Mathlib.Omega.{arith}
 use mathlib.Core.Path.{_≡_, refl}
 use Prim.Native.Nat.{_-_, _≤_}
-use Rattle.walk_ways.proofs.greatest_in.Statement.{statement}
-use Rattle.walk_ways.proofs.greatest_in.Tie as tie
+use Rattle.walk_wide.proofs.greatest_in.Statement.{statement}
+use Rattle.walk_wide.proofs.greatest_in.Tie as tie
 
 abbrev Inv-loop : tie.InvT-loop
 Inv-loop table from nodes best₀ y₀ best y =

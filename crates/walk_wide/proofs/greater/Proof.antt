@@ -1,7 +1,7 @@
 -- Each path knows whether the test passed, and then which of the two is greater.
 use native.Mathlib.Omega.{arith}
-use Rattle.walk_ways.proofs.greater.Statement.{statement}
-use Rattle.walk_ways.proofs.greater.Tie as tie
+use Rattle.walk_wide.proofs.greater.Statement.{statement}
+use Rattle.walk_wide.proofs.greater.Tie as tie
 
 -- the other number
 returns : tie.Need-returns

@@ -1,9 +1,9 @@
 -- A node of the word has the limit of its phase (among-limit); another has none (outside-limit).
-use Rattle.walk_need.specs.NeedTurns.{among-limit, outside-limit}
+use Rattle.walk_limit.specs.LimitTurns.{among-limit, outside-limit}
 use Prim.Native.Nat.{_-_}
 use borrow.Author.Needs.{needs}
-use Rattle.walk_need.proofs.limit_among.Statement.{statement}
-use Rattle.walk_need.proofs.limit_among.Tie as tie
+use Rattle.walk_limit.proofs.limit_among.Statement.{statement}
+use Rattle.walk_limit.proofs.limit_among.Tie as tie
 
 has-bit-requires : tie.Need-has-bit-requires
 has-bit-requires c κs = search needs

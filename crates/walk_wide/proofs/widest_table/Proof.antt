@@ -1,13 +1,14 @@
 -- After i turns the first i words stand (filled-turn): each is told by those before it (widest-turn).
-use Rattle.walk_ways.specs.Ways.{filled, widestAt, widestTable}
-use Rattle.walk_ways.specs.FilledLaws.{filled-turn}
-use Rattle.walk_ways.specs.TurnLaws.{widest-turn}
+use Rattle.walk_reach.specs.Layers.{filled}
+use Rattle.walk_wide.specs.Wide.{widestAt, widestTable}
+use Rattle.walk_reach.specs.FilledLaws.{filled-turn}
+use Rattle.walk_wide.specs.WideLaws.{widest-turn}
 use borrow.Author.Needs.{needs}
 use native.Mathlib.Omega.{arith}
 use mathlib.Core.Path.{_≡_, refl, ap, _∙_}
 use Prim.Native.Nat.{_-_, _≤_}
-use Rattle.walk_ways.proofs.widest_table.Statement.{statement}
-use Rattle.walk_ways.proofs.widest_table.Tie as tie
+use Rattle.walk_wide.proofs.widest_table.Statement.{statement}
+use Rattle.walk_wide.proofs.widest_table.Tie as tie
 
 abbrev Inv-loop : tie.InvT-loop
 Inv-loop forwards rows s rounds last table₀ i₀ table i =

@@ -8,7 +8,7 @@ use native.Mathlib.Numerals.{add-one}
 use native.Mathlib.Omega.{arith}
 use lib.ListN.{length, getD, set, length-set, length-replicate}
 use lib.Seq.{getD-set-same, getD-set-other}
-use Rattle.walk_ways.specs.Ways.{filled}
+use Rattle.walk_reach.specs.Layers.{filled}
 
 module _ (size : ℕ) (f : ℕ → ℕ) where
   -- a turn of a loop that fills the next word

@@ -13,9 +13,10 @@ use Rattle.pick_laws.specs.Pick.{Picks}
 use Rattle.pick_laws.specs.Completing.{leastBelow, leavesAt, exactly, leavesFirst, opensInto, needed, widest}
 use Rattle.pick_laws.specs.Demands.{onlyIf, endingNeeds, needsIn, startingLimit, limitsIn}
 use Rattle.edge_word.specs.Coding.{backsIn}
+use Rattle.walk_reach.specs.Layers.{wideAt}
 use Rattle.walk_reach.specs.NodeWordLaws.{list-at}
-use Rattle.walk_need.specs.Needs.{leavesFor, firstLeaving, openingNeed, wideAt, endingNeed, needAt, needAmong, needsOf}
-use Rattle.walk_need.specs.Needs.{startingLimitAt, limitAt, limitAmong, limitsOf}
+use Rattle.walk_need.specs.Needs.{leavesFor, firstLeaving, openingNeed, endingNeed, needAt, needAmong, needsOf}
+use Rattle.walk_limit.specs.Limits.{startingLimitAt, limitAt, limitAmong, limitsOf}
 
 -- what the words tell, for up to r steps left
 pub record Worked (forwards : Picks) (backs : List ℕ) (n s : ℕ) (ways opened wide : List ℕ) (most : ℕ) : Type 0 where

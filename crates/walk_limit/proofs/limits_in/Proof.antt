@@ -1,13 +1,13 @@
 -- After y turns the first y limits stand (list-turn); after 64 all do.
-use Rattle.walk_need.specs.Needs.{limitAmong, limitsOf}
+use Rattle.walk_limit.specs.Limits.{limitAmong, limitsOf}
 use Rattle.walk_reach.specs.Layers.{listBelow}
 use Rattle.walk_reach.specs.NodeWordLaws.{list-turn, last-turn}
 use borrow.Author.Needs.{needs}
 use native.Mathlib.Omega.{arith}
 use mathlib.Core.Path.{_≡_, refl}
 use Prim.Native.Nat.{_-_, _≤_}
-use Rattle.walk_need.proofs.limits_in.Statement.{statement}
-use Rattle.walk_need.proofs.limits_in.Tie as tie
+use Rattle.walk_limit.proofs.limits_in.Statement.{statement}
+use Rattle.walk_limit.proofs.limits_in.Tie as tie
 
 abbrev Inv-loop : tie.InvT-loop
 Inv-loop ways wide nodes r going limits₀ y₀ limits y = (y ≤ 64) × (limits ≡ listBelow (limitAmong ways wide nodes r going) y)
