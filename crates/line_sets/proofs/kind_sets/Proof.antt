@@ -1,11 +1,11 @@
 -- The facts of the kind tell which of the three tests count, and those that do are the ones of `kindSets` (told).
 use Rattle.line_kinds.specs.KindLaws.{told}
 use borrow.Author.Needs.{needs}
-use Rattle.line_kinds.proofs.kind_sets.Statement.{statement}
-use Rattle.line_kinds.proofs.kind_sets.Tie as tie
-use Rattle.line_kinds.proofs.kind_sets.Reads as reads
-use Rattle.line_kinds.proofs.kind_sets.Lts as lts
+use Rattle.line_sets.proofs.kind_sets.Statement.{statement}
+use Rattle.line_sets.proofs.kind_sets.Tie as tie
+use Rattle.line_sets.proofs.kind_sets.Reads as reads
+use Rattle.line_sets.proofs.kind_sets.Lts as lts
 use Rattle.line_kinds.proofs.facts_of.Reads as facts-of-reads
 
 facts-of-requires : tie.Need-facts-of-requires
 facts-of-requires c κs = search needs
