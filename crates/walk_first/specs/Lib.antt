@@ -1,4 +1,5 @@
 pub mod FirstSteps
+pub mod ReturnLaws
 pub mod NeedLaws
 pub mod GreedyLaws
 pub mod FirstLaws

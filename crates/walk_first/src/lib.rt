@@ -1,7 +1,7 @@
 // The first dangerous closed walk among at most 64 nodes (Req 01): the fewest steps, then the least list of steps. `table` has the places of the
 // nodes, `forwards` and `backs` the words of the edge that stands for all of its flow between two nodes (edge_word), `nodes` the nodes that count.
 //
-// How many steps it has is told by the shortest way back from where a dangerous pair leads (walk_lead), where it starts by which nodes are on such a
+// How many steps it has is told by the shortest way back from where a dangerous pair leads (walk_return), where it starts by which nodes are on such a
 // walk (walk_ways, walk_lead). Then the least step that can be completed is taken again and again (walk_ways, walk_wide, walk_need,
 // walk_limit, walk_step).
 
@@ -13,11 +13,11 @@ use pick_laws::STEP_WORDS;
 use pick_laws::WalkFound;
 use step_word::step_of;
 use walk_lead::lead_rows;
-use walk_lead::shortest_return;
 use walk_lead::wrap_start;
 use walk_limit::limits_in;
 use walk_need::needs_in;
 use walk_reach::joined_rows;
+use walk_return::shortest_return;
 use walk_step::least_step;
 use walk_step::loose_at;
 use walk_ways::first_start;

@@ -1,14 +1,14 @@
 -- After u turns `least` is the fewest steps for the nodes below u (return-turn); after 64 for all.
 use Rattle.pick_laws.specs.Completing.{leastBelow}
 use Rattle.walk_reach.specs.NodeWordLaws.{last-turn}
-use Rattle.walk_lead.specs.LeadLaws.{return-turn}
-use Rattle.walk_lead.specs.Leads.{returnFrom, shortestReturn}
+use Rattle.walk_return.specs.MeetingLaws.{return-turn}
+use Rattle.walk_return.specs.Returns.{returnFrom, shortestReturn}
 use native.Mathlib.Omega.{arith}
 use mathlib.Core.Path.{_≡_, refl}
 use Prim.Native.Nat.{_-_, _≤_}
 use borrow.Author.Needs.{needs}
-use Rattle.walk_lead.proofs.shortest_return.Statement.{statement}
-use Rattle.walk_lead.proofs.shortest_return.Tie as tie
+use Rattle.walk_return.proofs.shortest_return.Statement.{statement}
+use Rattle.walk_return.proofs.shortest_return.Tie as tie
 
 abbrev Inv-loop : tie.InvT-loop
 Inv-loop rows leads least₀ u₀ least u = (u ≤ 64) × (least ≡ leastBelow (returnFrom rows leads) 64 u)

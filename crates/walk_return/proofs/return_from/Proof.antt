@@ -1,14 +1,14 @@
 -- No layer has one of no nodes (meeting-none). Else the first layer from d on that has one is the first of all: one that has none keeps this
 -- (meeting-turn), one that has one ends it (meeting-stop).
-use Rattle.walk_lead.specs.LeadLaws.{meeting-none, meeting-stop, meeting-turn, meeting-end, meeting-layers}
+use Rattle.walk_return.specs.MeetingLaws.{meeting-none, meeting-stop, meeting-turn, meeting-end, meeting-layers}
 use Rattle.walk_reach.specs.Search.{firstFrom}
-use Rattle.walk_lead.specs.Leads.{meetsIn}
+use Rattle.walk_return.specs.Returns.{meetsIn}
 use native.Mathlib.Omega.{arith}
 use mathlib.Core.Path.{_≡_, refl}
 use Prim.Native.Nat.{_-_, _≤_}
 use borrow.Author.Needs.{needs}
-use Rattle.walk_lead.proofs.return_from.Statement.{statement}
-use Rattle.walk_lead.proofs.return_from.Tie as tie
+use Rattle.walk_return.proofs.return_from.Statement.{statement}
+use Rattle.walk_return.proofs.return_from.Tie as tie
 
 abbrev Inv-loop : tie.InvT-loop
 Inv-loop rows nodes u layers d₀ d = (d ≤ 64) × (firstFrom (meetsIn layers nodes) (64 - d) d ≡ firstFrom (meetsIn layers nodes) 64 0)

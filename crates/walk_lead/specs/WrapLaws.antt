@@ -1,4 +1,4 @@
--- What the search for the shortest return tells of the edges: some pair has a way back of so many steps, and none has a shorter one.
+-- What the leads and the start found tell of the edges: to which nodes pairs lead, and by way of which node, the lowest, one with a way back does.
 use mathlib.Core.Path.{_≡_, sym, ap, _∙_}
 use mathlib.Core.Bool.{Bool, true, false}
 use mathlib.Core.Logic.{_⊎_, inl, inr}
@@ -14,15 +14,13 @@ use Rattle.law_base.specs.ListLaws.{any-numbers, any-numbers-of}
 use Rattle.law_base.specs.SetLaws.{has-nonzero, meets-has, has-meets}
 use Rattle.pick_laws.specs.Pick.{dangerousPicks, reaches}
 use Rattle.pick_laws.specs.Completing.{leads}
-use Rattle.pick_laws.specs.LeastLaws.{least-most, least-at, least-some}
 use Rattle.edge_word.specs.Coding.{entry, forwardsIn, backsIn}
 use Rattle.walk_reach.specs.Layers.{joinedRows, layer, layersTo}
 use Rattle.walk_reach.specs.NodeWordLaws.{word-in, word-inside, list-length, list-at}
 use Rattle.walk_reach.specs.LayerLaws.{layers-has}
-use Rattle.walk_lead.specs.Leads.{leadsAlong, leadsThrough, leadRow, leadRows, meetsIn, firstMeeting, returnFrom, shortestReturn, returnIn}
 use Rattle.walk_reach.specs.Search.{firstFrom}
-use Rattle.walk_lead.specs.Leads.{layerAt, layersAt, wrapsFrom, wrapsAmong, wrapStart}
 use Rattle.walk_reach.specs.SearchLaws.{first-passes, first-bound, first-least}
+use Rattle.walk_lead.specs.Leads.{leadsAlong, leadsThrough, leadRow, leadRows, layerAt, layersAt, wrapsFrom, wrapsAmong, wrapStart}
 
 -- a dangerous pair by way of v leads from some node to one from which it is reached in at most d steps, among n nodes
 abbrev pub Wraps : List ℕ → List ℕ → ℕ → ℕ → ℕ → Type 0
@@ -35,7 +33,7 @@ module _ (forwards backs : List ℕ) (n : ℕ) (full : n ≡ 64) where
   unfolding leadRows
   lead-at u h = list-at (leadRow forwards backs) 64 u (omega arith) (omega arith)
 
-  lead-inside : (u w : ℕ) → u < n → has (getD (leadRows forwards backs) u 0) w ≡ true → w < n
+  pub lead-inside : (u w : ℕ) → u < n → has (getD (leadRows forwards backs) u 0) w ≡ true → w < n
   unfolding leadRow
   lead-inside u w a h =
       let l = word-inside (leads (forwardsIn forwards) (backsIn backs) 64 u) 64 w (ap (λ (x : ℕ). has x w) (sym (lead-at u a)) ∙ h) in omega arith
@@ -46,46 +44,6 @@ module _ (forwards backs : List ℕ) (n : ℕ) (full : n ≡ 64) where
   leads-has u w a b =
       ap (λ (x : ℕ). has x w) (lead-at u a) ∙ word-in (leads (forwardsIn forwards) (backsIn backs) 64 u) 64 w (omega arith)
       ∙ ap (λ (k : ℕ). leads (forwardsIn forwards) (backsIn backs) k u w) (sym full)
-
-  -- ---- the shortest return
-
-  -- a node to which a pair leads from u is in layer d
-  abbrev meetsAt : ℕ → ℕ → Bool
-  meetsAt u = meetsIn (layersTo (joinedRows forwards) u) (getD (leadRows forwards backs) u 0)
-
-  -- a pair has a way back of the fewest steps
-  pub return-found : returnIn forwards backs < 64
-      → (u : ℕ) × (w : ℕ) × (u < n) × (w < n) × (leads (forwardsIn forwards) (backsIn backs) n u w ≡ true)
-      × (reaches (forwardsIn forwards) n u (returnIn forwards backs) w ≡ true)
-  unfolding shortestReturn returnFrom firstMeeting meetsIn
-  return-found h =
-      let f = least-some (returnFrom (joinedRows forwards) (leadRows forwards backs)) 64 64 h in
-      let u = f .0 in
-      let inside : u < n = omega arith in
-      let p = first-passes (meetsAt u) 64 0 (omega arith) in
-      let t = meets-has _ _ (ap (meetsAt u) (sym (f .2)) ∙ p) in
-      let l = lead-inside u (t .0) inside (t .1) in (
-        u,
-        t .0,
-        inside,
-        l,
-        sym (leads-has u (t .0) inside l) ∙ t .1,
-        sym (layers-has forwards n full u (returnIn forwards backs) (t .0) h l) ∙ t .2,
-      )
-
-  -- and none has one of fewer
-  pub return-least : (u w r : ℕ) → u < n → w < n → r < 64 → leads (forwardsIn forwards) (backsIn backs) n u w ≡ true
-      → reaches (forwardsIn forwards) n u r w ≡ true → returnIn forwards backs ≤ r
-  unfolding shortestReturn returnFrom firstMeeting meetsIn
-  return-least u w r a b c h l =
-      let p = has-meets _ _ w (leads-has u w a b ∙ h) (layers-has forwards n full u r w c b ∙ l) in
-      let first = first-least (meetsAt u) 64 0 r zero-le (omega arith) p in
-      let least = least-at (returnFrom (joinedRows forwards) (leadRows forwards backs)) 64 64 u (omega arith) in omega arith
-
-  -- 64 where none has any
-  pub return-bound : returnIn forwards backs ≤ 64
-  unfolding shortestReturn
-  return-bound = least-most (returnFrom (joinedRows forwards) (leadRows forwards backs)) 64 64
 
   -- ---- the start
 
