@@ -3,8 +3,8 @@
 //
 // A dangerous pair is a forward edge from u to v and a back edge from v to w after it (W4); it leads from u to w.
 
+use edge_opens::dangerous;
 use edge_word::NODES;
-use edge_word::dangerous;
 use walk_reach::layers_to;
 use word_list::word_at;
 ghost use mathlib.Core.Path.{_≡_};

@@ -1,9 +1,9 @@
 // How far the last of so many forward steps to a node can open, among 64 nodes. `rows` has for each node the nodes to which a forward edge goes from
 // it (walk_reach), as a word.
 
+use edge_opens::opens_below;
 use edge_word::NODES;
 use edge_word::PAIRS;
-use edge_word::opens_below;
 use word_list::has_bit;
 use word_list::word_at;
 ghost use mathlib.Core.Bool.{cond};

@@ -1,8 +1,8 @@
 -- A word 0 is no edge, and no pair is dangerous without both; else the two tests are those of the picks that the words stand for.
 use borrow.Author.Needs.{needs}
-use Rattle.edge_word.proofs.dangerous.Statement.{statement}
-use Rattle.edge_word.proofs.dangerous.Tie as tie
+use Rattle.edge_opens.proofs.dangerous.Statement.{statement}
+use Rattle.edge_opens.proofs.dangerous.Tie as tie
 use Rattle.edge_word.specs.Coding.{forwardPick, backPick}
 use borrow.Author.Tests.{eq-eqb, ne-eqb, lt-ltb, le-ltb}
 
 returns : tie.Need-returns

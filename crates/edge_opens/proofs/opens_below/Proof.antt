@@ -1,8 +1,8 @@
 -- No edge opens nothing (opens-none); one from a loose place opens all places (opens-loose), another those below where it enters (opens-place).
 use borrow.Author.Needs.{needs}
-use Rattle.edge_word.specs.OpensLaws.{opens-none, opens-loose, opens-place}
-use Rattle.edge_word.proofs.opens_below.Statement.{statement}
-use Rattle.edge_word.proofs.opens_below.Tie as tie
+use Rattle.edge_opens.specs.OpensLaws.{opens-none, opens-loose, opens-place}
+use Rattle.edge_opens.proofs.opens_below.Statement.{statement}
+use Rattle.edge_opens.proofs.opens_below.Tie as tie
 
 returns : tie.Need-returns
 returns c = opens-none _ (c .if1 .taken)
