@@ -1,3 +1,2 @@
 pub mod Coding
 pub mod Greatest
-pub mod OpensLaws

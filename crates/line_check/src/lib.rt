@@ -1,6 +1,6 @@
 // The tests of a line over the state that words keep. They are joined by `&` and `|`, which branch nowhere.
-use line_kinds::sets_fit;
 use line_links::link_fits;
+use line_sets::sets_fit;
 use spec_text::Line;
 use spec_text::LineKind;
 use spec_text::StatementKind;

@@ -1,13 +1,9 @@
 // What document 01 says of the kinds, as one table: which fields a line has, what the sets of a statement must be, which statement may be a
 // link's parent. Code that reads lines asks a kind nothing else, so that a new kind of statement is a line here.
-use spec_text::Line;
 use spec_text::LineKind;
 use spec_text::StatementKind;
 ghost use mathlib.Core.Path.{_≡_};
-ghost use mathlib.Core.Bool.{_&&_};
 ghost use Prim.Native.Nat.{_<_};
-ghost use Rattle.spec_base.specs.Basic.{within};
-ghost use Rattle.spec_text.specs.Reading.{kindSets};
 ghost use Rattle.line_kinds.specs.Kinds.{factsOf, lineFacts};
 
 // The facts of a kind, a bit each. It has reads, writes, tests;
@@ -68,27 +64,4 @@ pub fn line_facts(k: LineKind) -> u64
         LineKind::En => CLOSES,
         LineKind::Li => ID + REL + TO,
     }
-}
-
-// What the kind of a statement says of its sets, over a relation with this set.
-fn kind_sets(whole: u64, kind: StatementKind, l: Line) -> bool
-    ensures { λ r. ⌜ r ≡ kindSets whole kind l ⌝ }
-{
-    let facts = facts_of(kind);
-    let reads = (facts & SOME_READS == 0) | (l.reads != 0);
-    let writes = (facts & SOME_WRITES == 0) | (l.writes != 0);
-    let all = (facts & WHOLE == 0) | (l.writes == whole);
-    reads & writes & all
-}
-
-// The sets of a statement fit a relation with this set.
-pub fn sets_fit(whole: u64, kind: StatementKind, l: Line) -> bool
-    ensures { λ r. ⌜
-        r ≡ ((within (l .reads) whole && within (l .writes) whole && within (l .tests) whole) && kindSets whole kind l)
-        ⌝ }
-{
-    let reads = l.reads & whole == l.reads;
-    let writes = l.writes & whole == l.writes;
-    let tests = l.tests & whole == l.tests;
-    (reads & writes & tests) & kind_sets(whole, kind, l)
 }

@@ -1,74 +1,20 @@
--- The steps of the functions: a line's part in the programs and in the keys.
+-- The steps of the functions: a line's part in the keys.
 use mathlib.Core.Bool.{Bool, true, false, cond, not}
 use mathlib.Core.List.{List}
 use mathlib.Core.Path.{_≡_, refl, sym, ap, _∙_}
-use Prim.Native.Nat.{ℕ, zero, suc, _+_, _*_, _-_, _/_, _%_, _^_, _≤_, _<_}
+use Prim.Native.Nat.{ℕ, suc, _+_, _*_, _-_, _/_, _%_, _^_, _≤_, _<_}
 use native.Mathlib.Nat.{one-mul}
-use native.Mathlib.Numerals.{add-one}
 use native.Mathlib.Omega.{arith}
 use lib.Bits.{bitOr}
 use lib.Dec.{eqb}
-use lib.ListN.{length, getD, length-set}
+use lib.ListN.{length, getD}
 use lib.Pow.{shl-exact}
-use lib.Seq.{set-out}
 use borrow.Author.Tests.{eq-eqb, ne-eqb, lt-ltb, le-ltb}
 use Rattle.spec_base.specs.Basic.{has}
 use Rattle.law_base.specs.BoolLaws.{not-true, not-false}
 use Rattle.value_tables.specs.Lines.{prNumber, liNumber}
 use Rattle.place_laws.specs.Keys.{withLink, withLink-small}
-use Rattle.place_keys.specs.declared.Begun.{Begun}
-use Rattle.place_keys.specs.declared.Links.{Links}
-use Rattle.place_keys.specs.LineKeys.{begunWith, begunLine, begunBefore, begunIn, linkAt, keyAt, keysFrom, linksFrom, placeKeys}
-
--- ---- the programs
-
-module _ (lines : List ℕ) (i : ℕ) (b : Begun) (n : ℕ) (e : n ≡ getD lines (i * 8) 0) where
-  pub begun-none : (n ≡ prNumber → ⊥) → b ≡ begunLine lines i b
-  unfolding begunLine
-  begun-none d = sym (rw (ne-eqb (getD lines (i * 8) 0) prNumber (λ h. d (e ∙ h))))
-
-  pub begun-one : n ≡ prNumber → begunWith b (i + 1) ≡ begunLine lines i b
-  unfolding begunLine
-  begun-one d = sym (rw (eq-eqb (getD lines (i * 8) 0) prNumber (sym e ∙ d)))
-
--- past the 16 cells setting one changes nothing
-pub begun-past : (b : Begun) (first : ℕ) → length (b .firsts) ≡ 16 → 15 < b .programs
-    → record { programs = b .programs + 1; firsts = b .firsts } ≡ begunWith b first
-unfolding begunWith
-begun-past b first e h = sym (rw (set-out (b .firsts) (b .programs) first (omega arith)))
-
--- at most one program for each line, and 16 cells
-pub record Sized (i : ℕ) (b : Begun) : Type 0 where
-  pub few : b .programs ≤ i
-  pub cells : length (b .firsts) ≡ 16
-
-sized-line : (lines : List ℕ) (i : ℕ) (b : Begun) → Sized i b → Sized (suc i) (begunLine lines i b)
-unfolding begunLine begunWith
-sized-line lines i b s = go (eqb (getD lines (i * 8) 0) prNumber)
-  where
-    go : (t : Bool) → Sized (suc i) (cond t (begunWith b (i + 1)) b)
-    go true =
-        let few : b .programs ≤ i = s .few in
-        record { few = omega arith; cells = length-set (b .firsts) (b .programs) (i + 1) ∙ s .cells }
-    go false = let few : b .programs ≤ i = s .few in record { few = omega arith; cells = s .cells }
-
-pub begun-sized : (lines : List ℕ) (i : ℕ) → Sized i (begunBefore lines i)
-unfolding begunBefore
-begun-sized lines zero = record { few = omega arith; cells = refl }
-begun-sized lines (suc i) = sized-line lines i (begunBefore lines i) (begun-sized lines i)
-
-pub begun-fits : (lines : List ℕ) (i : ℕ) (b : Begun) → b ≡ begunBefore lines i → (b .programs ≤ i) × (length (b .firsts) ≡ 16)
-begun-fits lines i b e = rw e (begun-sized lines i .few, begun-sized lines i .cells)
-
-pub begun-next : (lines : List ℕ) (i : ℕ) (b r : Begun) → b ≡ begunBefore lines i → r ≡ begunLine lines i b → r ≡ begunBefore lines (i + 1)
-unfolding begunBefore
-begun-next lines i b r e h = h ∙ rw (e, add-one)
-
-pub begun-all : (lines : List ℕ) (i : ℕ) (b : Begun) → i ≤ length lines / 8 → length lines / 8 ≤ i → b ≡ begunBefore lines i → b ≡ begunIn lines
-unfolding begunIn
-begun-all lines i b p q e = let d : length lines / 8 ≡ i = omega arith in rw d e
-
--- ---- the keys
+use Rattle.place_keys.specs.LineKeys.{linkAt, keyAt, keysFrom, placeKeys}
 
 -- a power of two that fits is not cut
 pub shifted-bit : (set k : ℕ) → k < 64 → bitOr set ((1 * 2 ^ k) % 18446744073709551616) ≡ bitOr set (2 ^ k)
@@ -141,32 +87,3 @@ pub keys-packed : (lines : List ℕ) (first child seen marks near far : ℕ) →
     → far ≡ keysFrom (length lines / 8 - first) lines first child marks 0 → near + far * 4294967296 ≡ placeKeys lines first child seen marks
 unfolding placeKeys
 keys-packed lines first child seen marks near far a b = rw (a, b) refl
-
--- ---- the links
-
-module _ (lines : List ℕ) where
-  pub links-next : (n i marks : ℕ) → i < n → (m : ℕ) → m ≡ getD lines (i * 8) 0 → (m ≡ prNumber → ⊥) → (m ≡ liNumber → ⊥) → (w : ℕ)
-      → w ≡ getD lines (i * 8 + 7) 0 → linksFrom (n - (i + 1)) lines (i + 1) (bitOr marks w) ≡ linksFrom (n - i) lines i marks
-  unfolding linksFrom
-  links-next n i marks h m e a b w k =
-      let s : n - i ≡ suc (n - (i + 1)) = omega arith in
-      rw (s, k, ne-eqb (getD lines (i * 8) 0) prNumber (λ x. a (e ∙ x)), ne-eqb (getD lines (i * 8) 0) liNumber (λ x. b (e ∙ x))) refl
-
-  pub links-program : (n i marks : ℕ) → i < n → (m : ℕ) → m ≡ getD lines (i * 8) 0 → m ≡ prNumber
-      → record { first = i; marks = marks } ≡ linksFrom (n - i) lines i marks
-  unfolding linksFrom
-  links-program n i marks h m e d =
-      let s : n - i ≡ suc (n - (i + 1)) = omega arith in
-      rw (s, eq-eqb (getD lines (i * 8) 0) prNumber (sym e ∙ d)) refl
-
-  pub links-link : (n i marks : ℕ) → i < n → (m : ℕ) → m ≡ getD lines (i * 8) 0 → m ≡ liNumber
-      → record { first = i; marks = marks } ≡ linksFrom (n - i) lines i marks
-  unfolding linksFrom
-  links-link n i marks h m e d =
-      let s : n - i ≡ suc (n - (i + 1)) = omega arith in
-      let other : getD lines (i * 8) 0 ≡ prNumber → ⊥ = λ x. omega arith in
-      rw (s, ne-eqb (getD lines (i * 8) 0) prNumber other, eq-eqb (getD lines (i * 8) 0) liNumber (sym e ∙ d)) refl
-
-  pub links-end : (n i marks : ℕ) → n ≤ i → record { first = i; marks = marks } ≡ linksFrom (n - i) lines i marks
-  unfolding linksFrom
-  links-end n i marks h = let s : n - i ≡ 0 = omega arith in rw s refl

@@ -1,47 +1,13 @@
--- What the table of lines says, word by word: the programs of its lines, and the keys that their links give a place.
+-- The keys that shield a place, word by word of the table of lines.
 use mathlib.Core.Bool.{cond}
 use mathlib.Core.List.{List}
 use Prim.Native.Nat.{ℕ, zero, suc, _+_, _*_, _-_, _/_}
-use lib.Bits.{bitOr}
 use lib.Dec.{eqb}
-use lib.ListN.{length, getD, set, replicate}
+use lib.ListN.{length, getD}
 use Rattle.spec_graph.specs.Program.{Link}
 use Rattle.value_tables.specs.Lines.{prNumber, liNumber}
 use Rattle.place_laws.specs.Keys.{withLink}
 use Rattle.place_row.specs.KeyWord.{packedKeys}
-use Rattle.place_keys.specs.declared.Begun.{Begun}
-use Rattle.place_keys.specs.declared.Links.{Links}
-
--- ---- the programs: how many, and the line after each one's `pr`
-
-unfoldable pub begunWith : Begun → ℕ → Begun
-begunWith b first = record { programs = b .programs + 1; firsts = set (b .firsts) (b .programs) first }
-
-unfoldable pub begunLine : List ℕ → ℕ → Begun → Begun
-begunLine lines i b = cond (eqb (getD lines (i * 8) 0) prNumber) (begunWith b (i + 1)) b
-
-unfoldable pub begunBefore : List ℕ → ℕ → Begun
-begunBefore lines zero = record { programs = 0; firsts = replicate 16 0 }
-begunBefore lines (suc i) = begunLine lines i (begunBefore lines i)
-
-unfoldable pub begunIn : List ℕ → Begun
-begunIn lines = begunBefore lines (length lines / 8)
-
--- ---- the links of a program
-
--- from line i on, at most n lines, up to the first `li` or `pr`: where that stands, and the marks of the lines before it beside these
-unfoldable pub linksFrom : ℕ → List ℕ → ℕ → ℕ → Links
-linksFrom zero lines i marks = record { first = i; marks = marks }
-linksFrom (suc n) lines i marks =
-    cond (eqb (getD lines (i * 8) 0) prNumber) (record { first = i; marks = marks })
-    (cond (eqb (getD lines (i * 8) 0) liNumber) (record { first = i; marks = marks })
-    (linksFrom n lines (i + 1) (bitOr marks (getD lines (i * 8 + 7) 0))))
-
--- those of the program whose lines begin at a line
-unfoldable pub linksIn : List ℕ → ℕ → Links
-linksIn lines first = linksFrom (length lines / 8 - first) lines first 0
-
--- ---- the keys that shield a place
 
 abbrev pub linkOf : ℕ → ℕ → ℕ → Link
 linkOf key child parent = record { key = key; child = child; parent = parent }

@@ -21,8 +21,8 @@ use Rattle.unfold.specs.UnfoldTold.{cells, nodesTold}
 use Rattle.unfold.specs.UnfoldSettled.{PlacesSettled}
 use Rattle.unfold.specs.Stand.{PlacesStand, places-stand}
 use Rattle.spec_report.specs.Refusals.{refusal-some, refusal-none, places-few, taken-given, other-area}
-use Rattle.place_keys.specs.declared.Begun.{Begun}
-use Rattle.place_keys.specs.LineKeys.{begunIn}
+use Rattle.place_programs.specs.declared.Begun.{Begun}
+use Rattle.place_programs.specs.LinePrograms.{begunIn}
 use Rattle.word_rows.specs.Put.{putAt}
 use Rattle.place_table.specs.declared.Rows.{Rows}
 use Rattle.place_table.specs.declared.Rows.the-variants.{Refused, Filled}

@@ -26,8 +26,8 @@ use Rattle.unfold_laws.specs.Codes.{markIn, bitIn}
 use Rattle.value_tables.specs.Lines.{prNumber, liNumber, lineNumber, lineWords, lineTable}
 use Rattle.value_tables.specs.LineLaws.{lineTable-length, cell-at, number-at, number-names, mark-told}
 use Rattle.place_laws.specs.Keys.{eqb-comm}
-use Rattle.place_keys.specs.declared.Links.{Links}
-use Rattle.place_keys.specs.LineKeys.{linksFrom, linksIn}
+use Rattle.place_links.specs.declared.Links.{Links}
+use Rattle.place_links.specs.LineLinks.{linksFrom, linksIn}
 
 -- ---- the marks of lines
 

@@ -21,8 +21,8 @@ use Rattle.place_laws.specs.Placed.{placesFrom-length}
 use Rattle.place_laws.specs.Ids.{on-line-id}
 use Rattle.place_laws.specs.Guarded.{IdsSmall}
 use Rattle.value_tables.specs.Lines.{lineTable}
-use Rattle.place_keys.specs.declared.Links.{Links}
-use Rattle.place_keys.specs.LineKeys.{linksIn}
+use Rattle.place_links.specs.declared.Links.{Links}
+use Rattle.place_links.specs.LineLinks.{linksIn}
 use Rattle.place_table.specs.RowWords.{rowWords, nodeRows, totalOf, allRows}
 use Rattle.place_table.proofs.PlaceRowLaws.{NodeBegins, row-of-place}
 

@@ -23,7 +23,7 @@ use Rattle.place_laws.specs.Keys.{withLink, keysOf, near-keys, far-keys}
 use Rattle.unfold_laws.specs.WordCode.{lineIn}
 use Rattle.value_tables.specs.Lines.{prNumber, liNumber, lineNumber, lineWords, lineTable}
 use Rattle.value_tables.specs.LineLaws.{lineTable-length, cell-at, number-at, number-names, sets-told}
-use Rattle.place_keys.specs.declared.Links.{Links}
+use Rattle.place_links.specs.declared.Links.{Links}
 use Rattle.place_keys.specs.LineKeys.{linkOf, linkAt, keyAt, keysFrom, placeKeys}
 use Rattle.place_table.specs.RowWords.{rowWords}
 

@@ -35,8 +35,9 @@ use Rattle.node_laws.specs.GivenNodes.{accepted-nodes}
 use Rattle.node_laws.specs.BoundParents.{own-bound, own-kinds}
 use Rattle.value_tables.specs.Lines.{prNumber, lineNumber, lineTable}
 use Rattle.value_tables.specs.LineLaws.{lineTable-length, number-at, number-names}
-use Rattle.place_keys.specs.declared.Begun.{Begun}
-use Rattle.place_keys.specs.LineKeys.{begunWith, begunLine, begunBefore, begunIn, linksIn}
+use Rattle.place_programs.specs.declared.Begun.{Begun}
+use Rattle.place_programs.specs.LinePrograms.{begunWith, begunLine, begunBefore, begunIn}
+use Rattle.place_links.specs.LineLinks.{linksIn}
 use Rattle.place_table.proofs.PlaceRowLaws.{NodeBegins, element-default}
 use Rattle.place_table.proofs.LinksLaws.{marks-has, links-begin}
 use Rattle.place_table.proofs.NodeLaws.{take-more}

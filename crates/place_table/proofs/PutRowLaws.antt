@@ -10,8 +10,9 @@ use lib.ListN.{length, getD, take, drop, length-append, take-append-drop}
 use lib.Seq.{drop-append-add, drop-drop, length-take-le}
 use Rattle.unfold_laws.specs.WordCode.{lineIn, seenIn}
 use Rattle.word_rows.specs.Put.{putAt, putAt-length, putAt-take}
-use Rattle.place_keys.specs.declared.Links.{Links}
-use Rattle.place_keys.specs.LineKeys.{linksIn, placeKeys}
+use Rattle.place_links.specs.declared.Links.{Links}
+use Rattle.place_links.specs.LineLinks.{linksIn}
+use Rattle.place_keys.specs.LineKeys.{placeKeys}
 use Rattle.place_table.specs.RowWords.{rowWords, nodeRows, totalOf, allRows}
 
 -- no words put

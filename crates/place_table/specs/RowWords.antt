@@ -5,8 +5,10 @@ use Prim.Native.Nat.{ℕ, zero, suc, _+_, _*_}
 use lib.ListN.{getD}
 use Rattle.unfold_laws.specs.WordCode.{lineIn, seenIn}
 use Rattle.word_rows.specs.Put.{putAt}
-use Rattle.place_keys.specs.declared.Links.{Links}
-use Rattle.place_keys.specs.LineKeys.{begunIn, linksIn, placeKeys}
+use Rattle.place_links.specs.declared.Links.{Links}
+use Rattle.place_programs.specs.LinePrograms.{begunIn}
+use Rattle.place_links.specs.LineLinks.{linksIn}
+use Rattle.place_keys.specs.LineKeys.{placeKeys}
 use Rattle.place_table.specs.declared.Rows.{Rows}
 use Rattle.place_table.specs.declared.Rows.the-variants.{Filled}
 

@@ -1,9 +1,9 @@
 // The table of the places of a workload: one row of eight words for each place of each node.
 
-use place_keys::Links;
 use place_keys::keys_from;
-use place_keys::links_from;
-use place_keys::programs_in;
+use place_links::Links;
+use place_links::links_from;
+use place_programs::programs_in;
 use place_row::ROW_WORDS;
 use place_row::ROWS;
 use place_row::TABLE_WORDS;

@@ -7,6 +7,5 @@ pub mod SerialCases
 pub mod SerialTest
 pub mod Interleaved
 pub mod AllKinds
-pub mod Unbounded
 pub mod Unserialisable
 pub mod Phantom

@@ -14,8 +14,7 @@ use Rattle.spec_graph.specs.Walk.{Step, DangerousWalk, FirstWalk}
 use Rattle.law_walk.specs.Parts.{only, only-regular}
 use Rattle.spec_report.specs.State.{shortForWalk}
 use Rattle.spec_report.specs.Area.{flowWord, stepWords, shownIn}
-use Rattle.walk_lead.specs.Leads.{returnIn}
-use Rattle.walk_first.specs.FirstSteps.{walkOf, firstSteps, chosenWords, chosenEdges, firstAmong}
+use Rattle.walk_first.specs.FirstSteps.{returnIn, walkOf, firstSteps, chosenWords, chosenEdges, firstAmong}
 use Rattle.walk_first.specs.FirstSteps.{putWords, putStep, putSteps, Searched, Held, WalkAnswered}
 use Rattle.walk_first.specs.FirstSteps.Searched.{nothing, walked}
 use Rattle.walk_first.specs.FirstSteps.WalkAnswered.{no-room, no-walk, shown}

@@ -18,7 +18,7 @@ use Rattle.law_walk.specs.Parts.{only, only-edge}
 use Rattle.pick_laws.specs.declared.Pick.{Pick}
 use Rattle.pick_laws.specs.PickLaws.{Picked}
 use Rattle.edge_word.specs.Coding.{forwardPick, backPick, entry, forwardsIn, backsIn}
-use Rattle.walk_ways.specs.FilledLaws.{filled-at}
+use Rattle.walk_reach.specs.FilledLaws.{filled-at}
 use Rattle.walk_first.specs.FirstSteps.{chosenWord, chosenWords, chosenEdges}
 
 -- the word for two nodes

@@ -32,15 +32,16 @@ use Rattle.pick_laws.specs.DemandLaws.{can-complete}
 use Rattle.pick_laws.specs.ChoiceLaws.{Counted, back-counted, start-counted}
 use Rattle.pick_laws.specs.LeadLaws.{dangerous-below, exactly-widest, accepted-leads}
 use Rattle.edge_word.specs.Coding.{entry, forwardsIn, backsIn}
-use Rattle.walk_reach.specs.Layers.{joinedRows}
-use Rattle.walk_lead.specs.Leads.{leadRows, returnIn, wrapStart}
-use Rattle.walk_lead.specs.ReturnLaws.{leads-has, return-found, return-least, wrap-found, wrap-least, wrap-bound}
+use Rattle.walk_reach.specs.Layers.{joinedRows, wideAt}
+use Rattle.walk_lead.specs.Leads.{leadRows, wrapStart}
+use Rattle.walk_lead.specs.WrapLaws.{leads-has, wrap-found, wrap-least, wrap-bound}
 use Rattle.walk_ways.specs.Ways.{firstStart}
-use Rattle.walk_ways.specs.WaysLaws.{word-opens, word-leaves, ways-has, openings-has, widest-at, start-found, start-least}
-use Rattle.walk_need.specs.Needs.{wideAt}
-use Rattle.walk_need.specs.NeedLaws.{Worked}
+use Rattle.walk_ways.specs.WaysLaws.{word-opens, word-leaves, ways-has, openings-has, start-found, start-least}
+use Rattle.walk_wide.specs.WideLaws.{widest-at}
+use Rattle.walk_first.specs.NeedLaws.{Worked}
 use Rattle.walk_step.specs.Tabled.{Tabled}
-use Rattle.walk_first.specs.FirstSteps.{stepsFrom, startOf, preparedFor, walkOf}
+use Rattle.walk_first.specs.FirstSteps.{returnIn, stepsFrom, startOf, preparedFor, walkOf}
+use Rattle.walk_first.specs.ReturnLaws.{return-found, return-least}
 use Rattle.walk_first.specs.GreedyLaws.{start-greedy}
 
 -- a walk without a step is not dangerous

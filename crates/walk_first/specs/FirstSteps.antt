@@ -19,16 +19,23 @@ use Rattle.pick_laws.specs.Demands.{goingAfter}
 use Rattle.pick_laws.specs.PickLaws.{Picked}
 use Rattle.pick_laws.specs.CompletingLaws.{SmallPlaces}
 use Rattle.edge_word.specs.Coding.{forwardsIn, backsIn}
-use Rattle.walk_reach.specs.Layers.{joinedRows}
-use Rattle.walk_lead.specs.Leads.{leadRows, returnIn, wrapStart}
-use Rattle.walk_ways.specs.Ways.{filled, waysTo, openings, firstStart, widestTable}
-use Rattle.walk_need.specs.Needs.{needsOf, limitsOf}
+use Rattle.walk_reach.specs.Layers.{filled, joinedRows}
+use Rattle.walk_lead.specs.Leads.{leadRows, wrapStart}
+use Rattle.walk_return.specs.Returns.{shortestReturn}
+use Rattle.walk_ways.specs.Ways.{waysTo, openings, firstStart}
+use Rattle.walk_wide.specs.Wide.{widestTable}
+use Rattle.walk_need.specs.Needs.{needsOf}
+use Rattle.walk_limit.specs.Limits.{limitsOf}
 use Rattle.step_word.specs.declared.Taken.{Taken}
 use Rattle.step_word.specs.StepWord.{flowOf, stepOf}
 use Rattle.walk_step.specs.LeastStep.{looseAt, leastStep}
 use Rattle.walk_step.specs.Tabled.{Tabled}
 
 -- ---- the steps
+
+-- the fewest steps of a way back to a node from where a dangerous pair leads from it, or 64
+abbrev pub returnIn : List ℕ → List ℕ → ℕ
+returnIn forwards backs = shortestReturn (joinedRows forwards) (leadRows forwards backs)
 
 -- how far a step out of x opens, by the place left and the place entered
 unfoldable pub opensAt : List ℕ → ℕ → ℕ → ℕ → ℕ

@@ -27,8 +27,9 @@ use Rattle.pick_laws.specs.Demands.{needsIn, limitsIn, counts, goingIn, goingAf
 use Rattle.pick_laws.specs.DemandLaws.{choice-counts}
 use Rattle.pick_laws.specs.ChoiceLaws.{Chosen, counts-choice, Counted, finish-counted}
 use Rattle.edge_word.specs.Coding.{backsIn}
-use Rattle.walk_need.specs.Needs.{needsOf, limitsOf}
-use Rattle.walk_need.specs.NeedLaws.{Worked, PlaceKept, needs-at, limits-at}
+use Rattle.walk_need.specs.Needs.{needsOf}
+use Rattle.walk_limit.specs.Limits.{limitsOf}
+use Rattle.walk_first.specs.NeedLaws.{Worked, PlaceKept, needs-at, limits-at}
 use Rattle.step_word.specs.declared.Taken.{Taken}
 use Rattle.step_word.specs.StepWord.{flowOf, stepWord, stepOf}
 use Rattle.step_word.specs.StepWordLaws.{word-small, word-order}

@@ -1,4 +1,6 @@
 pub mod FirstSteps
+pub mod ReturnLaws
+pub mod NeedLaws
 pub mod GreedyLaws
 pub mod FirstLaws
 pub mod TakingLaws

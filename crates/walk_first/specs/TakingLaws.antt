@@ -10,16 +10,19 @@ use Rattle.spec_graph.specs.Walk.{Step}
 use Rattle.spec_report.specs.Area.{flowWord}
 use Rattle.pick_laws.specs.declared.Going.{Going}
 use Rattle.pick_laws.specs.Demands.{goingAfter}
-use Rattle.walk_need.specs.Needs.{needsOf, limitsOf}
+use Rattle.walk_need.specs.Needs.{needsOf}
+use Rattle.walk_limit.specs.Limits.{limitsOf}
 use Rattle.walk_reach.specs.Layers.{joinedRows}
-use Rattle.walk_lead.specs.Leads.{leadRows, shortestReturn, returnIn, wrapStart}
-use Rattle.walk_ways.specs.Ways.{waysTo, openings, firstStart, widestTable}
+use Rattle.walk_lead.specs.Leads.{leadRows, wrapStart}
+use Rattle.walk_return.specs.Returns.{shortestReturn}
+use Rattle.walk_ways.specs.Ways.{waysTo, openings, firstStart}
+use Rattle.walk_wide.specs.Wide.{widestTable}
 use Rattle.step_word.specs.declared.Taken.{Taken}
 use Rattle.step_word.specs.StepWord.{flowOf, stepOf}
 use Rattle.walk_step.specs.LeastStep.{leastStep}
 use mathlib.Core.Option.{none, some}
 use Rattle.walk_first.specs.FirstSteps.{Prepared, prepared, opensAt, taken, stepTaken, goingOn, stepsFrom, startOf, preparedFor, walkOf}
-use Rattle.walk_first.specs.FirstSteps.{putWords, putStep, putSteps, TakenAs, Searched}
+use Rattle.walk_first.specs.FirstSteps.{returnIn, putWords, putStep, putSteps, TakenAs, Searched}
 use Rattle.walk_first.specs.FirstSteps.Searched.{nothing, walked}
 
 -- a flow as the area has it

@@ -1,8 +1,9 @@
 // The first dangerous closed walk among at most 64 nodes (Req 01): the fewest steps, then the least list of steps. `table` has the places of the
 // nodes, `forwards` and `backs` the words of the edge that stands for all of its flow between two nodes (edge_word), `nodes` the nodes that count.
 //
-// How many steps it has is told by the shortest way back from where a dangerous pair leads (walk_lead), where it starts by which nodes are on such a
-// walk (walk_ways, walk_lead). Then the least step that can be completed is taken again and again (walk_need, walk_step).
+// How many steps it has is told by the shortest way back from where a dangerous pair leads (walk_return), where it starts by which nodes are on such a
+// walk (walk_ways, walk_lead). Then the least step that can be completed is taken again and again (walk_ways, walk_wide, walk_need,
+// walk_limit, walk_step).
 
 use edge_word::NODES;
 use edge_word::PAIRS;
@@ -12,17 +13,17 @@ use pick_laws::STEP_WORDS;
 use pick_laws::WalkFound;
 use step_word::step_of;
 use walk_lead::lead_rows;
-use walk_lead::shortest_return;
 use walk_lead::wrap_start;
-use walk_need::limits_in;
+use walk_limit::limits_in;
 use walk_need::needs_in;
 use walk_reach::joined_rows;
+use walk_return::shortest_return;
 use walk_step::least_step;
 use walk_step::loose_at;
 use walk_ways::first_start;
 use walk_ways::openings;
 use walk_ways::ways_to;
-use walk_ways::widest_table;
+use walk_wide::widest_table;
 use word_list::has_bit;
 ghost use mathlib.Core.Bool.{Bool, cond};
 ghost use mathlib.Core.Path.{_≡_};

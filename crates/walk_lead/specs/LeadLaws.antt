@@ -1,36 +1,27 @@
--- Leads, returns and the start of a walk, turn by turn: one law for each path of the code.
+-- Leads and the start of a walk, turn by turn: one law for each path of the code.
 use mathlib.Core.Path.{_≡_, refl, sym, ap, ap₂, _∙_}
 use mathlib.Core.Bool.{Bool, true, false, _||_}
 use mathlib.Core.Logic.{_⊎_, inl, inr}
 use mathlib.Core.List.{List}
-use Prim.Native.Nat.{ℕ, suc, _+_, _-_, _*_, _%_, _^_, _≤_, _<_, min}
+use Prim.Native.Nat.{ℕ, suc, _+_, _*_, _%_, _^_, _≤_, _<_, min}
 use native.Mathlib.Numerals.{add-one}
 use native.Mathlib.Omega.{arith}
 use lib.Bits.{bitAnd, bitOr}
 use lib.Dec.{eqb}
 use lib.ListN.{getD}
-use borrow.Author.Tests.{eqb-true, eqb-false, eq-eqb, ne-eqb}
+use borrow.Author.Tests.{eqb-true, eqb-false, eq-eqb}
 use Rattle.spec_base.specs.Basic.{any, numbers, meets}
-use Rattle.law_base.specs.BoolLaws.{decide, same-test, or-true, or-left, or-right, or-of, not-of-false, not-of-true}
+use Rattle.law_base.specs.BoolLaws.{decide, same-test, or-true, or-left, or-right, or-of}
 use Rattle.law_base.specs.ListLaws.{any-numbers, any-numbers-of}
 use Rattle.pick_laws.specs.Pick.{dangerousPicks}
-use Rattle.pick_laws.specs.Completing.{leastBelow, leads}
+use Rattle.pick_laws.specs.Completing.{leads}
 use Rattle.edge_word.specs.Coding.{forwardPick, backPick, entry, forwardsIn, backsIn}
 use Rattle.walk_reach.specs.Layers.{withNode, wordBelow, layersTo}
-use Rattle.walk_reach.specs.NodeWordLaws.{bit-shifted, last-turn, word-none, word-or}
+use Rattle.walk_reach.specs.NodeWordLaws.{bit-shifted, last-turn, word-none, word-or, meets-none, meets-some}
 use Rattle.walk_reach.specs.Search.{firstFrom}
-use Rattle.walk_lead.specs.Leads.{leadsAlong, leadsThrough, leadRow, meetsIn, firstMeeting, returnFrom}
-use Rattle.walk_lead.specs.Leads.{layerAt, layersAt, wrapsFrom, wrapsAmong, wrapStart}
-use Rattle.walk_reach.specs.SearchLaws.{first-none, search-stop, search-turn, search-end}
+use Rattle.walk_lead.specs.Leads.{leadsAlong, leadsThrough, leadRow, layerAt, layersAt, wrapsFrom, wrapsAmong, wrapStart}
 
--- ---- words and tests
-
--- words that do not meet, and words that do
-meets-none : (x y : ℕ) → bitAnd x y ≡ 0 → meets x y ≡ false
-meets-none x y e = not-of-true (eq-eqb (bitAnd x y) 0 e)
-
-meets-some : (x y : ℕ) → (bitAnd x y ≡ 0 → ⊥) → meets x y ≡ true
-meets-some x y h = not-of-false (ne-eqb (bitAnd x y) 0 h)
+-- ---- tests
 
 -- one number more that may pass
 any-more : (p : ℕ → Bool) (n : ℕ) → any p (numbers (suc n)) ≡ any p (numbers n) || p n
@@ -98,41 +89,6 @@ module _ (forwards backs : List ℕ) (u : ℕ) where
   pub lead-end : (v : ℕ) {word : ℕ} → word ≡ rowBelow forwards backs u v → v ≤ 64 → 64 ≤ v → word ≡ leadRow forwards backs u
   unfolding rowBelow leadRow
   lead-end v e h l = last-turn (rowBelow forwards backs u) 64 v e h l
-
--- ---- how soon a way leads back
-
-module _ (layers : List ℕ) (nodes d : ℕ) where
-  abbrev Going : Type 0
-  Going = firstFrom (meetsIn layers nodes) (64 - d) d ≡ firstFrom (meetsIn layers nodes) 64 0
-
-  -- the search for a layer stops at the first that has one of the nodes, goes on to the next and ends after the last
-  pub meeting-stop : Going → d < 64 → (bitAnd nodes (getD layers d 0) ≡ 0 → ⊥) → d ≡ firstMeeting layers nodes
-  unfolding firstMeeting meetsIn
-  meeting-stop going l h = search-stop (meetsIn layers nodes) 64 d going l (meets-some nodes (getD layers d 0) h)
-
-  pub meeting-turn : Going → d < 64 → bitAnd nodes (getD layers d 0) ≡ 0
-      → firstFrom (meetsIn layers nodes) (64 - (d + 1)) (d + 1) ≡ firstFrom (meetsIn layers nodes) 64 0
-  unfolding meetsIn
-  meeting-turn going l h = search-turn (meetsIn layers nodes) 64 d going l (meets-none nodes (getD layers d 0) h)
-
-  pub meeting-end : Going → d ≤ 64 → 64 ≤ d → 64 ≡ firstMeeting layers nodes
-  unfolding firstMeeting
-  meeting-end going h l = search-end (meetsIn layers nodes) 64 d going h l
-
--- no layer has one of no nodes
-pub meeting-none : (layers : List ℕ) (nodes : ℕ) → nodes ≡ 0 → 64 ≡ firstMeeting layers nodes
-unfolding firstMeeting meetsIn
-meeting-none layers nodes z = sym (first-none (meetsIn layers nodes) 64 0 (λ d. ap (λ (x : ℕ). meets x (getD layers d 0)) z))
-
--- the layers are those of `layersTo`
-pub meeting-layers : (nodes : ℕ) {layers same : List ℕ} {r : ℕ} → layers ≡ same → r ≡ firstMeeting layers nodes → r ≡ firstMeeting same nodes
-meeting-layers nodes p q = q ∙ ap (λ (l : List ℕ). firstMeeting l nodes) p
-
--- one node more that may be reached
-pub return-turn : (rows leads : List ℕ) (u : ℕ) {least d more : ℕ} → least ≡ leastBelow (returnFrom rows leads) 64 u
-    → d ≡ firstMeeting (layersTo rows u) (getD leads u 0) → more ≡ min least d → more ≡ leastBelow (returnFrom rows leads) 64 (u + 1)
-unfolding leastBelow returnFrom
-return-turn rows leads u a b c = rw add-one (c ∙ ap₂ min a b)
 
 -- ---- by way of which nodes
 

@@ -1,14 +1,14 @@
--- To which nodes dangerous pairs lead, how soon a way leads back, and by way of which nodes a pair with so short a way back leads.
-use mathlib.Core.Bool.{Bool, cond}
+-- To which nodes dangerous pairs lead, and by way of which nodes a pair with a way back of so many steps leads.
+use mathlib.Core.Bool.{Bool}
 use mathlib.Core.List.{List}
-use Prim.Native.Nat.{ℕ, zero, suc, min}
+use Prim.Native.Nat.{ℕ, min}
 use lib.ListN.{getD}
 use Rattle.spec_base.specs.Basic.{any, numbers, meets}
 use Rattle.pick_laws.specs.Pick.{dangerousPicks}
-use Rattle.pick_laws.specs.Completing.{leastBelow, leads}
+use Rattle.pick_laws.specs.Completing.{leads}
 use Rattle.edge_word.specs.Coding.{forwardPick, entry, forwardsIn, backsIn}
 use Rattle.walk_reach.specs.Search.{firstFrom}
-use Rattle.walk_reach.specs.Layers.{wordBelow, listBelow, layersTo, joinedRows}
+use Rattle.walk_reach.specs.Layers.{wordBelow, listBelow, layersTo}
 
 -- ---- to which nodes dangerous pairs lead
 
@@ -27,28 +27,6 @@ leadRow forwards backs u = wordBelow (leads (forwardsIn forwards) (backsIn backs
 -- for each node the nodes to which a dangerous pair leads from it
 unfoldable pub leadRows : List ℕ → List ℕ → List ℕ
 leadRows forwards backs = listBelow (leadRow forwards backs) 64
-
--- ---- how soon a way leads back
-
--- layer d has one of the nodes
-unfoldable pub meetsIn : List ℕ → ℕ → ℕ → Bool
-meetsIn layers nodes d = meets nodes (getD layers d 0)
-
--- the first of 64 layers that has one of the nodes, or 64
-unfoldable pub firstMeeting : List ℕ → ℕ → ℕ
-firstMeeting layers nodes = firstFrom (meetsIn layers nodes) 64 0
-
--- in how many steps u is reached from one of the nodes that stand for it in `leads`, or 64
-unfoldable pub returnFrom : List ℕ → List ℕ → ℕ → ℕ
-returnFrom rows leads u = firstMeeting (layersTo rows u) (getD leads u 0)
-
--- the fewest steps in which any of 64 nodes is reached so, or 64
-unfoldable pub shortestReturn : List ℕ → List ℕ → ℕ
-shortestReturn rows leads = leastBelow (returnFrom rows leads) 64 64
-
--- the same for the two tables of edges
-abbrev pub returnIn : List ℕ → List ℕ → ℕ
-returnIn forwards backs = shortestReturn (joinedRows forwards) (leadRows forwards backs)
 
 -- ---- by way of which nodes a pair with so short a way back leads
 

@@ -1,3 +1,3 @@
 pub mod Leads
 pub mod LeadLaws
-pub mod ReturnLaws
+pub mod WrapLaws

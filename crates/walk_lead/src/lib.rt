@@ -1,18 +1,16 @@
-// To which nodes dangerous pairs lead, how soon a way leads back from there, and from which nodes on a pair may come in the middle. Edges are words
-// in two tables, one word for each flow and pair of nodes (edge_word); `rows` has for each node the nodes to which a forward edge goes from it
-// (walk_reach). A set of nodes is a word.
+// To which nodes dangerous pairs lead, and from which nodes on a pair may come in the middle. Edges are words in two tables, one word for each flow
+// and pair of nodes (edge_word); `rows` has for each node the nodes to which a forward edge goes from it (walk_reach). A set of nodes is a word.
 //
 // A dangerous pair is a forward edge from u to v and a back edge from v to w after it (W4); it leads from u to w.
 
+use edge_opens::dangerous;
 use edge_word::NODES;
-use edge_word::dangerous;
 use walk_reach::layers_to;
 use word_list::word_at;
 ghost use mathlib.Core.Path.{_≡_};
 ghost use Prim.Native.Nat.{_<_, min};
-ghost use Rattle.walk_reach.specs.Layers.{withNode, layersTo};
-ghost use Rattle.walk_lead.specs.Leads.{leadsAlong, leadsThrough, leadRow, leadRows, firstMeeting, shortestReturn};
-ghost use Rattle.walk_lead.specs.Leads.{layersAt, wrapsAmong, wrapStart};
+ghost use Rattle.walk_reach.specs.Layers.{withNode};
+ghost use Rattle.walk_lead.specs.Leads.{leadsAlong, leadsThrough, leadRow, leadRows, layersAt, wrapsAmong, wrapStart};
 
 // The nodes of a word, and node w too where the forward edge of word e to v and the back edge from v to w are dangerous.
 fn with_lead(backs: &[u64], e: u64, v: usize, word: u64, w: usize) -> u64
@@ -72,24 +70,6 @@ pub fn lead_rows(forwards: &[u64], backs: &[u64]) -> [u64; NODES]
     rows
 }
 
-// In how many steps u is reached from one of the nodes, or 64 where it is reached from none. No layer is worked out where there is no node.
-fn return_from(rows: &[u64; NODES], nodes: u64, u: usize) -> usize
-    ensures { λ r. ⌜ r ≡ firstMeeting (layersTo (now (rows .entry)) u) nodes ⌝ }
-{
-    if nodes == 0 {
-        return NODES;
-    }
-    let layers = layers_to(rows, u);
-    let mut d: usize = 0;
-    while d < NODES {
-        if nodes & layers[d] != 0 {
-            return d;
-        }
-        d += 1;
-    }
-    NODES
-}
-
 // The lesser of two numbers.
 fn lesser(a: usize, b: usize) -> usize
     ensures { λ r. ⌜ r ≡ min a b ⌝ }
@@ -98,20 +78,6 @@ fn lesser(a: usize, b: usize) -> usize
         return b;
     }
     a
-}
-
-// The fewest steps of a way back to a node from one of the nodes to which pairs lead from it, or 64 where no pair has a way back.
-pub fn shortest_return(rows: &[u64; NODES], leads: &[u64; NODES]) -> usize
-    ensures { λ r. ⌜ r ≡ shortestReturn (now (rows .entry)) (now (leads .entry)) ⌝ }
-{
-    let mut least = NODES;
-    let mut u: usize = 0;
-    while u < NODES {
-        let d = return_from(rows, leads[u], u);
-        least = lesser(least, d);
-        u += 1;
-    }
-    least
 }
 
 // For each node the nodes from which it is reached in at most d steps; none for 64 steps or more.

@@ -1,3 +1,2 @@
 pub mod Needs
 pub mod NeedTurns
-pub mod NeedLaws

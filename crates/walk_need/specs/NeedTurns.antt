@@ -7,15 +7,15 @@ use native.Mathlib.Numerals.{add-one}
 use native.Mathlib.Omega.{arith}
 use lib.Dec.{ltb}
 use lib.ListN.{getD}
-use borrow.Author.Tests.{eq-eqb, ne-eqb, lt-ltb, le-ltb}
+use borrow.Author.Tests.{eq-eqb, ne-eqb}
 use Rattle.spec_base.specs.Basic.{has}
 use Rattle.pick_laws.specs.declared.Going.{Going}
 use Rattle.pick_laws.specs.declared.Pick.{Pick}
 use Rattle.pick_laws.specs.Completing.{leastBelow, leavesAt}
 use Rattle.pick_laws.specs.Demands.{onlyIf}
 use Rattle.edge_word.specs.Coding.{backEdge, backPick}
-use Rattle.walk_need.specs.Needs.{leavesFor, firstLeaving, openingNeed, wideAt, endingNeed, needAt, needAmong}
-use Rattle.walk_need.specs.Needs.{startingLimitAt, limitAt, limitAmong}
+use Rattle.walk_reach.specs.Layers.{wideAt}
+use Rattle.walk_need.specs.Needs.{leavesFor, firstLeaving, openingNeed, endingNeed, needAt, needAmong}
 
 -- ---- where a back edge leaves
 
@@ -69,14 +69,6 @@ module _ (backs ways opened : List ℕ) (r y : ℕ) (some-left : r ≡ 0 → ⊥
           let less : suc k - 1 ≡ k = omega arith in
           rw (a, add-one) (ap suc (b ∙ ap (λ (z : ℕ). firstLeaving backs (getD ways z 0) y) less))
 
-pub wide-inside : (wide : List ℕ) (r y : ℕ) {x : ℕ} → r < 64 → x ≡ getD wide (r * 64 + y) 0 → x ≡ wideAt wide r y
-unfolding wideAt
-wide-inside wide r y h e = rw (lt-ltb r 64 h) e
-
-pub wide-past : (wide : List ℕ) (r y : ℕ) → 64 ≤ r → 0 ≡ wideAt wide r y
-unfolding wideAt
-wide-past wide r y h = rw (le-ltb r 64 h) refl
-
 module _ (wide : List ℕ) (s k r y : ℕ) where
   pub ending-here : r ≡ 0 → y ≡ s → k < 1025 → k + 1 ≡ endingNeed wide s k r y
   unfolding endingNeed
@@ -98,18 +90,6 @@ module _ (wide : List ℕ) (s k r y : ℕ) where
       by-left zero z a = absurd (z refl)
       by-left (suc j) z a = let less : suc j - 1 ≡ j = omega arith in a ∙ ap (λ (i : ℕ). onlyIf (ltb k (wideAt wide i y))) less
 
-pub starting-last : (wide : List ℕ) (r y : ℕ) → r ≡ 0 → 0 ≡ startingLimitAt wide r y
-unfolding startingLimitAt
-starting-last wide r y e = rw e refl
-
-pub starting-later : (wide : List ℕ) (r y : ℕ) {x : ℕ} → (r ≡ 0 → ⊥) → x ≡ wideAt wide (r - 1) y → x ≡ startingLimitAt wide r y
-unfolding startingLimitAt
-starting-later wide r y {x} left e = by-left r left e
-  where
-    by-left : (j : ℕ) → (j ≡ 0 → ⊥) → x ≡ wideAt wide (j - 1) y → x ≡ startingLimitAt wide j y
-    by-left zero z a = absurd (z refl)
-    by-left (suc j) z a = let less : suc j - 1 ≡ j = omega arith in a ∙ ap (λ (i : ℕ). wideAt wide i y) less
-
 -- ---- phase by phase
 
 module _ (backs ways opened wide : List ℕ) (s r y : ℕ) {going : Going} {x : ℕ} where
@@ -130,28 +110,6 @@ module _ (backs ways opened wide : List ℕ) (s r y : ℕ) {going : Going} {x : 
   unfolding needAt
   need-ending e q = rw e q
 
-module _ (ways wide : List ℕ) (r y : ℕ) {going : Going} where
-  pub limit-starting : {x : ℕ} → going ≡ Going.Starting → x ≡ startingLimitAt wide r y → x ≡ limitAt ways wide r going y
-  unfolding limitAt
-  limit-starting e q = rw e q
-
-  pub limit-there : {k w : ℕ} {b : Bool} → going ≡ Going.Opening k → w ≡ getD ways r 0 → b ≡ has w y → b ≡ true → k ≡ limitAt ways wide r going y
-  unfolding limitAt
-  limit-there {k} e f h t = rw (e, sym (h ∙ ap (λ (z : ℕ). has z y) f) ∙ t) refl
-
-  pub limit-elsewhere : {k w : ℕ} {b : Bool} → going ≡ Going.Opening k → w ≡ getD ways r 0 → b ≡ has w y → b ≡ false
-      → 0 ≡ limitAt ways wide r going y
-  unfolding limitAt
-  limit-elsewhere {k} e f h t = rw (e, sym (h ∙ ap (λ (z : ℕ). has z y) f) ∙ t) refl
-
-  pub limit-closing : going ≡ Going.Closing → 0 ≡ limitAt ways wide r going y
-  unfolding limitAt
-  limit-closing e = rw e refl
-
-  pub limit-ending : {k : ℕ} → going ≡ Going.Ending k → 0 ≡ limitAt ways wide r going y
-  unfolding limitAt
-  limit-ending e = rw e refl
-
 -- ---- among the nodes of a word
 
 module _ (nodes y : ℕ) {b : Bool} (same : b ≡ has nodes y) where
@@ -164,12 +122,3 @@ module _ (nodes y : ℕ) {b : Bool} (same : b ≡ has nodes y) where
       → 1025 ≡ needAmong backs ways opened wide s nodes r going y
   unfolding needAmong
   outside-need backs ways opened wide s r going t = rw (sym same ∙ t) refl
-
-  pub among-limit : (ways wide : List ℕ) (r : ℕ) (going : Going) {x : ℕ} → b ≡ true → x ≡ limitAt ways wide r going y
-      → x ≡ limitAmong ways wide nodes r going y
-  unfolding limitAmong
-  among-limit ways wide r going t q = rw (sym same ∙ t) q
-
-  pub outside-limit : (ways wide : List ℕ) (r : ℕ) (going : Going) → b ≡ false → 0 ≡ limitAmong ways wide nodes r going y
-  unfolding limitAmong
-  outside-limit ways wide r going t = rw (sym same ∙ t) refl

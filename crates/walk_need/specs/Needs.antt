@@ -1,7 +1,7 @@
--- Which steps count, over words: how far a forward step into a node must opened, and below which place a back step into it must leave.
+-- Which forward steps count, over words: how far a step into a node must open.
 use mathlib.Core.Bool.{cond}
 use mathlib.Core.List.{List}
-use Prim.Native.Nat.{ℕ, zero, suc, _+_, _*_, min}
+use Prim.Native.Nat.{ℕ, zero, suc, min}
 use lib.Dec.{eqb, ltb}
 use lib.ListN.{getD}
 use Rattle.spec_base.specs.Basic.{has}
@@ -9,7 +9,7 @@ use Rattle.pick_laws.specs.declared.Going.{Going}
 use Rattle.pick_laws.specs.Completing.{leastBelow, leavesAt}
 use Rattle.pick_laws.specs.Demands.{onlyIf}
 use Rattle.edge_word.specs.Coding.{backsIn}
-use Rattle.walk_reach.specs.Layers.{listBelow}
+use Rattle.walk_reach.specs.Layers.{listBelow, wideAt}
 
 -- the place at which a back edge leaves x for y, where y is one of the nodes
 unfoldable pub leavesFor : List ℕ → ℕ → ℕ → ℕ → ℕ
@@ -23,15 +23,11 @@ unfoldable pub openingNeed : List ℕ → List ℕ → List ℕ → ℕ → ℕ 
 openingNeed backs ways opened zero y = 1025
 openingNeed backs ways opened (suc r) y = cond (has (getD opened (suc r) 0) y) 0 (suc (firstLeaving backs (getD ways r 0) y))
 
--- how far the last of r + 1 steps from y can opened
-unfoldable pub wideAt : List ℕ → ℕ → ℕ → ℕ
-wideAt wide r y = cond (ltb r 64) (getD wide (r * 64 + y) 0) 0
-
 unfoldable pub endingNeed : List ℕ → ℕ → ℕ → ℕ → ℕ → ℕ
 endingNeed wide s k zero y = cond (eqb y s) (min (suc k) 1025) 1025
 endingNeed wide s k (suc r) y = onlyIf (ltb k (wideAt wide r y))
 
--- how far a forward step into y must opened, where r steps are left after it
+-- how far a forward step into y must open, where r steps are left after it
 unfoldable pub needAt : List ℕ → List ℕ → List ℕ → List ℕ → ℕ → ℕ → Going → ℕ → ℕ
 needAt backs ways opened wide s r Going.Starting y = openingNeed backs ways opened r y
 needAt backs ways opened wide s r (Going.Opening k) y = openingNeed backs ways opened r y
@@ -45,22 +41,3 @@ needAmong backs ways opened wide s nodes r going y = cond (has nodes y) (needAt 
 -- the same for each of 64 nodes
 unfoldable pub needsOf : List ℕ → List ℕ → List ℕ → List ℕ → ℕ → ℕ → ℕ → Going → List ℕ
 needsOf backs ways opened wide s nodes r going = listBelow (needAmong backs ways opened wide s nodes r going) 64
-
-unfoldable pub startingLimitAt : List ℕ → ℕ → ℕ → ℕ
-startingLimitAt wide zero y = 0
-startingLimitAt wide (suc r) y = wideAt wide r y
-
--- below which place a back step into y must leave, where r steps are left after it
-unfoldable pub limitAt : List ℕ → List ℕ → ℕ → Going → ℕ → ℕ
-limitAt ways wide r Going.Starting y = startingLimitAt wide r y
-limitAt ways wide r (Going.Opening k) y = cond (has (getD ways r 0) y) k 0
-limitAt ways wide r Going.Closing y = 0
-limitAt ways wide r (Going.Ending k) y = 0
-
--- the same where y is one of the nodes; no step into another counts
-unfoldable pub limitAmong : List ℕ → List ℕ → ℕ → ℕ → Going → ℕ → ℕ
-limitAmong ways wide nodes r going y = cond (has nodes y) (limitAt ways wide r going y) 0
-
--- the same for each of 64 nodes
-unfoldable pub limitsOf : List ℕ → List ℕ → ℕ → ℕ → Going → List ℕ
-limitsOf ways wide nodes r going = listBelow (limitAmong ways wide nodes r going) 64

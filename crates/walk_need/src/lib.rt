@@ -1,7 +1,6 @@
-// Which steps count at a node in the search for the first walk: for each node entered, how far a forward step into it must open, and below which
-// place a back step into it must leave (pick_laws/Demands). `ways` has for each number of steps the nodes from which exactly so many forward steps
-// end the walk, `opened` those from which so many steps still lead through a dangerous pair, `wide` how far the last of so many steps can open
-// (walk_ways).
+// Which forward steps count at a node in the search for the first walk: for each node entered, how far a step into it must open (pick_laws/Demands).
+// `ways` has for each number of steps the nodes from which exactly so many forward steps end the walk, `opened` those from which so many steps still
+// lead through a dangerous pair (walk_ways), `wide` how far the last of so many steps can open (walk_wide).
 
 use edge_word::NODES;
 use edge_word::PLACES;
@@ -16,8 +15,8 @@ ghost use Rattle.spec_base.specs.Basic.{has};
 ghost use Rattle.pick_laws.specs.Completing.{leavesAt};
 ghost use Rattle.pick_laws.specs.Demands.{onlyIf};
 ghost use Rattle.edge_word.specs.Coding.{backPick, backsIn};
-ghost use Rattle.walk_need.specs.Needs.{leavesFor, firstLeaving, openingNeed, wideAt, endingNeed, needAt, needAmong, needsOf};
-ghost use Rattle.walk_need.specs.Needs.{startingLimitAt, limitAt, limitAmong, limitsOf};
+ghost use Rattle.walk_reach.specs.Layers.{wideAt};
+ghost use Rattle.walk_need.specs.Needs.{leavesFor, firstLeaving, openingNeed, endingNeed, needAt, needAmong, needsOf};
 
 // Further than any edge opens: no step counts that needs so much.
 const NEVER: u64 = 1025;
@@ -182,57 +181,4 @@ pub fn needs_in(
         y += 1;
     }
     needs
-}
-
-// Below which place a first step into y must leave if it is a back one: the walk's last step must open it.
-fn starting_limit(wide: &[u64], r: usize, y: usize) -> u64
-    requires { ⌜ y < 64 ⌝ }
-    ensures { λ x. ⌜ x ≡ startingLimitAt (now (wide .entry)) r y ⌝ }
-{
-    if r == 0 {
-        return 0;
-    }
-    wide_at(wide, r - 1, y)
-}
-
-// Below which place a back step into y must leave, where r steps are left after it.
-fn limit_at(ways: &[u64], wide: &[u64], r: usize, going: Going, y: usize) -> u64
-    requires { ⌜ y < 64 ⌝ }
-    ensures { λ x. ⌜ x ≡ limitAt (now (ways .entry)) (now (wide .entry)) r going y ⌝ }
-{
-    match going {
-        Going::Starting => starting_limit(wide, r, y),
-        Going::Opening(k) => {
-            if has_bit(word_at(ways, r), y as u64) {
-                return k;
-            }
-            0
-        }
-        Going::Closing => 0,
-        Going::Ending(_k) => 0,
-    }
-}
-
-// The same where y is one of the nodes; no step into another counts.
-fn limit_among(ways: &[u64], wide: &[u64], nodes: u64, r: usize, going: Going, y: usize) -> u64
-    requires { ⌜ y < 64 ⌝ }
-    ensures { λ x. ⌜ x ≡ limitAmong (now (ways .entry)) (now (wide .entry)) nodes r going y ⌝ }
-{
-    if has_bit(nodes, y as u64) {
-        return limit_at(ways, wide, r, going, y);
-    }
-    0
-}
-
-// Below which place a back step into each node must leave, where r steps are left after it; only steps into the nodes of the word count.
-pub fn limits_in(ways: &[u64], wide: &[u64], nodes: u64, r: usize, going: Going) -> [u64; NODES]
-    ensures { λ x. ⌜ x ≡ limitsOf (now (ways .entry)) (now (wide .entry)) nodes r going ⌝ }
-{
-    let mut limits = [0u64; NODES];
-    let mut y: usize = 0;
-    while y < NODES {
-        limits[y] = limit_among(ways, wide, nodes, r, going, y);
-        y += 1;
-    }
-    limits
 }

@@ -1,7 +1,7 @@
 -- Sets of nodes as words, and which nodes reach which along forward edges.
 use mathlib.Core.Bool.{Bool, cond, not, _||_}
 use mathlib.Core.List.{List}
-use Prim.Native.Nat.{ℕ, zero, suc, _^_}
+use Prim.Native.Nat.{ℕ, zero, suc, _+_, _*_, _^_}
 use lib.Bits.{bitOr}
 use lib.Dec.{eqb, ltb}
 use lib.ListN.{getD, set, replicate}
@@ -23,6 +23,15 @@ wordBelow test (suc k) = withNode (wordBelow test k) (test k) k
 unfoldable pub listBelow : (ℕ → ℕ) → ℕ → List ℕ
 listBelow f zero = replicate 64 0
 listBelow f (suc k) = set (listBelow f k) k (f k)
+
+-- so many words, the first n of them as given and the others 0
+unfoldable pub filled : ℕ → (ℕ → ℕ) → ℕ → List ℕ
+filled size f zero = replicate size 0
+filled size f (suc n) = set (filled size f n) n (f n)
+
+-- word y of row r of a table with 64 rows of 64 words; 0 past the rows. In the table of walk_wide: how far the last of r + 1 steps from y can open
+unfoldable pub wideAt : List ℕ → ℕ → ℕ → ℕ
+wideAt wide r y = cond (ltb r 64) (getD wide (r * 64 + y) 0) 0
 
 -- ---- which nodes reach which
 

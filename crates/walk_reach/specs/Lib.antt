@@ -1,5 +1,6 @@
 pub mod Layers
 pub mod NodeWordLaws
+pub mod FilledLaws
 pub mod LayerLaws
 pub mod Search
 pub mod SearchLaws

@@ -8,16 +8,16 @@ use native.Mathlib.Nat.{one-mul, mod-eq-of-lt, not-suc-le-zero}
 use native.Mathlib.Numerals.{add-one}
 use native.Mathlib.Decide.{decLt}
 use native.Mathlib.Omega.{arith}
-use lib.Bits.{bitOr}
+use lib.Bits.{bitAnd, bitOr}
 use lib.Dec.{eqb}
 use lib.ListN.{length, getD, set, length-set, length-replicate}
 use lib.Pow.{pow-lt}
 use lib.Seq.{getD-set-same, getD-set-other}
-use borrow.Author.Tests.{eqb-true, eqb-false, eq-eqb, ne-eqb}
-use Rattle.spec_base.specs.Basic.{has}
-use Rattle.law_base.specs.BoolLaws.{decide, true-false}
+use borrow.Author.Tests.{eqb-true, eqb-false, eq-eqb, ne-eqb, lt-ltb, le-ltb}
+use Rattle.spec_base.specs.Basic.{has, meets}
+use Rattle.law_base.specs.BoolLaws.{decide, true-false, not-of-false, not-of-true}
 use Rattle.law_base.specs.SetLaws.{has-empty, has-equal, has-bitOr, has-bit}
-use Rattle.walk_reach.specs.Layers.{withNode, wordBelow, listBelow}
+use Rattle.walk_reach.specs.Layers.{withNode, wordBelow, listBelow, wideAt}
 
 -- ---- turn by turn
 
@@ -124,3 +124,22 @@ list-at f (suc n) i h l = go (λ k. list-at f n i (omega arith) k) (decide (eqb 
         ap (λ (k : ℕ). getD (set (listBelow f n) n (f n)) k 0) (sym same) ∙ getD-set-same (listBelow f n) n (f n) 0 (omega arith) ∙ ap f same
     go rest (inr e) =
         let apart = eqb-false i n e in getD-set-other (listBelow f n) n i (f n) 0 apart ∙ rest (omega arith)
+
+-- ---- words that meet
+
+-- words that do not meet, and words that do
+pub meets-none : (x y : ℕ) → bitAnd x y ≡ 0 → meets x y ≡ false
+meets-none x y e = not-of-true (eq-eqb (bitAnd x y) 0 e)
+
+pub meets-some : (x y : ℕ) → (bitAnd x y ≡ 0 → ⊥) → meets x y ≡ true
+meets-some x y h = not-of-false (ne-eqb (bitAnd x y) 0 h)
+
+-- ---- a word of a table
+
+pub wide-inside : (wide : List ℕ) (r y : ℕ) {x : ℕ} → r < 64 → x ≡ getD wide (r * 64 + y) 0 → x ≡ wideAt wide r y
+unfolding wideAt
+wide-inside wide r y h e = rw (lt-ltb r 64 h) e
+
+pub wide-past : (wide : List ℕ) (r y : ℕ) → 64 ≤ r → 0 ≡ wideAt wide r y
+unfolding wideAt
+wide-past wide r y h = rw (le-ltb r 64 h) refl

@@ -1,4 +1,3 @@
 pub mod Ways
-pub mod FilledLaws
 pub mod TurnLaws
 pub mod WaysLaws

@@ -1,30 +1,28 @@
--- What the tables tell: from which nodes exactly so many steps lead to a node, where a walk of so many steps can still be opened, at which node
--- it can start, and how far its last step can open.
+-- What the tables tell: from which nodes exactly so many steps lead to a node, where a walk of so many steps can still be opened, and at which node
+-- it can start.
 use mathlib.Core.Path.{_≡_, refl, sym, ap, ap₂, _∙_}
 use mathlib.Core.Bool.{Bool, true, false, cond, not, _&&_, _||_}
 use mathlib.Core.List.{List}
 use mathlib.Core.Option.{none, some, Option·none-ne-some}
-use Prim.Native.Nat.{ℕ, zero, suc, _+_, _-_, _*_, _/_, _%_, _^_, _≤_, _<_, min, zero-le}
+use Prim.Native.Nat.{ℕ, zero, suc, _-_, _/_, _%_, _^_, _≤_, _<_, min, zero-le}
 use native.Mathlib.Omega.{arith}
 use lib.Dec.{eqb, ltb, leb}
 use lib.ListN.{getD}
-use borrow.Author.Tests.{eqb-true, eq-eqb, ne-eqb, ltb-true, lt-ltb}
+use borrow.Author.Tests.{eqb-true, eq-eqb, ne-eqb, ltb-true}
 use Rattle.spec_base.specs.Basic.{any, numbers, has, meets}
 use Rattle.law_base.specs.BoolLaws.{true-false, same-test, and-true, and-of, not-of-false}
 use Rattle.law_base.specs.ListLaws.{any-numbers, any-numbers-of, some-injective}
 use Rattle.law_base.specs.SetLaws.{has-empty, has-nonzero, has-bitOr, has-bit, meets-has, has-meets}
 use Rattle.pick_laws.specs.declared.Pick.{Pick}
-use Rattle.pick_laws.specs.Pick.{picked}
-use Rattle.pick_laws.specs.Completing.{opensBelow, exactly, needed, widest, leads, greatestBelow}
-use Rattle.pick_laws.specs.NeededLaws.{needed-none, needed-first, needed-later, needed-edge, greatest-same}
+use Rattle.pick_laws.specs.Completing.{opensBelow, exactly, needed, leads}
+use Rattle.pick_laws.specs.NeededLaws.{needed-none, needed-first, needed-later, needed-edge}
 use Rattle.edge_word.specs.Coding.{forwardPick, forwardEdge, backPick, backEdge, entry, forwardsIn, backsIn}
 use Rattle.walk_reach.specs.Layers.{withNode, joinedRows}
 use Rattle.walk_reach.specs.NodeWordLaws.{word-in, word-inside}
+use Rattle.walk_reach.specs.FilledLaws.{filled-at}
 use Rattle.walk_reach.specs.LayerLaws.{first-has, row-at, row-has, row-meets}
 use Rattle.walk_reach.specs.SearchLaws.{first-bound, first-passes, first-least}
 use Rattle.walk_ways.specs.Ways.{entersAt, nodesInto, exactWord, waysTo, nextOpening, opening, openings, startsAt, firstStart}
-use Rattle.walk_ways.specs.Ways.{widthInto, widestWord, widestAt, widestTable}
-use Rattle.walk_ways.specs.FilledLaws.{filled-at}
 
 -- `leads` has for each node the nodes to which a dangerous pair leads from it
 abbrev pub LeadRows : List ℕ → List ℕ → ℕ → List ℕ → Type 0
@@ -82,31 +80,6 @@ module _ (forwards : List ℕ) (n : ℕ) (full : n ≡ 64) where
   pub ways-has : (s steps r x : ℕ) → r ≤ steps → r ≤ 64 → x < n
       → has (getD (waysTo (joinedRows forwards) s steps) r 0) x ≡ exactly (forwardsIn forwards) n s r x
   ways-has s steps r x h l k = ap (λ (w : ℕ). has w x) (ways-at s steps r h l) ∙ exact-has s r x k
-
-  -- how far the last of r + 1 steps from x to s can open
-  word-widest : (s r x : ℕ) → s < n → x < n → widestWord forwards (joinedRows forwards) s r x ≡ widest (forwardsIn forwards) n s r x
-  unfolding widestWord widest widthInto
-  word-widest s zero x i h = rw (lt-ltb s 64 (omega arith)) refl
-  word-widest s (suc r) x i h =
-      greatest-same _ _ 64 (one (λ y l. word-widest s r y i (omega arith)))
-      ∙ ap (greatestBelow (λ y. cond (picked (forwardsIn forwards x y)) (widest (forwardsIn forwards) n s r y) 0)) (sym full)
-    where
-      one : ((y : ℕ) → y < 64 → widestWord forwards (joinedRows forwards) s r y ≡ widest (forwardsIn forwards) n s r y)
-          → (y : ℕ) → y < 64 → cond (has (getD (joinedRows forwards) x 0) y) (widestWord forwards (joinedRows forwards) s r y) 0
-          ≡ cond (picked (forwardsIn forwards x y)) (widest (forwardsIn forwards) n s r y) 0
-      one rest y l =
-          ap₂ (λ (b : Bool) (k : ℕ). cond b k 0) (ap (λ (w : ℕ). has w y) (row-at forwards n full x h) ∙ row-has forwards n full x y (omega arith))
-          (rest y l)
-
-  -- stands at r * 64 + x
-  pub widest-at : (s rounds r x : ℕ) → s < n → r < rounds → r < 64 → x < n
-      → getD (widestTable forwards (joinedRows forwards) s rounds) (r * 64 + x) 0 ≡ widest (forwardsIn forwards) n s r x
-  unfolding widestTable widestAt
-  widest-at s rounds r x i h l k =
-      let round : (r * 64 + x) / 64 ≡ r = omega arith in
-      let node : (r * 64 + x) % 64 ≡ x = omega arith in
-      filled-at 4096 (widestAt forwards (joinedRows forwards) s) (min rounds 64 * 64) (r * 64 + x) (omega arith) (omega arith)
-      ∙ ap₂ (widestWord forwards (joinedRows forwards) s) round node ∙ word-widest s r x i k
 
 -- ---- the places of an edge's word
 

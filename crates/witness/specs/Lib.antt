@@ -11,3 +11,4 @@ pub mod KindsClause
 pub mod LockedFirst
 pub mod RuleMachines
 pub mod LockedTurns
+pub mod Unbounded

@@ -10,7 +10,7 @@ use Rattle.place_table.proofs.fill_table.Tie as tie
 use Rattle.place_table.proofs.fill_table.Reads as reads
 use Rattle.place_table.proofs.fill_table.Lts as lts
 use Rattle.value_tables.proofs.line_table.Reads as line-table-reads
-use Rattle.place_keys.proofs.programs_in.Reads as programs-in-reads
+use Rattle.place_programs.proofs.programs_in.Reads as programs-in-reads
 use Rattle.place_table.proofs.put_nodes.Reads as put-nodes-reads
 
 slice-aggregate-programs-in : tie.Need-slice-aggregate-programs-in

@@ -14,7 +14,7 @@ use Rattle.place_table.proofs.put_nodes.Reads as reads
 use Rattle.place_table.proofs.put_nodes.Lts as lts
 use Rattle.place_table.proofs.byte_at.Reads as byte-at-reads
 use Rattle.place_table.proofs.put_places.Reads as put-places-reads
-use Rattle.place_keys.proofs.links_from.Reads as links-from-reads
+use Rattle.place_links.proofs.links_from.Reads as links-from-reads
 use Rattle.word_list.proofs.word_at.Reads as word-at-reads
 
 abbrev Inv-loop : tie.InvT-loop

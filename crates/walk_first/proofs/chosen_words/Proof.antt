@@ -1,7 +1,7 @@
 -- After x turns the first x words stand (filled-turn); after 4096 all do.
 use Rattle.walk_first.specs.FirstSteps.{chosenWord, chosenWords}
-use Rattle.walk_ways.specs.Ways.{filled}
-use Rattle.walk_ways.specs.FilledLaws.{filled-turn}
+use Rattle.walk_reach.specs.Layers.{filled}
+use Rattle.walk_reach.specs.FilledLaws.{filled-turn}
 use Rattle.walk_reach.specs.NodeWordLaws.{last-turn}
 use borrow.Author.Needs.{needs}
 use native.Mathlib.Omega.{arith}

@@ -1,6 +1,7 @@
 -- After r turns the first r + 1 words stand (filled-turn) and `nodes` is the last of them (opening-turn).
-use Rattle.walk_ways.specs.Ways.{filled, opening, openings}
-use Rattle.walk_ways.specs.FilledLaws.{filled-turn}
+use Rattle.walk_ways.specs.Ways.{opening, openings}
+use Rattle.walk_reach.specs.Layers.{filled}
+use Rattle.walk_reach.specs.FilledLaws.{filled-turn}
 use Rattle.walk_ways.specs.TurnLaws.{opening-first, openings-first, opening-turn}
 use borrow.Author.Needs.{needs}
 use native.Mathlib.Omega.{arith}

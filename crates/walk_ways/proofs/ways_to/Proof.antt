@@ -1,6 +1,7 @@
 -- After r turns the first r + 1 words stand (filled-turn) and `nodes` is the last of them (way-turn).
-use Rattle.walk_ways.specs.Ways.{filled, exactWord, waysTo}
-use Rattle.walk_ways.specs.FilledLaws.{filled-turn}
+use Rattle.walk_ways.specs.Ways.{exactWord, waysTo}
+use Rattle.walk_reach.specs.Layers.{filled}
+use Rattle.walk_reach.specs.FilledLaws.{filled-turn}
 use Rattle.walk_ways.specs.TurnLaws.{way-first, ways-first, way-turn}
 use borrow.Author.Tests.{ltb-true}
 use borrow.Author.Needs.{needs}
