@@ -56,7 +56,7 @@ forward-first code p q one =
     go false false false false false = refl
 
 -- E1: where a code says that some letter is certain, it tells that a forward edge stands between rows of one relation
-pub forward-certain : (code : ℕ) (p q : Row) → p .relation ≡ q .relation → meets code 0x11111 ≡ true → forwardIn code p q ≡ true
+pub forward-certain : (code : ℕ) (p q : Row) → p .relation ≡ q .relation → meets code 341 ≡ true → forwardIn code p q ≡ true
 unfolding forwardIn toldBetween
 forward-certain code p q one h =
     and-of (eq-eqb (p .relation) (q .relation) one) (certain-told code (λ x. not (eqb (rowShared x p q) 0)) h)

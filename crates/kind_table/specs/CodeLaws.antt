@@ -1,14 +1,14 @@
 -- A code tells the chance of each letter, and the table has the code of each two kinds.
 use mathlib.Core.Bool.{Bool, true, false, cond, not, _&&_, _||_}
-use mathlib.Core.List.{List}
+use mathlib.Core.List.{List, []}
 use mathlib.Core.Logic.{⊎-elim}
 use mathlib.Core.Path.{_≡_, refl, sym, ap, subst, _∙_}
-use Prim.Native.Nat.{ℕ, _<_, _^_}
+use Prim.Native.Nat.{ℕ, _/_, _%_, _*_, _^_}
 use native.Mathlib.Omega.{arith}
-use lib.Dec.{eqb}
+use lib.Dec.{eqb, leb}
 use lib.ListN.{getD}
 use borrow.Author.Tests.{eqb-true}
-use Rattle.spec_base.specs.Basic.{all, numbers, has, meets}
+use Rattle.spec_base.specs.Basic.{has, meets}
 use Rattle.spec_text.specs.declared.StatementKind.{StatementKind}
 use Rattle.spec_graph.specs.Edge.{Letter}
 use Rattle.spec_graph.specs.Edge.Letter.{A, B, C, D, E}
@@ -20,7 +20,7 @@ use Rattle.law_kinds.specs.Chances.{Chance, chanceOf, told}
 use Rattle.law_kinds.specs.Chances.Chance.{impossible, certain, hanging}
 use Rattle.law_kinds.specs.ChanceLaws.{Means, chance-means}
 use Rattle.edge_kinds.specs.Kinds.{kindNumber}
-use Rattle.kind_table.specs.Codes.{digitOf, certainBit, hangingBit, codeOf, codesFrom, chanceIn, toldIn}
+use Rattle.kind_table.specs.Codes.{digitOf, certainBit, hangingBit, codeOf, codesFrom, letterTable, chanceIn, toldIn, packedFrom}
 
 -- ---- what a code tells
 
@@ -59,20 +59,20 @@ code-told x k l meet =
 -- ---- where some letter is certain, whatever the code
 
 -- the attributes of the mark are those of the letters' bits
-mark-bits : (j : ℕ) → has 0x11111 j ≡ true
+mark-bits : (j : ℕ) → has 341 j ≡ true
     → has (certainBit A) j || has (certainBit B) j || has (certainBit C) j || has (certainBit D) j || has (certainBit E) j ≡ true
 mark-bits j h =
     implied _ _
-    (all-numbers (λ j. not (has 0x11111 j)
+    (all-numbers (λ j. not (has 341 j)
     || (has (certainBit A) j || has (certainBit B) j || has (certainBit C) j || has (certainBit D) j || has (certainBit E) j))
-    17 refl j (has-below 17 0x11111 j (omega arith) h))
+    9 refl j (has-below 9 341 j (omega arith) h))
     h
 
 -- a code that meets it tells that some letter holds, whatever sets meet
-pub certain-told : (code : ℕ) (meet : Letter → Bool) → meets code 0x11111 ≡ true
+pub certain-told : (code : ℕ) (meet : Letter → Bool) → meets code 341 ≡ true
     → toldIn code A (meet A) || toldIn code B (meet B) || toldIn code C (meet C) || toldIn code D (meet D) || toldIn code E (meet E) ≡ true
 certain-told code meet h =
-    let t = meets-has code 0x11111 h in
+    let t = meets-has code 341 h in
     let one : (x : Letter) → has (certainBit x) (t .0) ≡ true → toldIn code x (meet x) ≡ true
     = λ x e. or-left _ (has-meets code (certainBit x) (t .0) (t .1) e) in
     or-leads (or-leads (or-leads (or-leads (one A) (one B)) (one C)) (one D)) (one E) (mark-bits (t .0) (t .2))
@@ -82,6 +82,10 @@ certain-told code meet h =
 
 -- ---- a code looked up
 
+-- the same row of a table that agrees
+pub row-of : (i : ℕ) {table : List (List ℕ)} → table ≡ letterTable → getD table i [] ≡ getD letterTable i []
+row-of i e = ap (λ (t : List (List ℕ)). getD t i []) e
+
 -- among the codes of the one kind stands in the place of the other the code of the two
 pub code-right : (k l : StatementKind) {codes : List ℕ} {code : ℕ} → codes ≡ codesFrom k → code ≡ getD codes (kindNumber l) 0 → code ≡ codeOf k l
 unfolding codesFrom codeOf chanceOf
@@ -89,3 +93,24 @@ code-right k l e f = f ∙ ap (λ (c : List ℕ). getD c (kindNumber l) 0) e ∙
   where
     entry : (k l : StatementKind) → getD (codesFrom k) (kindNumber l) 0 ≡ codeOf k l
     entry k l = eqb-true _ _ (every-pair (λ k l. eqb (getD (codesFrom k) (kindNumber l) 0) (codeOf k l)) refl k l)
+
+-- so it does where the codes are packed, four in a word
+pub code-packed : (k l : StatementKind) {i word first last : ℕ} → i ≡ kindNumber l → first ≡ packedFrom (codesFrom k) 0
+    → last ≡ packedFrom (codesFrom k) 4 → word ≡ cond (leb 4 i) last first → word / 2 ^ (i % 4 * 16) % 65536 ≡ codeOf k l
+unfolding codesFrom codeOf chanceOf
+code-packed k l place first last word = rw (word, place, first, last) (entry k l)
+  where
+    codeAt : StatementKind → StatementKind → ℕ
+    codeAt k l = cond (leb 4 (kindNumber l)) (packedFrom (codesFrom k) 4) (packedFrom (codesFrom k) 0) / 2 ^ (kindNumber l % 4 * 16) % 65536
+
+    entry : (k l : StatementKind) → codeAt k l ≡ codeOf k l
+    entry k l = eqb-true _ _ (every-pair (λ k l. eqb (codeAt k l) (codeOf k l)) refl k l)
+
+-- Req 04: what stands in the table says what is so
+pub table-means : (x : Letter) (k l : StatementKind) → Means x k l (chanceIn (getD (getD letterTable (kindNumber k) []) (kindNumber l) 0) x)
+unfolding letterTable codesFrom codeOf chanceOf
+table-means x k l =
+    subst (λ (c : ℕ). Means x k l (chanceIn c x)) (sym (entry k l)) (code-means x k l)
+  where
+    entry : (k l : StatementKind) → getD (getD letterTable (kindNumber k) []) (kindNumber l) 0 ≡ codeOf k l
+    entry k l = eqb-true _ _ (every-pair (λ k l. eqb (getD (getD letterTable (kindNumber k) []) (kindNumber l) 0) (codeOf k l)) refl k l)

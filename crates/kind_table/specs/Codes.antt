@@ -1,7 +1,8 @@
--- The chances of all letters between two kinds as one number, the code of the two: a hexadecimal digit for each letter.
+-- The chances of all letters between two kinds as one number, the code of the two: two bits to each letter.
 use mathlib.Core.Bool.{Bool, cond, _&&_, _||_}
 use mathlib.Core.List.{List, map}
-use Prim.Native.Nat.{ℕ, _+_, _*_}
+use Prim.Native.Nat.{ℕ, _+_, _*_, _%_}
+use lib.ListN.{getD}
 use Rattle.spec_base.specs.Basic.{meets}
 use Rattle.spec_text.specs.declared.StatementKind.{StatementKind}
 use Rattle.spec_graph.specs.Edge.{Letter}
@@ -18,10 +19,10 @@ digitOf hanging = 2
 
 -- the bit of a letter that is certain: what its digit counts
 abbrev pub certainBit : Letter → ℕ
-certainBit A = 0x10000
-certainBit B = 0x1000
-certainBit C = 0x100
-certainBit D = 0x10
+certainBit A = 256
+certainBit B = 64
+certainBit C = 16
+certainBit D = 4
 certainBit E = 1
 
 -- the bit of a letter that hangs on its sets
@@ -50,3 +51,11 @@ chanceIn code x = cond (meets code (certainBit x)) certain (cond (meets code (ha
 -- whether a letter is told to hold, by a code and by whether its two sets meet
 abbrev pub toldIn : ℕ → Letter → Bool → Bool
 toldIn code x meet = meets code (certainBit x) || meets code (hangingBit x) && meet
+
+-- four codes in a word, sixteen bits to each
+abbrev pub packed : ℕ → ℕ → ℕ → ℕ → ℕ
+packed a b c d = a % 65536 + b % 65536 * 65536 + c % 65536 * 4294967296 + d % 65536 * 281474976710656
+
+-- four of a row's codes, from place j on
+abbrev pub packedFrom : List ℕ → ℕ → ℕ
+packedFrom row j = packed (getD row j 0) (getD row (j + 1) 0) (getD row (j + 2) 0) (getD row (j + 3) 0)

@@ -1,69 +1,71 @@
 // Which letters can stand between two kinds of statement: a constant table of eight kinds against eight (Req 04).
 
 use spec_text::StatementKind;
+ghost use mathlib.Core.Bool.{cond};
 ghost use mathlib.Core.Path.{_≡_};
+ghost use lib.Dec.{leb};
 ghost use lib.ListN.{getD};
 ghost use Rattle.edge_kinds.specs.Kinds.{kindNumber};
-ghost use Rattle.kind_table.specs.Codes.{codeOf, codesFrom, letterTable};
+ghost use Rattle.kind_table.specs.Codes.{codeOf, codesFrom, letterTable, packed, packedFrom};
 use edge_kinds::kind_number;
 
 // How many kinds there are: so many rows, and so many codes in each.
 pub const KINDS: usize = 8;
 
 // A code tells of each of the letters A to E whether it can hold between two statements over one relation, whatever sets document 01 allows them:
-// a hexadecimal digit to each letter, A's first; 0 impossible, 1 certain, 2 hanging on a meeting of its two sets. The same stands in its name, a
-// place to each letter: `_` impossible, a capital certain, a small letter hanging.
-const abcde: u32 = 0x22222;
+// two bits to each letter, A's first; 00 impossible, 01 certain, 10 hanging on a meeting of its two sets. The same stands in its name, a place to
+// each letter: `_` impossible, a capital certain, a small letter hanging.
+const abcde: u32 = 0b10_10_10_10_10;
 
-const abcd_: u32 = 0x22220;
+const abcd_: u32 = 0b10_10_10_10_00;
 
-const ab_de: u32 = 0x22022;
+const ab_de: u32 = 0b10_10_00_10_10;
 
-const ab_d_: u32 = 0x22020;
+const ab_d_: u32 = 0b10_10_00_10_00;
 
-const AbC__: u32 = 0x12100;
+const AbC__: u32 = 0b01_10_01_00_00;
 
-const Ab___: u32 = 0x12000;
+const Ab___: u32 = 0b01_10_00_00_00;
 
-const A_cdE: u32 = 0x10221;
+const A_cdE: u32 = 0b01_00_10_10_01;
 
-const A_cd_: u32 = 0x10220;
+const A_cd_: u32 = 0b01_00_10_10_00;
 
-const A_C__: u32 = 0x10100;
+const A_C__: u32 = 0b01_00_01_00_00;
 
-const A__dE: u32 = 0x10021;
+const A__dE: u32 = 0b01_00_00_10_01;
 
-const A__d_: u32 = 0x10020;
+const A__d_: u32 = 0b01_00_00_10_00;
 
-const A____: u32 = 0x10000;
+const A____: u32 = 0b01_00_00_00_00;
 
-const _bc__: u32 = 0x02200;
+const _bc__: u32 = 0b00_10_10_00_00;
 
-const _bC__: u32 = 0x02100;
+const _bC__: u32 = 0b00_10_01_00_00;
 
-const _b___: u32 = 0x02000;
+const _b___: u32 = 0b00_10_00_00_00;
 
-const _B___: u32 = 0x01000;
+const _B___: u32 = 0b00_01_00_00_00;
 
-const __C_e: u32 = 0x00102;
+const __C_e: u32 = 0b00_00_01_00_10;
 
-const __C_E: u32 = 0x00101;
+const __C_E: u32 = 0b00_00_01_00_01;
 
-const __C__: u32 = 0x00100;
+const __C__: u32 = 0b00_00_01_00_00;
 
-const ___de: u32 = 0x00022;
+const ___de: u32 = 0b00_00_00_10_10;
 
-const ___dE: u32 = 0x00021;
+const ___dE: u32 = 0b00_00_00_10_01;
 
-const ___d_: u32 = 0x00020;
+const ___d_: u32 = 0b00_00_00_10_00;
 
-const ___D_: u32 = 0x00010;
+const ___D_: u32 = 0b00_00_00_01_00;
 
-const ____e: u32 = 0x00002;
+const ____e: u32 = 0b00_00_00_00_10;
 
-const ____E: u32 = 0x00001;
+const ____E: u32 = 0b00_00_00_00_01;
 
-const _____: u32 = 0x00000;
+const _____: u32 = 0b00_00_00_00_00;
 
 // Rows: the kind of the statement that an edge leaves. Columns: the kind of the statement that it enters.
 const LETTERS: [[u32; KINDS]; KINDS] = [
@@ -78,30 +80,37 @@ const LETTERS: [[u32; KINDS]; KINDS] = [
     [_____, _____, _____, ___d_, ___d_, ___D_, ___D_, _____], // kl
 ];
 
-// The bits of a code that say of a letter that it is certain,
-pub const A: u32 = 0x10000;
+// The bit of a code that says of a letter that it is certain.
+pub const A: u32 = 0b01_00_00_00_00;
 
-pub const B: u32 = 0x01000;
+pub const B: u32 = 0b00_01_00_00_00;
 
-pub const C: u32 = 0x00100;
+pub const C: u32 = 0b00_00_01_00_00;
 
-pub const D: u32 = 0x00010;
+pub const D: u32 = 0b00_00_00_01_00;
 
-pub const E: u32 = 0x00001;
+pub const E: u32 = 0b00_00_00_00_01;
 
-// that some letter is certain,
-pub const CERTAIN: u32 = 0x11111;
+// The bits of a code that say that some letter is certain.
+pub const CERTAIN: u32 = 0b01_01_01_01_01;
 
-// and that it hangs on its sets.
-pub const A_HANGS: u32 = 0x20000;
+// The bit of a code that says of a letter that it hangs on its sets.
+pub const A_HANGS: u32 = 0b10_00_00_00_00;
 
-pub const B_HANGS: u32 = 0x02000;
+pub const B_HANGS: u32 = 0b00_10_00_00_00;
 
-pub const C_HANGS: u32 = 0x00200;
+pub const C_HANGS: u32 = 0b00_00_10_00_00;
 
-pub const D_HANGS: u32 = 0x00020;
+pub const D_HANGS: u32 = 0b00_00_00_10_00;
 
-pub const E_HANGS: u32 = 0x00002;
+pub const E_HANGS: u32 = 0b00_00_00_00_10;
+
+// Four codes of a row are packed in a word, so many bits to each, below this number.
+const PACKED: u64 = 4;
+
+const CODE_BITS: u64 = 16;
+
+const CODES: u64 = 65536;
 
 // The table, as the rules give it.
 fn letters() -> [[u32; KINDS]; KINDS]
@@ -135,25 +144,78 @@ pub fn code_to(codes: &[u32; KINDS], l: StatementKind) -> u32
     codes[kind_number(l) as usize]
 }
 
-// The same of codes that are looked at once: by arms, so that they need not be laid out.
-fn code_in(codes: [u32; KINDS], l: StatementKind) -> u32
-    ensures { λ r. ⌜ r ≡ getD codes (kindNumber l) 0 ⌝ }
+// Four codes in a word.
+fn packed_word(a: u32, b: u32, c: u32, d: u32) -> u64
+    ensures { λ r. ⌜ r ≡ packed a b c d ⌝ }
 {
-    match l {
-        StatementKind::Is => codes[0],
-        StatementKind::Ks => codes[1],
-        StatementKind::Ps => codes[2],
-        StatementKind::Ku => codes[3],
-        StatementKind::Pu => codes[4],
-        StatementKind::Kd => codes[5],
-        StatementKind::Pd => codes[6],
-        StatementKind::Kl => codes[7],
+    a as u64 % CODES
+        + b as u64 % CODES * 65536
+        + c as u64 % CODES * 4294967296
+        + d as u64 % CODES * 281474976710656
+}
+
+// The first four codes of a row.
+fn first_half(row: [u32; KINDS]) -> u64
+    ensures { λ r. ⌜ r ≡ packedFrom row 0 ⌝ }
+{
+    packed_word(row[0], row[1], row[2], row[3])
+}
+
+// The last four.
+fn last_half(row: [u32; KINDS]) -> u64
+    ensures { λ r. ⌜ r ≡ packedFrom row 4 ⌝ }
+{
+    packed_word(row[4], row[5], row[6], row[7])
+}
+
+// The first four codes of a kind that an edge leaves, and the last four: all is known beforehand, so that the compiler keeps eight words of each.
+fn first_codes(k: StatementKind) -> u64
+    ensures { λ r. ⌜ r ≡ packedFrom (codesFrom k) 0 ⌝ }
+{
+    let table = letters();
+    match k {
+        StatementKind::Is => first_half(table[0]),
+        StatementKind::Ks => first_half(table[1]),
+        StatementKind::Ps => first_half(table[2]),
+        StatementKind::Ku => first_half(table[3]),
+        StatementKind::Pu => first_half(table[4]),
+        StatementKind::Kd => first_half(table[5]),
+        StatementKind::Pd => first_half(table[6]),
+        StatementKind::Kl => first_half(table[7]),
     }
 }
 
-// The code of two kinds.
+fn last_codes(k: StatementKind) -> u64
+    ensures { λ r. ⌜ r ≡ packedFrom (codesFrom k) 4 ⌝ }
+{
+    let table = letters();
+    match k {
+        StatementKind::Is => last_half(table[0]),
+        StatementKind::Ks => last_half(table[1]),
+        StatementKind::Ps => last_half(table[2]),
+        StatementKind::Ku => last_half(table[3]),
+        StatementKind::Pu => last_half(table[4]),
+        StatementKind::Kd => last_half(table[5]),
+        StatementKind::Pd => last_half(table[6]),
+        StatementKind::Kl => last_half(table[7]),
+    }
+}
+
+// The half that holds the code of the kind with this number.
+fn half_for(i: u64, first: u64, last: u64) -> u64
+    ensures { λ r. ⌜ r ≡ cond (leb 4 i) last first ⌝ }
+{
+    if PACKED <= i {
+        return last;
+    }
+    first
+}
+
+// The code of two kinds, where it is the only one that is looked up.
 pub fn pair_code(k: StatementKind, l: StatementKind) -> u32
     ensures { λ r. ⌜ r ≡ codeOf k l ⌝ }
 {
-    code_in(codes_from(k), l)
+    let i = kind_number(l);
+    let word = half_for(i, first_codes(k), last_codes(k));
+    ((word >> (i % PACKED * CODE_BITS)) % CODES) as u32
 }

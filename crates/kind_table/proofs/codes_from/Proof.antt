@@ -1,16 +1,9 @@
 -- The table is the one that the rules give, so its row for each kind is that kind's codes.
-use mathlib.Core.List.{List, []}
-use mathlib.Core.Path.{_≡_, ap}
-use Prim.Native.Nat.{ℕ}
-use lib.ListN.{getD}
 use borrow.Author.Needs.{needs}
 use Rattle.kind_table.specs.Codes.{letterTable}
+use Rattle.kind_table.specs.CodeLaws.{row-of}
 use Rattle.kind_table.proofs.codes_from.Statement.{statement}
 use Rattle.kind_table.proofs.codes_from.Tie as tie
-
--- the same row of two tables that agree
-row-of : (i : ℕ) {table : List (List ℕ)} → table ≡ letterTable → getD table i [] ≡ getD letterTable i []
-row-of i e = ap (λ (t : List (List ℕ)). getD t i []) e
 
 returns : tie.Need-returns
 unfolding letterTable

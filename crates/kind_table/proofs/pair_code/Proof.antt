@@ -1,11 +1,23 @@
--- The codes of the first kind have in the place of the second the code of the two (code-right).
+-- The word that holds the code is taken, and the code out of its place in it (code-packed).
 use borrow.Author.Needs.{needs}
-use Rattle.kind_table.specs.CodeLaws.{code-right}
+use Rattle.kind_table.specs.CodeLaws.{code-packed}
 use Rattle.kind_table.proofs.pair_code.Statement.{statement}
 use Rattle.kind_table.proofs.pair_code.Tie as tie
 
 returns : tie.Need-returns
-returns c = code-right _ _ (c .before .codes-from .ensures) (c .code-in .ensures)
+returns c =
+    code-packed _ _ (c .before .before .before .kind-number .ensures) (c .before .before .first-codes .ensures) (c .before .last-codes .ensures)
+    (c .half-for .ensures)
 
 pub pair-code-spec : {M : Type 1} → statement M
-pair-code-spec = tie.close (tie.spec (λ c κs. search needs) (λ c κs. search needs) returns)
+pair-code-spec =
+    tie.close
+    (tie.spec
+    (λ c κs. search needs)
+    (λ c κs. search needs)
+    (λ c κs. search needs)
+    (λ c κs. search needs)
+    (λ c. search needs)
+    (λ c. search needs)
+    (λ c. search needs)
+    returns)
