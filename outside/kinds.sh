@@ -22,9 +22,11 @@ for way in names values; do
         }
         function by_value(code,   out) {
             out = value[code]
-            if (out !~ /^0x[012][012][012][012][012]$/) return " ?"
-            sub(/^0x/, "", out)
-            gsub(/./, " &", out)
+            if (out !~ /^0b(0[01]|10)(_(0[01]|10))(_(0[01]|10))(_(0[01]|10))(_(0[01]|10))$/) return " ?"
+            sub(/^0b/, "_", out)
+            gsub(/_00/, " 0", out)
+            gsub(/_01/, " 1", out)
+            gsub(/_10/, " 2", out)
             return out
         }
         BEGIN { split("is ks ps ku pu kd pd kl", kind); print "from to a b c d e" }

@@ -11,7 +11,8 @@ use Rattle.place_row.specs.RowTable.{rowsOf, tableOf, edgesOfRows}
 use Rattle.place_row.specs.RowTableLaws.{edges-rows, table-rows}
 use Rattle.edge_count.specs.Slots.{tableEdges}
 
-module _ (lines : List Line) (nodes : List Node) (lawful : (n : Node) → List·Memᴰ n nodes → LawfulNode lines n) (few : length (rowsOf nodes) ≤ 512) where
+module _ (lines : List Line) (nodes : List Node) (lawful : (n : Node) → List·Memᴰ n nodes → LawfulNode lines n)
+    (few : length (rowsOf nodes) ≤ 512) where
   -- E5: a table of the rows of lawful nodes has the nodes' edges
   pub table-edges : tableEdges (tableOf (rowsOf nodes)) ≡ E.edgesOf nodes
   unfolding tableEdges

@@ -87,7 +87,7 @@ fn look_at(table: &[u64], slot: usize) -> EdgeStep
         return nothing_to(i * ROW_SLOTS + ROW_SLOTS);
     }
     if slot % 2 == 1 {
-        // A back edge leaves a loose kind alone: the rows of the others need not be fetched.
+        // Only a loose kind has back edges that leave it: for the others no row need be fetched.
         let kind = kind_of(word_at(table, i * ROW_WORDS + KIND));
         if kind_facts(kind) & LOOSE == 0 {
             return nothing_to(slot + 1);

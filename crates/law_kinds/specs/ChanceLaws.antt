@@ -1,7 +1,7 @@
 -- What a chance says of a letter is so: 01's rule over all sets that 01 allows, and sets on two attributes where it hangs on them.
 use mathlib.Core.Bool.{Bool, true, false, cond, not, _&&_, _||_}
-use mathlib.Core.Path.{_≡_, refl, sym, ap, ap₂, _∙_}
-use Prim.Native.Nat.{ℕ, _<_, _^_}
+use mathlib.Core.Path.{_≡_, refl, sym, ap, _∙_}
+use Prim.Native.Nat.{ℕ}
 use native.Mathlib.Omega.{arith}
 use Rattle.spec_base.specs.Basic.{all, meets, within}
 use Rattle.spec_text.specs.declared.Line.{Line}

@@ -1,6 +1,5 @@
 -- Whether a letter can hold between two kinds of statement, over all sets that 01 allows on one relation (Req 04).
 use mathlib.Core.Bool.{Bool, true, false, cond, not, _&&_, _||_}
-use Prim.Native.Nat.{ℕ}
 use lib.Dec.{eqb}
 use Rattle.spec_text.specs.declared.StatementKind.{StatementKind}
 use Rattle.spec_graph.specs.Program.{Statement}

@@ -6,7 +6,7 @@ use mathlib.Core.List.List·Memᴰ.{List·Memᴰ·head, List·Memᴰ·tail}
 use mathlib.Core.Option.{Option, none, some}
 use Prim.Native.Nat.{ℕ, zero, suc, _^_, _≤_, _<_}
 use native.Mathlib.Omega.{arith}
-use borrow.Author.Tests.{eqb-true, eqb-false, leb-true, ltb-true}
+use borrow.Author.Tests.{eqb-false, leb-true, ltb-true}
 use lib.Dec.{eqb, leb, ltb}
 use lib.ListN.{length, getD, List·getD-append}
 use Rattle.spec_base.specs.Basic.{keep, count, within}
@@ -16,7 +16,7 @@ use Rattle.spec_text.specs.declared.Line.{Line}
 use Rattle.spec_text.specs.declared.LineKind.{LineKind}
 use Rattle.spec_text.specs.declared.LineKind.the-variants.{Rl, Fk, Pr, St, Lo, Br, El, En, Li}
 use Rattle.spec_text.specs.declared.StatementKind.{StatementKind}
-use Rattle.spec_text.specs.declared.StatementKind.the-variants.{Is, Kd, Pd}
+use Rattle.spec_text.specs.declared.StatementKind.the-variants.{}
 use Rattle.spec_text.specs.Text.{same, linesIn, namesLine, formsOf, lineOf, unusedLine}
 use Rattle.law_text.specs.TextLaws.{fits, allFit, valuesIn, lineFits, line-fits}
 use Rattle.spec_text.specs.Reading.{sort, isRelation, isStatement, program, relation, relationSet, withinBounds, noneOpen, ordered}

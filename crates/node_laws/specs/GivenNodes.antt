@@ -1,20 +1,19 @@
 -- What the nodes of an accepted workload have in common: the numbers that their lines name are small and there, and their sets are those of T9.
 -- Each line of the text passed its tests; a node's places stand on statement lines, its links on `li` lines.
 use mathlib.Core.Path.{_≡_, refl, ap, subst}
-use mathlib.Core.Bool.{true, false, not, _&&_, _||_}
+use mathlib.Core.Bool.{true, false}
 use mathlib.Core.List.{List, [], _∷_, _++_, List·Memᴰ}
 use Prim.Native.Nat.{ℕ, _+_, _<_, _^_}
 use native.Mathlib.Omega.{arith}
-use lib.Dec.{eqb}
-use borrow.Author.Tests.{eqb-true, eqb-false, ltb-true, not-true}
-use Rattle.spec_base.specs.Basic.{any, count, within}
-use Rattle.law_base.specs.BoolLaws.{and-true, true-false}
+use borrow.Author.Tests.{eqb-true, ltb-true}
+use Rattle.spec_base.specs.Basic.{any, count}
+use Rattle.law_base.specs.BoolLaws.{and-true}
 use Rattle.law_base.specs.ListLaws.{member-split, count-append, getElem?-member}
 use Rattle.spec_text.specs.declared.Line.{Line}
 use Rattle.spec_text.specs.declared.LineKind.the-variants.{St, Li}
 use Rattle.spec_text.specs.declared.StatementKind.{StatementKind}
 use Rattle.spec_text.specs.declared.Workload.{Workload}
-use Rattle.spec_text.specs.Reading.{sort, isRelation, isKey, isProgram, isStatement, isStatementOf, program, relationSet, kindSets}
+use Rattle.spec_text.specs.Reading.{sort, isRelation, isKey, isProgram, isStatement, isStatementOf, program, relationSet}
 use Rattle.spec_text.specs.Reading.{inBody, withinBounds, ordered, named, read}
 use Rattle.spec_text.specs.Reading.Outcome.{accepted}
 use Rattle.spec_text.specs.Value.{Given, linesOf}

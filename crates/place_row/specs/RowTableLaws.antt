@@ -21,7 +21,8 @@ use Rattle.spec_graph.specs.Graph.{Flow}
 use Rattle.spec_graph.specs.Program.{Link}
 use Rattle.spec_graph.specs.Unfolding.{Node, Occurrence}
 use Rattle.spec_graph.specs.Edge.{hasTests, selects, loosens}
-use Rattle.spec_graph.specs.Edge.{Letter, Place, at, holds, sameRelation, hasParent, guardedNear, guardedFar, shielded, forward, back, letterOf, shared}
+use Rattle.spec_graph.specs.Edge.{Letter, Place, at, holds, sameRelation, hasParent, guardedNear, guardedFar, shielded}
+use Rattle.spec_graph.specs.Edge.{forward, back, letterOf, shared}
 use Rattle.spec_graph.specs.Edge.{edgeOf, edgesBetween, placesFrom, placesOf, edgesOf}
 use Rattle.spec_graph.specs.Edge.Letter.{A, B, C, D, E}
 use Rattle.spec_text.specs.declared.Line.{Line}
@@ -34,7 +35,8 @@ use Rattle.node_laws.specs.GivenNodes.{LawfulStatement, LawfulNode}
 use Rattle.edge_kinds.specs.KindLaws.{kindOf-number}
 use Rattle.place_row.specs.declared.Row.{Row}
 use Rattle.place_row.specs.KeyWord.{farIn, far-packed, near-packed}
-use Rattle.place_row.specs.RowTable.{wordOf, rowOf, rowsOf, rowHolds, rowForward, rowBack, rowLetter, rowShared, rowEdge, rowEdges, edgesOfRows}
+use Rattle.place_row.specs.RowTable.{wordOf, rowOf, rowsOf, rowHolds, rowShared, rowForward, rowBack, rowLetter, rowEdge, rowEdges}
+use Rattle.place_row.specs.RowTable.{edgesOfRows}
 use Rattle.place_row.specs.RowTable.{kindNumber, kindOf, wordsOf, tableOf, rowAt, rowCount, tableRows}
 
 -- ---- words from tests

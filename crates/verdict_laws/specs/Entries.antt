@@ -224,7 +224,8 @@ module _ (nodes : List Node) where
                   ap (λ (p : Row). p .node) (a .2) ∙ f .leaves,
                   ap (λ (p : Row). p .node) (b .2) ∙ f .enters,
                   a .1,
-                  ends-edge flow (a .0) (b .0) (a .1) (b .1) ∙ stands-rows flow (a .0) (b .0) (a .1) (b .1) ∙ ap₂ (rowStands flow) (a .2) (b .2) ∙ f .passes,
+                  ends-edge flow (a .0) (b .0) (a .1) (b .1) ∙ stands-rows flow (a .0) (b .0) (a .1) (b .1)
+                      ∙ ap₂ (rowStands flow) (a .2) (b .2) ∙ f .passes,
                   here ∙ f .same ∙ sym (ap₂ code (a .2) (b .2)),
                 )
 

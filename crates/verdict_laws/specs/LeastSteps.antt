@@ -48,7 +48,8 @@ module _ (nodes : List Node) (few : length nodes ≤ 64) (statements : statement
       edge =
           sym (ap₂ (λ (u i : ℕ). graphOf nodes .edge u i (b .0 .number) (b .0 .place) (s .flow)) node place
           ∙ ap (λ (q : Row). graphOf nodes .edge x (s .p .place) (q .node) (q .place) (s .flow)) (b .2))
-          ∙ ends-edge nodes (s .flow) (a .0) (b .0) (a .1) (b .1) ∙ stands-rows nodes few statements lines lawful (s .flow) (a .0) (b .0) (a .1) (b .1)
+          ∙ ends-edge nodes (s .flow) (a .0) (b .0) (a .1) (b .1)
+          ∙ stands-rows nodes few statements lines lawful (s .flow) (a .0) (b .0) (a .1) (b .1)
           ∙ ap₂ (rowStands (s .flow)) (a .2) (b .2) ∙ s .stands
 
       loose : graphOf nodes .loose x (s .p .place) ≡ loosens (s .p .kind)

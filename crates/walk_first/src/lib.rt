@@ -1,9 +1,9 @@
 // The first dangerous closed walk among at most 64 nodes (Req 01): the fewest steps, then the least list of steps. `table` has the places of the
 // nodes, `forwards` and `backs` the words of the edge that stands for all of its flow between two nodes (edge_word), `nodes` the nodes that count.
 //
-// How many steps it has is told by the shortest way back from where a dangerous pair leads (walk_return), where it starts by which nodes are on such a
-// walk (walk_ways, walk_lead). Then the least step that can be completed is taken again and again (walk_ways, walk_wide, walk_need,
-// walk_limit, walk_step).
+// How many steps it has is told by the shortest way back from where a dangerous pair leads (walk_return), where it starts by which nodes are on such
+// a walk (walk_ways, walk_lead). Then the least step that can be completed is taken again and again (walk_ways, walk_wide, walk_need, walk_limit,
+// walk_step).
 
 use edge_word::NODES;
 use edge_word::PAIRS;

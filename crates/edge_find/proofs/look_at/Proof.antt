@@ -19,16 +19,19 @@ returns : tie.Need-returns
 returns c = looked-end _ _ (c .before .before .before .pre) _ (c .before .if1 .taken) (c .nothing-to .ensures)
 
 returns-2 : tie.Need-returns-2
-returns-2 c = looked-past _ _ (c .before .before .before .before .pre) (c .before .before .if1 .left) _ (c .before .if2 .taken) (c .nothing-to2 .ensures)
+returns-2 c =
+    looked-past _ _ (c .before .before .before .before .pre) (c .before .before .if1 .left) _ (c .before .if2 .taken) (c .nothing-to2 .ensures)
 
 returns-3 : tie.Need-returns-3
 unfolding rowAt
 returns-3 c =
     let kind = c .before .before .before .kind-of in
     let firm = bit-clear (rw (c .before .before .kind-facts .ensures) at (c .before .if4 .taken)) (told (kind .result) .loosens) in
-    let odd = c .before .before .before .before .before .if3 .taken in
-    looked-firm _ _ (c .before .before .before .before .before .before .before .before .before .pre) (c .before .before .before .before .before .before .before .if1 .left) _ (c .before .before .before .before .before .before .if2 .left) (λ e. omega arith)
-    (sym (ap (λ (k : StatementKind). loosens k) (kind .ensures ∙ ap kindOf (c .before .before .before .before .word-at .ensures))) ∙ firm) (c .nothing-to3 .ensures)
+    let c5 = c .before .before .before .before .before in
+    let odd = c5 .if3 .taken in
+    let same = kind .ensures ∙ ap kindOf (c .before .before .before .before .word-at .ensures) in
+    looked-firm _ _ (c5 .before .before .before .before .pre) (c5 .before .before .if1 .left) _ (c5 .before .if2 .left) (λ e. omega arith)
+    (sym (ap (λ (k : StatementKind). loosens k) same) ∙ firm) (c .nothing-to3 .ensures)
 
 returns-4 : tie.Need-returns-4
 returns-4 c =
@@ -39,17 +42,19 @@ returns-4 c =
 returns-5 : tie.Need-returns-5
 returns-5 c =
     let even = c .before .before .if6 .taken in
-    let first = c .before .before .before .before .before .before .before .before in
+    let second = c .before .before .before .before .before .before .before in
+    let first = second .before in
     looked-forward _ _ (first .before .before .before .before .before .pre) (first .before .before .before .if1 .left) _ _ _ _
-    (first .before .before .if2 .left) (first .row-at .ensures) (c .before .before .before .before .before .before .before .row-at2 .ensures) (omega arith)
+    (first .before .before .if2 .left) (first .row-at .ensures) (second .row-at2 .ensures) (omega arith)
     (c .before .forward-letter .ensures ∙ letter-told _ _ (c .before .before .before .pair-code .ensures) G.Flow.forward) (c .step-with .ensures)
 
 returns-6 : tie.Need-returns-6
 returns-6 c =
     let odd = c .before .before .if6 .left in
-    let first = c .before .before .before .before .before .before .before .before in
+    let second = c .before .before .before .before .before .before .before in
+    let first = second .before in
     looked-back _ _ (first .before .before .before .before .before .pre) (first .before .before .before .if1 .left) _ _ _ _
-    (first .before .before .if2 .left) (first .row-at .ensures) (c .before .before .before .before .before .before .before .row-at2 .ensures) (λ e. odd e)
+    (first .before .before .if2 .left) (first .row-at .ensures) (second .row-at2 .ensures) (λ e. odd e)
     (c .before .back-letter .ensures ∙ letter-told _ _ (c .before .before .before .pair-code .ensures) G.Flow.back) (c .step-with2 .ensures)
 
 pub look-at-spec : {M : Type 1} → statement M

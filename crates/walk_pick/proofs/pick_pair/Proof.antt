@@ -1,5 +1,5 @@
--- The edges are counted by whether they stand, which the code of the two kinds tells (forward-told, back-told). Where both rows have entries the words are kept at the pair of their nodes (pair-in); else the
--- tables stay (left-out, right-out).
+-- The edges are counted by whether they stand, which the code of the two kinds tells (forward-told, back-told). Where both rows have entries the
+-- words are kept at the pair of their nodes (pair-in); else the tables stay (left-out, right-out).
 use Rattle.edge_test.specs.LetterLaws.{forward-told, back-told}
 use Rattle.walk_pick.specs.PairLaws.{entries-small, left-out, right-out, pair-in}
 use native.Mathlib.Omega.{arith}

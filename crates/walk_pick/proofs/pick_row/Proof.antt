@@ -26,7 +26,8 @@ row-at-requires-2 : tie.Need-row-at-requires-2 Inv-loop μ-loop
 row-at-requires-2 c κs = search needs
 
 pick-pair-requires : tie.Need-pick-pair-requires Inv-loop μ-loop
-pick-pair-requires c κs = code-right _ _ (c .before .before .before .before .before .before .before .codes-from .ensures) (c .before .before .code-to .ensures)
+pick-pair-requires c κs =
+    code-right _ _ (c .before .before .before .before .before .before .before .codes-from .ensures) (c .before .before .code-to .ensures)
 
 add-edges : tie.Need-add-edges Inv-loop μ-loop
 add-edges c =
@@ -51,10 +52,9 @@ loop-less : tie.Need-loop-less Inv-loop μ-loop
 loop-less c = search needs
 
 loop-again : tie.Need-loop-again Inv-loop μ-loop
-loop-again c = (
-  omega arith,
-  row-turn _ _ _ _ (c .before .before .before .before .before .before .before .row-at2 .ensures) (c .before .before .before .before .before .before .before .before .before .loop .inv .1) (c .before .before .pick-pair .ensures),
-)
+loop-again c =
+    let row = c .before .before .before .before .before .before .before in
+    (omega arith, row-turn _ _ _ _ (row .row-at2 .ensures) (row .before .before .loop .inv .1) (c .before .before .pick-pair .ensures))
 
 returns : tie.Need-returns Inv-loop μ-loop
 returns c =

@@ -19,12 +19,14 @@ back-counts-requires c κs = search (needs, c .before .before .pair-code .ensure
 
 returns-3 : tie.Need-returns-3
 returns-3 c =
-    counted-back _ _ _ _ (c .before .before .before .before .forward-counts .ensures) (c .before .before .back-counts .ensures) (c .before .before .before .if2 .left) (c .before .if3 .taken)
-    (c .step-word2 .ensures)
+    let back = c .before .before in
+    counted-back _ _ _ _ (back .before .before .forward-counts .ensures) (back .back-counts .ensures) (back .before .if2 .left)
+    (c .before .if3 .taken) (c .step-word2 .ensures)
 
 returns-4 : tie.Need-returns-4
 returns-4 c =
-    counted-none _ _ _ _ (c .before .before .before .forward-counts .ensures) (c .before .back-counts .ensures) (c .before .before .if2 .left) (c .if3 .left)
+    let back = c .before in
+    counted-none _ _ _ _ (back .before .before .forward-counts .ensures) (back .back-counts .ensures) (back .before .if2 .left) (c .if3 .left)
 
 pub counted-step-spec : {M : Type 1} → statement M
 counted-step-spec =
