@@ -16,7 +16,6 @@ use Rattle.spec_text.specs.declared.Line.{Line}
 use Rattle.spec_text.specs.declared.LineKind.{LineKind}
 use Rattle.spec_text.specs.declared.LineKind.the-variants.{Rl, Fk, Pr, St, Lo, Br, El, En, Li}
 use Rattle.spec_text.specs.declared.StatementKind.{StatementKind}
-use Rattle.spec_text.specs.declared.StatementKind.the-variants.{}
 use Rattle.spec_text.specs.Text.{same, linesIn, namesLine, formsOf, lineOf, unusedLine}
 use Rattle.law_text.specs.TextLaws.{fits, allFit, valuesIn, lineFits, line-fits}
 use Rattle.spec_text.specs.Reading.{sort, isRelation, isStatement, program, relation, relationSet, withinBounds, noneOpen, ordered}
