@@ -1,6 +1,8 @@
-//! The workloads that are timed: small, middle and largest (64 nodes, 512 statements, every pair of places an edge; robust and danger).
+//! The workloads that are timed: small, middle, largest (64 nodes, 512 statements, every pair of places an edge; robust and danger), kinds mixed, and
+//! texts at their bounds.
 
 use crate::lines::*;
+use crate::random::Random;
 use crate::workload::*;
 
 pub struct Timed {
@@ -17,6 +19,8 @@ pub fn timed() -> Vec<Timed> {
         of("largest robust, back edges", &selects_and_updates()),
         of("largest danger", &largest(|_, id| statement(PU, id, 0, 3, 3, 3))),
         of("largest danger, last", &largest(late_danger)),
+        of("mixed kinds", &mixed_kinds(1)),
+        of("mixed kinds, 4 relations", &mixed_kinds(4)),
         of("most lines", &most_lines()),
         of("most bytes", &most_bytes()),
     ]
@@ -62,6 +66,24 @@ fn largest(make: impl Fn(usize, usize) -> Line) -> Vec<Line> {
             lines.extend([plain(BR, 0), make(program, 2 * branch), plain(EL, 0), make(program, 2 * branch + 1), plain(EN, 0)]);
         }
         lines.extend((4..10).map(|id| make(program, id)));
+    }
+    lines
+}
+
+/// 16 programs of 32 statements of all kinds, drawn at random, over so many relations of eight attributes.
+fn mixed_kinds(relations: usize) -> Vec<Line> {
+    let mut random = Random::new(7);
+    let mut lines: Vec<Line> = (0..relations).map(|id| relation(id, 0xff)).collect();
+    for program in 0..16 {
+        lines.push(plain(PR, program));
+        for id in 0..32 {
+            let kind = [IS, KS, PS, KU, PU, KD, PD, KL][random.below(8)];
+            let over = random.below(relations);
+            let mut some = || random.word() & random.word() & 0xff;
+            let reads = some() | u64::from(kind == KS || kind == KL);
+            let writes = if matches!(kind, IS | KD | PD) { 0xff } else { some() | 1 };
+            lines.push(statement(kind, id, over, reads, writes, some()));
+        }
     }
     lines
 }

@@ -40,11 +40,11 @@ fn letter_holds(code: u32, certain: u32, hangs: u32, a: u64, b: u64) -> bool
 fn first_letter(code: u32, p: Row, q: Row) -> u8
     ensures { λ r. ⌜ r ≡ firstBy (toldBetween code p q) ⌝ }
 {
-    if code == 0 {
-        return 0;
-    }
     if letter_holds(code, A, A_HANGS, p.writes, q.writes) {
         return b'A';
+    }
+    if code == 0 {
+        return 0;
     }
     if letter_holds(code, B, B_HANGS, p.writes, q.reads) {
         return b'B';

@@ -1,4 +1,4 @@
--- A code of 0 tells no letter. Else the letters are asked in turn, and the first that holds is the letter.
+-- The letters are asked in turn, and the first that holds is the letter; a code of 0 tells none.
 use mathlib.Core.Bool.{Bool}
 use mathlib.Core.Path.{_≡_, refl, sym, _∙_}
 use borrow.Author.Needs.{needs}
@@ -9,17 +9,13 @@ use Rattle.edge_test.specs.Letters.{toldBetween}
 use Rattle.edge_test.proofs.first_letter.Statement.{statement}
 use Rattle.edge_test.proofs.first_letter.Tie as tie
 
-returns : tie.Need-returns
-unfolding toldBetween
-returns c = rw (c .if1 .taken) refl
-
 -- which letters the code tells
 abbrev holds : tie.Start → Letter → Bool
 holds c = toldBetween (c .args .code) (c .args .p) (c .args .q)
 
 -- what was answered for each letter
 at-a : (c : tie.After-letter-holds) {is : Bool} → c .letter-holds .result ≡ is
-    → holds (c .before .before) A ≡ is
+    → holds (c .before) A ≡ is
 unfolding toldBetween rowShared
 at-a c is = sym (c .letter-holds .ensures) ∙ is
 
@@ -43,23 +39,27 @@ at-e : (c : tie.After-letter-holds5) {is : Bool} → c .letter-holds5 .result �
 unfolding toldBetween rowShared
 at-e c is = sym (c .letter-holds5 .ensures) ∙ is
 
+returns : tie.Need-returns
+returns c = simp (at-a (c .before) (c .if1 .taken))
+
 returns-2 : tie.Need-returns-2
-returns-2 c = simp (at-a (c .before) (c .if2 .taken))
+unfolding toldBetween
+returns-2 c = rw (c .if2 .taken) refl
 
 returns-3 : tie.Need-returns-3
 returns-3 c =
-    let ca = c .before .before in
+    let ca = c .before .before .before in
     simp (
-      at-a (ca .before) (ca .if2 .left),
+      at-a (ca .before) (ca .if1 .left),
       at-b (c .before) (c .if3 .taken),
     )
 
 returns-4 : tie.Need-returns-4
 returns-4 c =
     let cb = c .before .before in
-    let ca = cb .before .before in
+    let ca = cb .before .before .before in
     simp (
-      at-a (ca .before) (ca .if2 .left),
+      at-a (ca .before) (ca .if1 .left),
       at-b (cb .before) (cb .if3 .left),
       at-c (c .before) (c .if4 .taken),
     )
@@ -68,9 +68,9 @@ returns-5 : tie.Need-returns-5
 returns-5 c =
     let cc = c .before .before in
     let cb = cc .before .before in
-    let ca = cb .before .before in
+    let ca = cb .before .before .before in
     simp (
-      at-a (ca .before) (ca .if2 .left),
+      at-a (ca .before) (ca .if1 .left),
       at-b (cb .before) (cb .if3 .left),
       at-c (cc .before) (cc .if4 .left),
       at-d (c .before) (c .if5 .taken),
@@ -81,9 +81,9 @@ returns-6 c =
     let cd = c .before .before in
     let cc = cd .before .before in
     let cb = cc .before .before in
-    let ca = cb .before .before in
+    let ca = cb .before .before .before in
     simp (
-      at-a (ca .before) (ca .if2 .left),
+      at-a (ca .before) (ca .if1 .left),
       at-b (cb .before) (cb .if3 .left),
       at-c (cc .before) (cc .if4 .left),
       at-d (cd .before) (cd .if5 .left),
@@ -95,9 +95,9 @@ returns-7 c =
     let cd = c .before .before in
     let cc = cd .before .before in
     let cb = cc .before .before in
-    let ca = cb .before .before in
+    let ca = cb .before .before .before in
     simp (
-      at-a (ca .before) (ca .if2 .left),
+      at-a (ca .before) (ca .if1 .left),
       at-b (cb .before) (cb .if3 .left),
       at-c (cc .before) (cc .if4 .left),
       at-d (cd .before) (cd .if5 .left),
@@ -108,8 +108,8 @@ pub first-letter-spec : {M : Type 1} → statement M
 first-letter-spec =
     tie.close
     (tie.spec
-    returns
     (λ c κs. search needs)
+    returns
     returns-2
     (λ c κs. search needs)
     returns-3
