@@ -20,7 +20,9 @@ use Rattle.law_kinds.specs.Chances.{Chance, chanceOf, told}
 use Rattle.law_kinds.specs.Chances.Chance.{impossible, certain, hanging}
 use Rattle.law_kinds.specs.ChanceLaws.{Means, chance-means}
 use Rattle.edge_kinds.specs.Kinds.{kindNumber}
-use Rattle.kind_table.specs.Codes.{digitOf, certainBit, hangingBit, codeOf, codesFrom, letterTable, chanceIn, toldIn, packedFrom}
+use Rattle.kind_table.specs.Codes.{digitOf, certainBit, hangingBit, codeOf, codesFrom, letterTable, chanceIn, toldIn}
+use Rattle.kind_table.specs.declared.Halves.{Halves}
+use Rattle.kind_table.specs.Packed.{halvesOf}
 
 -- ---- what a code tells
 
@@ -95,13 +97,15 @@ code-right k l e f = f ∙ ap (λ (c : List ℕ). getD c (kindNumber l) 0) e ∙
     entry k l = eqb-true _ _ (every-pair (λ k l. eqb (getD (codesFrom k) (kindNumber l) 0) (codeOf k l)) refl k l)
 
 -- so it does where the codes are packed, four in a word
-pub code-packed : (k l : StatementKind) {i word first last : ℕ} → i ≡ kindNumber l → first ≡ packedFrom (codesFrom k) 0
-    → last ≡ packedFrom (codesFrom k) 4 → word ≡ cond (leb 4 i) last first → word / 2 ^ (i % 4 * 16) % 65536 ≡ codeOf k l
+pub code-packed : (k l : StatementKind) {i word : ℕ} {halves : Halves} → i ≡ kindNumber l → halves ≡ halvesOf (codesFrom k)
+    → word ≡ cond (leb 4 i) (halves .last) (halves .first) → word / 2 ^ (i % 4 * 16) % 65536 ≡ codeOf k l
 unfolding codesFrom codeOf chanceOf
-code-packed k l place first last word = rw (word, place, first, last) (entry k l)
+code-packed k l place row word = rw (word, place, row) (entry k l)
   where
     codeAt : StatementKind → StatementKind → ℕ
-    codeAt k l = cond (leb 4 (kindNumber l)) (packedFrom (codesFrom k) 4) (packedFrom (codesFrom k) 0) / 2 ^ (kindNumber l % 4 * 16) % 65536
+    codeAt k l =
+        let halves = halvesOf (codesFrom k) in
+        cond (leb 4 (kindNumber l)) (halves .last) (halves .first) / 2 ^ (kindNumber l % 4 * 16) % 65536
 
     entry : (k l : StatementKind) → codeAt k l ≡ codeOf k l
     entry k l = eqb-true _ _ (every-pair (λ k l. eqb (codeAt k l) (codeOf k l)) refl k l)

@@ -2,7 +2,6 @@
 use mathlib.Core.Bool.{Bool, cond, _&&_, _||_}
 use mathlib.Core.List.{List, map}
 use Prim.Native.Nat.{ℕ, _+_, _*_, _%_}
-use lib.ListN.{getD}
 use Rattle.spec_base.specs.Basic.{meets}
 use Rattle.spec_text.specs.declared.StatementKind.{StatementKind}
 use Rattle.spec_graph.specs.Edge.{Letter}
@@ -55,7 +54,3 @@ toldIn code x meet = meets code (certainBit x) || meets code (hangingBit x) && m
 -- four codes in a word, sixteen bits to each
 abbrev pub packed : ℕ → ℕ → ℕ → ℕ → ℕ
 packed a b c d = a % 65536 + b % 65536 * 65536 + c % 65536 * 4294967296 + d % 65536 * 281474976710656
-
--- four of a row's codes, from place j on
-abbrev pub packedFrom : List ℕ → ℕ → ℕ
-packedFrom row j = packed (getD row j 0) (getD row (j + 1) 0) (getD row (j + 2) 0) (getD row (j + 3) 0)

@@ -6,7 +6,8 @@ ghost use mathlib.Core.Path.{_≡_};
 ghost use lib.Dec.{leb};
 ghost use lib.ListN.{getD};
 ghost use Rattle.edge_kinds.specs.Kinds.{kindNumber};
-ghost use Rattle.kind_table.specs.Codes.{codeOf, codesFrom, letterTable, packed, packedFrom};
+ghost use Rattle.kind_table.specs.Codes.{codeOf, codesFrom, letterTable, packed};
+ghost use Rattle.kind_table.specs.Packed.{halvesOf};
 use edge_kinds::kind_number;
 
 // How many kinds there are: so many rows, and so many codes in each.
@@ -154,50 +155,35 @@ fn packed_word(a: u32, b: u32, c: u32, d: u32) -> u64
         + d as u64 % CODES * 281474976710656
 }
 
-// The first four codes of a row.
-fn first_half(row: [u32; KINDS]) -> u64
-    ensures { λ r. ⌜ r ≡ packedFrom row 0 ⌝ }
-{
-    packed_word(row[0], row[1], row[2], row[3])
+// The codes of a row in two words.
+struct Halves {
+    first: u64,
+    last: u64,
 }
 
-// The last four.
-fn last_half(row: [u32; KINDS]) -> u64
-    ensures { λ r. ⌜ r ≡ packedFrom row 4 ⌝ }
+fn halves_of(row: [u32; KINDS]) -> Halves
+    ensures { λ r. ⌜ r ≡ halvesOf row ⌝ }
 {
-    packed_word(row[4], row[5], row[6], row[7])
-}
-
-// The first four codes of a kind that an edge leaves, and the last four: all is known beforehand, so that the compiler keeps eight words of each.
-fn first_codes(k: StatementKind) -> u64
-    ensures { λ r. ⌜ r ≡ packedFrom (codesFrom k) 0 ⌝ }
-{
-    let table = letters();
-    match k {
-        StatementKind::Is => first_half(table[0]),
-        StatementKind::Ks => first_half(table[1]),
-        StatementKind::Ps => first_half(table[2]),
-        StatementKind::Ku => first_half(table[3]),
-        StatementKind::Pu => first_half(table[4]),
-        StatementKind::Kd => first_half(table[5]),
-        StatementKind::Pd => first_half(table[6]),
-        StatementKind::Kl => first_half(table[7]),
+    Halves {
+        first: packed_word(row[0], row[1], row[2], row[3]),
+        last: packed_word(row[4], row[5], row[6], row[7]),
     }
 }
 
-fn last_codes(k: StatementKind) -> u64
-    ensures { λ r. ⌜ r ≡ packedFrom (codesFrom k) 4 ⌝ }
+// The codes of a kind that an edge leaves in two words: all is known beforehand, so that the compiler keeps the words of the eight kinds.
+fn halves_from(k: StatementKind) -> Halves
+    ensures { λ r. ⌜ r ≡ halvesOf (codesFrom k) ⌝ }
 {
     let table = letters();
     match k {
-        StatementKind::Is => last_half(table[0]),
-        StatementKind::Ks => last_half(table[1]),
-        StatementKind::Ps => last_half(table[2]),
-        StatementKind::Ku => last_half(table[3]),
-        StatementKind::Pu => last_half(table[4]),
-        StatementKind::Kd => last_half(table[5]),
-        StatementKind::Pd => last_half(table[6]),
-        StatementKind::Kl => last_half(table[7]),
+        StatementKind::Is => halves_of(table[0]),
+        StatementKind::Ks => halves_of(table[1]),
+        StatementKind::Ps => halves_of(table[2]),
+        StatementKind::Ku => halves_of(table[3]),
+        StatementKind::Pu => halves_of(table[4]),
+        StatementKind::Kd => halves_of(table[5]),
+        StatementKind::Pd => halves_of(table[6]),
+        StatementKind::Kl => halves_of(table[7]),
     }
 }
 
@@ -216,6 +202,7 @@ pub fn pair_code(k: StatementKind, l: StatementKind) -> u32
     ensures { λ r. ⌜ r ≡ codeOf k l ⌝ }
 {
     let i = kind_number(l);
-    let word = half_for(i, first_codes(k), last_codes(k));
+    let halves = halves_from(k);
+    let word = half_for(i, halves.first, halves.last);
     ((word >> (i % PACKED * CODE_BITS)) % CODES) as u32
 }

@@ -6,14 +6,12 @@ use Rattle.kind_table.proofs.pair_code.Tie as tie
 
 returns : tie.Need-returns
 returns c =
-    code-packed _ _ (c .before .before .before .kind-number .ensures) (c .before .before .first-codes .ensures) (c .before .last-codes .ensures)
-    (c .half-for .ensures)
+    code-packed _ _ (c .before .before .kind-number .ensures) (c .before .halves-from .ensures) (c .half-for .ensures)
 
 pub pair-code-spec : {M : Type 1} → statement M
 pair-code-spec =
     tie.close
     (tie.spec
-    (λ c κs. search needs)
     (λ c κs. search needs)
     (λ c κs. search needs)
     (λ c κs. search needs)
