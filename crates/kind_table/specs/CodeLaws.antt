@@ -12,15 +12,18 @@ use Rattle.spec_base.specs.Basic.{has, meets}
 use Rattle.spec_text.specs.declared.StatementKind.{StatementKind}
 use Rattle.spec_graph.specs.Edge.{Letter}
 use Rattle.spec_graph.specs.Edge.Letter.{A, B, C, D, E}
+use Rattle.spec_kinds.specs.declared.Chance.{Chance}
+use Rattle.spec_kinds.specs.declared.Chance.the-variants.{Impossible, Certain, Hanging}
+use Rattle.spec_kinds.specs.Meaning.{Means}
+use Rattle.spec_kinds.specs.Table.{digitOf}
 use Rattle.law_base.specs.BoolLaws.{or-true, or-left, or-right, implied}
 use Rattle.law_base.specs.ListLaws.{all-numbers}
 use Rattle.law_base.specs.SetLaws.{has-below, meets-has, has-meets}
 use Rattle.law_kinds.specs.EveryKind.{every-pair, every-entry}
-use Rattle.law_kinds.specs.Chances.{Chance, chanceOf, told}
-use Rattle.law_kinds.specs.Chances.Chance.{impossible, certain, hanging}
-use Rattle.law_kinds.specs.ChanceLaws.{Means, chance-means}
+use Rattle.law_kinds.specs.Chances.{chanceOf, told}
+use Rattle.law_kinds.specs.ChanceLaws.{chance-means}
 use Rattle.edge_kinds.specs.Kinds.{kindNumber}
-use Rattle.kind_table.specs.Codes.{digitOf, certainBit, hangingBit, codeOf, codesFrom, letterTable, chanceIn, toldIn}
+use Rattle.kind_table.specs.Codes.{certainBit, hangingBit, codeOf, codesFrom, letterTable, chanceIn, toldIn}
 use Rattle.kind_table.specs.declared.Halves.{Halves}
 use Rattle.kind_table.specs.Packed.{halvesOf}
 
@@ -34,15 +37,15 @@ chance-right x k l =
     (eqb-true _ _ (every-entry (λ x k l. eqb (digitOf (chanceIn (codeOf k l) x)) (digitOf (chanceOf x k l))) refl x k l))
   where
     same : (a b : Chance) → digitOf a ≡ digitOf b → a ≡ b
-    same impossible impossible e = refl
-    same certain certain e = refl
-    same hanging hanging e = refl
-    same impossible certain e = absurd (omega arith)
-    same impossible hanging e = absurd (omega arith)
-    same certain impossible e = absurd (omega arith)
-    same certain hanging e = absurd (omega arith)
-    same hanging impossible e = absurd (omega arith)
-    same hanging certain e = absurd (omega arith)
+    same Impossible Impossible e = refl
+    same Certain Certain e = refl
+    same Hanging Hanging e = refl
+    same Impossible Certain e = absurd (omega arith)
+    same Impossible Hanging e = absurd (omega arith)
+    same Certain Impossible e = absurd (omega arith)
+    same Certain Hanging e = absurd (omega arith)
+    same Hanging Impossible e = absurd (omega arith)
+    same Hanging Certain e = absurd (omega arith)
 
 -- Req 04: it says what is so, over all sets that 01 allows
 pub code-means : (x : Letter) (k l : StatementKind) → Means x k l (chanceIn (codeOf k l) x)
@@ -53,7 +56,7 @@ pub code-told : (x : Letter) (k l : StatementKind) (meet : Bool) → toldIn (cod
 code-told x k l meet =
     both (meets (codeOf k l) (certainBit x)) (meets (codeOf k l) (hangingBit x)) ∙ ap (λ (c : Chance). told c meet) (chance-right x k l)
   where
-    both : (a b : Bool) → a || b && meet ≡ told (cond a certain (cond b hanging impossible)) meet
+    both : (a b : Bool) → a || b && meet ≡ told (cond a Certain (cond b Hanging Impossible)) meet
     both true b = refl
     both false true = refl
     both false false = refl

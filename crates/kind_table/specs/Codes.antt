@@ -6,15 +6,10 @@ use Rattle.spec_base.specs.Basic.{meets}
 use Rattle.spec_text.specs.declared.StatementKind.{StatementKind}
 use Rattle.spec_graph.specs.Edge.{Letter}
 use Rattle.spec_graph.specs.Edge.Letter.{A, B, C, D, E}
-use Rattle.law_kinds.specs.EveryKind.{kinds}
-use Rattle.law_kinds.specs.Chances.{Chance, chanceOf}
-use Rattle.law_kinds.specs.Chances.Chance.{impossible, certain, hanging}
-
--- the digit of a chance
-abbrev pub digitOf : Chance → ℕ
-digitOf impossible = 0
-digitOf certain = 1
-digitOf hanging = 2
+use Rattle.spec_kinds.specs.declared.Chance.{Chance}
+use Rattle.spec_kinds.specs.declared.Chance.the-variants.{Impossible, Certain, Hanging}
+use Rattle.spec_kinds.specs.Table.{kinds, digitOf}
+use Rattle.law_kinds.specs.Chances.{chanceOf}
 
 -- the bit of a letter that is certain: what its digit counts
 abbrev pub certainBit : Letter → ℕ
@@ -45,7 +40,7 @@ letterTable = map codesFrom kinds
 
 -- what a code, any number, says of a letter
 abbrev pub chanceIn : ℕ → Letter → Chance
-chanceIn code x = cond (meets code (certainBit x)) certain (cond (meets code (hangingBit x)) hanging impossible)
+chanceIn code x = cond (meets code (certainBit x)) Certain (cond (meets code (hangingBit x)) Hanging Impossible)
 
 -- whether a letter is told to hold, by a code and by whether its two sets meet
 abbrev pub toldIn : ℕ → Letter → Bool → Bool

@@ -5,20 +5,23 @@ use Prim.Native.Nat.{ℕ}
 use native.Mathlib.Omega.{arith}
 use Rattle.spec_base.specs.Basic.{all, meets, within}
 use Rattle.spec_text.specs.declared.Line.{Line}
-use Rattle.spec_text.specs.declared.LineKind.the-variants.{St}
 use Rattle.spec_text.specs.declared.StatementKind.{StatementKind}
-use Rattle.spec_text.specs.Reading.{kindSets}
+use Rattle.spec_text.specs.Reading.{kindSets, setsAllowed}
 use Rattle.spec_graph.specs.Program.{Statement, statementOf}
 use Rattle.spec_graph.specs.Edge.{R, W, T, hasWrites, hasTests, inserts, deletes, Letter, holds, shared}
 use Rattle.spec_graph.specs.Edge.Letter.{A, B, C, D, E}
+use Rattle.spec_kinds.specs.declared.Chance.{Chance}
+use Rattle.spec_kinds.specs.declared.Chance.the-variants.{Impossible, Certain, Hanging}
+use Rattle.spec_kinds.specs.Meaning.{Pair, holdsIn, setsMeet, meetsIn, Means}
+use Rattle.spec_kinds.specs.Table.{kinds}
 use Rattle.law_base.specs.BoolLaws.{true-false, and-true, and-right, not-true, implied}
 use Rattle.law_base.specs.SetLaws.{nonzero-has, within-has, has-meets, meets-comm, meets-self, meets-empty}
-use Rattle.law_text.specs.ReadingLaws.{SetsLawful}
-use Rattle.law_kinds.specs.EveryKind.{kinds, every-kind, everywhere, every-entry}
-use Rattle.law_kinds.specs.KindSets.{SetClass, KindSets, setsOf, Fits, Allowed, allowed-sets}
-use Rattle.law_kinds.specs.KindSets.SetClass.{lacking, any, filled, whole}
-use Rattle.law_kinds.specs.Chances.{Chance, meeting, chanceOf, told, setsMeet}
-use Rattle.law_kinds.specs.Chances.Chance.{impossible, certain, hanging}
+use Rattle.law_kinds.specs.declared.SetClass.{SetClass}
+use Rattle.law_kinds.specs.declared.SetClass.the-variants.{Lacking, Any, Filled, Whole}
+use Rattle.law_kinds.specs.EveryKind.{every-kind, everywhere, every-entry}
+use Rattle.law_kinds.specs.KindSets.{KindSets, setsOf, Fits, Allowed, allowed-over}
+use Rattle.law_kinds.specs.SetMeaning.{lineOfSets}
+use Rattle.law_kinds.specs.Chances.{meeting, chanceOf, told}
 
 -- ---- two sets of classes
 
@@ -28,19 +31,19 @@ meets-around x y h some = let t = nonzero-has x some in has-meets x y (t .0) (t 
 
 -- two sets meet as their classes let them
 meeting-told : (a b : SetClass) (full x y : ℕ) → (full ≡ 0 → ⊥) → Fits a full x → Fits b full y → meets x y ≡ told (meeting a b) (meets x y)
-meeting-told lacking b full x y some f g = rw f refl
-meeting-told any lacking full x y some f g = rw g (meets-comm x 0)
-meeting-told filled lacking full x y some f g = rw g (meets-comm x 0)
-meeting-told whole lacking full x y some f g = rw g (meets-comm x 0)
-meeting-told any any full x y some f g = refl
-meeting-told any filled full x y some f g = refl
-meeting-told any whole full x y some f g = refl
-meeting-told filled any full x y some f g = refl
-meeting-told filled filled full x y some f g = refl
-meeting-told whole any full x y some f g = refl
-meeting-told filled whole full x y some f g = rw g (meets-around x full (f .0) (f .1))
-meeting-told whole filled full x y some f g = rw f (meets-comm full y ∙ meets-around y full (g .0) (g .1))
-meeting-told whole whole full x y some f g = rw (f, g) (meets-self full some)
+meeting-told Lacking b full x y some f g = rw f refl
+meeting-told Any Lacking full x y some f g = rw g (meets-comm x 0)
+meeting-told Filled Lacking full x y some f g = rw g (meets-comm x 0)
+meeting-told Whole Lacking full x y some f g = rw g (meets-comm x 0)
+meeting-told Any Any full x y some f g = refl
+meeting-told Any Filled full x y some f g = refl
+meeting-told Any Whole full x y some f g = refl
+meeting-told Filled Any full x y some f g = refl
+meeting-told Filled Filled full x y some f g = refl
+meeting-told Whole Any full x y some f g = refl
+meeting-told Filled Whole full x y some f g = rw g (meets-around x full (f .0) (f .1))
+meeting-told Whole Filled full x y some f g = rw f (meets-comm full y ∙ meets-around y full (g .0) (g .1))
+meeting-told Whole Whole full x y some f g = rw (f, g) (meets-self full some)
 
 -- ---- how the letters ask the kinds
 
@@ -60,15 +63,15 @@ lacking-both true false c d x y = sym (and-right (c && d) (meets-comm x 0))
 lacking-both false b c d x y = sym (and-right (c && d) (meets-empty (cond b y 0)))
 
 -- a kind that rules the letter out, one that it needs, one that is enough
-unless-told : (b : Bool) (c : Chance) (m : Bool) {x : Bool} → x ≡ told c m → not b && x ≡ told (cond b impossible c) m
+unless-told : (b : Bool) (c : Chance) (m : Bool) {x : Bool} → x ≡ told c m → not b && x ≡ told (cond b Impossible c) m
 unless-told true c m so = refl
 unless-told false c m so = so
 
-where-told : (b : Bool) (c : Chance) (m : Bool) {x : Bool} → x ≡ told c m → b && x ≡ told (cond b c impossible) m
+where-told : (b : Bool) (c : Chance) (m : Bool) {x : Bool} → x ≡ told c m → b && x ≡ told (cond b c Impossible) m
 where-told true c m so = so
 where-told false c m so = refl
 
-or-told : (b : Bool) (c : Chance) (m : Bool) {x : Bool} → x ≡ told c m → b || x ≡ told (cond b certain c) m
+or-told : (b : Bool) (c : Chance) (m : Bool) {x : Bool} → x ≡ told c m → b || x ≡ told (cond b Certain c) m
 or-told true c m so = refl
 or-told false c m so = so
 
@@ -107,107 +110,56 @@ module _ {full : ℕ} (p q : Statement) (f : Allowed full p) (g : Allowed full q
       ∙ where-told (hasTests (p .kind)) _ _
       (or-told (inserts (q .kind) || deletes (q .kind)) _ _ (told-by (ofP .tests) (ofQ .writes) (T p) (W q) (f .tests) (g .writes)))
 
--- ---- what a chance means
-
--- two lines of these kinds that 01 allows over one relation with the set `full`
-pub record Pair (k l : StatementKind) : Type 0 where
-  pub full : ℕ
-  pub left : Line
-  pub right : Line
-  pub allowedLeft : SetsLawful full k left
-  pub allowedRight : SetsLawful full l right
-
-abbrev pub holdsIn : Letter → {k l : StatementKind} → Pair k l → Bool
-holdsIn letter {k} {l} x = holds letter (statementOf k (x .left)) (statementOf l (x .right))
-
-abbrev pub meetsIn : Letter → {k l : StatementKind} → Pair k l → Bool
-meetsIn letter {k} {l} x = setsMeet letter (statementOf k (x .left)) (statementOf l (x .right))
-
--- Req 04: for no sets that 01 allows; for all; exactly where the letter's two sets meet, which some on two attributes do and others do not
-abbrev pub Means : Letter → StatementKind → StatementKind → Chance → Type 0
-Means letter k l impossible = (x : Pair k l) → holdsIn letter x ≡ false
-Means letter k l certain = (x : Pair k l) → holdsIn letter x ≡ true
-Means letter k l hanging =
-    ((x : Pair k l) → holdsIn letter x ≡ meetsIn letter x)
-    × ((x : Pair k l) × (x .full ≡ 3) × (holdsIn letter x ≡ true))
-    × ((x : Pair k l) × (x .full ≡ 3) × (holdsIn letter x ≡ false))
-
 -- ---- sets on two attributes
 
 -- a line of a kind, its sets chosen by their classes
 abbrev sample : (SetClass → ℕ) → StatementKind → Line
-sample choose k = record {
-  kind = St k;
-  id = 0;
-  rel = 0;
-  to = 0;
-  reads = choose (setsOf k .reads);
-  writes = choose (setsOf k .writes);
-  tests = choose (setsOf k .tests);
-}
+sample choose k = lineOfSets k (choose (setsOf k .reads)) (choose (setsOf k .writes)) (choose (setsOf k .tests))
 
 -- attribute 0 in every set
 abbrev shares : SetClass → ℕ
-shares lacking = 0
-shares any = 1
-shares filled = 1
-shares whole = 3
+shares Lacking = 0
+shares Any = 1
+shares Filled = 1
+shares Whole = 3
 
 -- no more than must be in a set: attribute 0, or attribute 1
 abbrev least : ℕ → SetClass → ℕ
-least one lacking = 0
-least one any = 0
-least one filled = one
-least one whole = 3
+least one Lacking = 0
+least one Any = 0
+least one Filled = one
+least one Whole = 3
 
 -- T9 of a line over the two attributes
 abbrev passes : (SetClass → ℕ) → StatementKind → Bool
-passes choose k =
-    let l = sample choose k in
-    within (l .reads) 3 && (within (l .writes) 3 && (within (l .tests) 3 && kindSets 3 k l))
+passes choose k = setsAllowed 3 k (sample choose k)
 
-allowed-sample : (choose : SetClass → ℕ) → all (passes choose) kinds ≡ true → (k : StatementKind) → SetsLawful 3 k (sample choose k)
-allowed-sample choose h k =
-    let l = sample choose k in
-    let one = and-true (within (l .reads) 3) (within (l .writes) 3 && (within (l .tests) 3 && kindSets 3 k l)) (every-kind (passes choose) h k) in
-    let two = and-true (within (l .writes) 3) (within (l .tests) 3 && kindSets 3 k l) (one .1) in
-    let three = and-true (within (l .tests) 3) (kindSets 3 k l) (two .1) in
-    record {
-      nonempty = λ e. omega arith;
-      word = omega arith;
-      reads-within = one .0;
-      writes-within = two .0;
-      tests-within = three .0;
-      kind-sets = three .1;
-    }
+-- the lines whose sets are chosen so, where T9 allows them for each kind
+pairBy : (f g : SetClass → ℕ) → all (passes f) kinds ≡ true → all (passes g) kinds ≡ true → (k l : StatementKind) → Pair k l
+pairBy f g hf hg k l = record {
+  full = 3;
+  attributes = λ e. omega arith;
+  word = omega arith;
+  left = sample f k;
+  right = sample g l;
+  allowedLeft = every-kind (passes f) hf k;
+  allowedRight = every-kind (passes g) hg l;
+}
 
-module _ (k l : StatementKind) where
-  pub meetingPair : Pair k l
-  unfolding kindSets
-  meetingPair = record {
-    full = 3;
-    left = sample shares k;
-    right = sample shares l;
-    allowedLeft = allowed-sample shares refl k;
-    allowedRight = allowed-sample shares refl l;
-  }
+pub meetingPair : (k l : StatementKind) → Pair k l
+unfolding kindSets
+meetingPair = pairBy shares shares refl refl
 
-  pub apartPair : Pair k l
-  unfolding kindSets
-  apartPair = record {
-    full = 3;
-    left = sample (least 1) k;
-    right = sample (least 2) l;
-    allowedLeft = allowed-sample (least 1) refl k;
-    allowedRight = allowed-sample (least 2) refl l;
-  }
+pub apartPair : (k l : StatementKind) → Pair k l
+unfolding kindSets
+apartPair = pairBy (least 1) (least 2) refl refl
 
 -- ---- the meaning
 
 abbrev isHanging : Chance → Bool
-isHanging impossible = false
-isHanging certain = false
-isHanging hanging = true
+isHanging Impossible = false
+isHanging Certain = false
+isHanging Hanging = true
 
 -- over all entries together: where a letter hangs on its sets it holds for sets that share attribute 0, and does not for the least sets
 abbrev hangs : Letter → StatementKind → StatementKind → Bool
@@ -222,17 +174,19 @@ all-hang = refl
 
 -- Req 04: each chance means what it says
 pub chance-means : (letter : Letter) (k l : StatementKind) → Means letter k l (chanceOf letter k l)
-unfolding statementOf meetingPair apartPair
+unfolding statementOf meetingPair apartPair pairBy
 chance-means letter k l = go (chanceOf letter k l) refl
   where
     so : (x : Pair k l) → holdsIn letter x ≡ told (chanceOf letter k l) (meetsIn letter x)
     so x =
-        chance-told (statementOf k (x .left)) (statementOf l (x .right)) (allowed-sets k (x .allowedLeft)) (allowed-sets l (x .allowedRight)) letter
+        let left = allowed-over k (x .left) (x .attributes) (x .word) (x .allowedLeft) in
+        let right = allowed-over l (x .right) (x .attributes) (x .word) (x .allowedRight) in
+        chance-told (statementOf k (x .left)) (statementOf l (x .right)) left right letter
 
     go : (c : Chance) → chanceOf letter k l ≡ c → Means letter k l c
-    go impossible e = λ x. so x ∙ ap (λ (c : Chance). told c (meetsIn letter x)) e
-    go certain e = λ x. so x ∙ ap (λ (c : Chance). told c (meetsIn letter x)) e
-    go hanging e =
+    go Impossible e = λ x. so x ∙ ap (λ (c : Chance). told c (meetsIn letter x)) e
+    go Certain e = λ x. so x ∙ ap (λ (c : Chance). told c (meetsIn letter x)) e
+    go Hanging e =
         let both = and-true _ _ (implied _ _ (every-entry hangs all-hang letter k l) (ap isHanging e)) in (
           λ x. so x ∙ ap (λ (c : Chance). told c (meetsIn letter x)) e,
           (meetingPair k l, refl, both .0),
@@ -241,12 +195,12 @@ chance-means letter k l = go (chanceOf letter k l) refl
 
 -- and no other chance does: an entry that says something else is false
 pub means-one : (letter : Letter) (k l : StatementKind) (c d : Chance) → Means letter k l c → Means letter k l d → c ≡ d
-means-one letter k l impossible impossible f g = refl
-means-one letter k l certain certain f g = refl
-means-one letter k l hanging hanging f g = refl
-means-one letter k l impossible certain f g = absurd (true-false (g (meetingPair k l)) (f (meetingPair k l)))
-means-one letter k l certain impossible f g = absurd (true-false (f (meetingPair k l)) (g (meetingPair k l)))
-means-one letter k l impossible hanging f g = absurd (true-false (g .1 .2) (f (g .1 .0)))
-means-one letter k l hanging impossible f g = absurd (true-false (f .1 .2) (g (f .1 .0)))
-means-one letter k l certain hanging f g = absurd (true-false (f (g .2 .0)) (g .2 .2))
-means-one letter k l hanging certain f g = absurd (true-false (g (f .2 .0)) (f .2 .2))
+means-one letter k l Impossible Impossible f g = refl
+means-one letter k l Certain Certain f g = refl
+means-one letter k l Hanging Hanging f g = refl
+means-one letter k l Impossible Certain f g = absurd (true-false (g (meetingPair k l)) (f (meetingPair k l)))
+means-one letter k l Certain Impossible f g = absurd (true-false (f (meetingPair k l)) (g (meetingPair k l)))
+means-one letter k l Impossible Hanging f g = absurd (true-false (g .1 .2) (f (g .1 .0)))
+means-one letter k l Hanging Impossible f g = absurd (true-false (f .1 .2) (g (f .1 .0)))
+means-one letter k l Certain Hanging f g = absurd (true-false (f (g .2 .0)) (g .2 .2))
+means-one letter k l Hanging Certain f g = absurd (true-false (g (f .2 .0)) (f .2 .2))

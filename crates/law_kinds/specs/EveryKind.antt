@@ -1,5 +1,5 @@
--- A rule over all statement kinds is one computed test over their list; a new kind is a line in the list and a line in `kind-listed`. So is a rule
--- over all letters between all pairs of kinds.
+-- A rule over all statement kinds is one computed test over their list; a new kind stands in the list (spec_kinds/Table) and has a line in
+-- `kind-listed`. So is a rule over all letters between all pairs of kinds.
 use mathlib.Core.Bool.{Bool, true, false, cond, not, _||_}
 use mathlib.Core.List.{List, [], _∷_, List·Memᴰ}
 use mathlib.Core.Path.{_≡_, refl, sym}
@@ -10,9 +10,7 @@ use Rattle.spec_text.specs.declared.StatementKind.{StatementKind}
 use Rattle.spec_text.specs.declared.StatementKind.the-variants.{Is, Ks, Ps, Ku, Pu, Kd, Pd, Kl}
 use Rattle.spec_graph.specs.Edge.{Letter}
 use Rattle.spec_graph.specs.Edge.Letter.{A, B, C, D, E}
-
-abbrev pub kinds : List StatementKind
-kinds = Is ∷ Ks ∷ Ps ∷ Ku ∷ Pu ∷ Kd ∷ Pd ∷ Kl ∷ []
+use Rattle.spec_kinds.specs.Table.{kinds, letters}
 
 -- every kind is in the list
 kind-listed : (k : StatementKind) → List·Memᴰ k kinds
@@ -52,9 +50,6 @@ pub every-pair : (test : StatementKind → StatementKind → Bool) → all (λ k
 every-pair test h k l = every-kind (test k) (every-kind (λ k. all (test k) kinds) h k) l
 
 -- ---- letters between kinds
-
-abbrev pub letters : List Letter
-letters = A ∷ B ∷ C ∷ D ∷ E ∷ []
 
 letter-listed : (x : Letter) → List·Memᴰ x letters
 letter-listed A = getElem?-member letters 0 refl

@@ -1,7 +1,7 @@
 -- The sets of each kind of statement: which it has, which of them may be empty and which are the whole relation (T5, T9, Req 03).
 use mathlib.Core.Bool.{Bool, true, false, not, _||_}
 use mathlib.Core.Path.{_≡_, refl}
-use Prim.Native.Nat.{ℕ}
+use Prim.Native.Nat.{ℕ, _<_, _^_}
 use lib.Bits.{bitAnd, and-self, and-zero-l}
 use lib.Dec.{eqb}
 use borrow.Author.Tests.{eq-eqb, eqb-true, eqb-false, not-true}
@@ -9,16 +9,14 @@ use Rattle.spec_base.specs.Basic.{within}
 use Rattle.spec_text.specs.declared.Line.{Line}
 use Rattle.spec_text.specs.declared.StatementKind.{StatementKind}
 use Rattle.spec_text.specs.declared.StatementKind.the-variants.{Is, Ks, Ps, Ku, Pu, Kd, Pd, Kl}
-use Rattle.spec_text.specs.Reading.{kindSets}
+use Rattle.spec_text.specs.Reading.{kindSets, setsAllowed}
 use Rattle.spec_graph.specs.Program.{Statement, statementOf}
 use Rattle.spec_graph.specs.Edge.{R, W, T, inserts, deletes}
 use Rattle.law_base.specs.BoolLaws.{true-false}
-use Rattle.law_text.specs.ReadingLaws.{SetsLawful}
+use Rattle.law_text.specs.ReadingLaws.{SetsLawful, sets-lawful}
+use Rattle.law_kinds.specs.declared.SetClass.{SetClass}
+use Rattle.law_kinds.specs.declared.SetClass.the-variants.{Lacking, Any, Filled, Whole}
 use Rattle.law_kinds.specs.EveryKind.{kind-implies}
-
--- what the rules say of a set of a kind: the kind lacks it; it is any set within the relation's; such a set, but not empty; the relation's own
-pub data SetClass : Type 0 where
-  lacking any filled whole : SetClass
 
 -- the sets of a kind
 pub record KindSets : Type 0 where
@@ -31,40 +29,40 @@ sets r w t = record { reads = r; writes = w; tests = t }
 
 -- T5, T9, Req 03: the reads, writes and tests of each kind
 abbrev pub setsOf : StatementKind → KindSets
-setsOf Is = sets lacking whole lacking
-setsOf Ks = sets filled lacking lacking
-setsOf Ps = sets any lacking any
-setsOf Ku = sets any filled lacking
-setsOf Pu = sets any filled any
-setsOf Kd = sets lacking whole lacking
-setsOf Pd = sets lacking whole any
-setsOf Kl = sets filled lacking lacking
+setsOf Is = sets Lacking Whole Lacking
+setsOf Ks = sets Filled Lacking Lacking
+setsOf Ps = sets Any Lacking Any
+setsOf Ku = sets Any Filled Lacking
+setsOf Pu = sets Any Filled Any
+setsOf Kd = sets Lacking Whole Lacking
+setsOf Pd = sets Lacking Whole Any
+setsOf Kl = sets Filled Lacking Lacking
 
 -- the kind has the set; the set is never empty; it is the relation's own
 abbrev pub isThere : SetClass → Bool
-isThere lacking = false
-isThere any = true
-isThere filled = true
-isThere whole = true
+isThere Lacking = false
+isThere Any = true
+isThere Filled = true
+isThere Whole = true
 
 abbrev pub isFilled : SetClass → Bool
-isFilled lacking = false
-isFilled any = false
-isFilled filled = true
-isFilled whole = true
+isFilled Lacking = false
+isFilled Any = false
+isFilled Filled = true
+isFilled Whole = true
 
 abbrev pub isWhole : SetClass → Bool
-isWhole lacking = false
-isWhole any = false
-isWhole filled = false
-isWhole whole = true
+isWhole Lacking = false
+isWhole Any = false
+isWhole Filled = false
+isWhole Whole = true
 
 -- the class allows this set over a relation with the set `full`; a set that a kind lacks counts as empty
 abbrev pub Fits : SetClass → ℕ → ℕ → Type 0
-Fits lacking full x = x ≡ 0
-Fits any full x = within x full ≡ true
-Fits filled full x = (within x full ≡ true) × (x ≡ 0 → ⊥)
-Fits whole full x = x ≡ full
+Fits Lacking full x = x ≡ 0
+Fits Any full x = within x full ≡ true
+Fits Filled full x = (within x full ≡ true) × (x ≡ 0 → ⊥)
+Fits Whole full x = x ≡ full
 
 -- T9: the relation has attributes, and the sets of a statement are those that its kind allows over them
 pub record Allowed (full : ℕ) (s : Statement) : Type 0 where
@@ -75,7 +73,7 @@ pub record Allowed (full : ℕ) (s : Statement) : Type 0 where
 
 -- ---- what a text allows the classes allow
 
-filled-set : (full x : ℕ) → within x full ≡ true → not (eqb x 0) ≡ true → Fits filled full x
+filled-set : (full x : ℕ) → within x full ≡ true → not (eqb x 0) ≡ true → Fits Filled full x
 filled-set full x h e = (h, eqb-false x 0 (not-true (eqb x 0) e))
 
 -- each kind's rule says of one of its sets that it is filled or whole; the others lie within the relation's or are lacking
@@ -100,19 +98,24 @@ allowed-sets Kd s = record { attributes = s .nonempty; reads = refl; writes = eq
 allowed-sets Pd s = record { attributes = s .nonempty; reads = refl; writes = eqb-true _ _ (s .kind-sets); tests = s .tests-within }
 allowed-sets Kl s = record { attributes = s .nonempty; reads = filled-set _ _ (s .reads-within) (s .kind-sets); writes = refl; tests = refl }
 
+-- by the reader's own test
+pub allowed-over : {full : ℕ} (k : StatementKind) (l : Line) → (full ≡ 0 → ⊥) → full < 2 ^ 64 → setsAllowed full k l ≡ true
+    → Allowed full (statementOf k l)
+allowed-over k l some word h = allowed-sets k (sets-lawful k l some word h)
+
 -- ---- T9 of an allowed statement, by the tables of the graph
 
-fits-within : (c : SetClass) (full x : ℕ) → Fits c full x → within x full ≡ true
-fits-within lacking full x h = rw h (eq-eqb (bitAnd 0 full) 0 (and-zero-l full))
-fits-within any full x h = h
-fits-within filled full x h = h .0
-fits-within whole full x h = rw h (eq-eqb (bitAnd full full) full (and-self full))
+pub fits-within : (c : SetClass) (full x : ℕ) → Fits c full x → within x full ≡ true
+fits-within Lacking full x h = rw h (eq-eqb (bitAnd 0 full) 0 (and-zero-l full))
+fits-within Any full x h = h
+fits-within Filled full x h = h .0
+fits-within Whole full x h = rw h (eq-eqb (bitAnd full full) full (and-self full))
 
 fits-whole : (c : SetClass) (full x : ℕ) → isWhole c ≡ true → Fits c full x → x ≡ full
-fits-whole lacking full x e h = absurd (true-false e refl)
-fits-whole any full x e h = absurd (true-false e refl)
-fits-whole filled full x e h = absurd (true-false e refl)
-fits-whole whole full x e h = h
+fits-whole Lacking full x e h = absurd (true-false e refl)
+fits-whole Any full x e h = absurd (true-false e refl)
+fits-whole Filled full x e h = absurd (true-false e refl)
+fits-whole Whole full x e h = h
 
 module _ {full : ℕ} {s : Statement} (a : Allowed full s) where
   pub reads-within : within (R s) full ≡ true

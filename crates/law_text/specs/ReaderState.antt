@@ -6,12 +6,12 @@ use mathlib.Core.Option.{Option}
 use Prim.Native.Nat.{ℕ, suc, _+_}
 use lib.Dec.{eqb, leb, ltb}
 use lib.ListN.{length, getD}
-use Rattle.spec_base.specs.Basic.{any, all, keep, count, within}
+use Rattle.spec_base.specs.Basic.{any, all, keep, count}
 use Rattle.spec_text.specs.declared.Line.{Line}
 use Rattle.spec_text.specs.declared.LineKind.the-variants.{Rl, Fk, Pr, St, Lo, Br, El, En, Li}
 use Rattle.spec_text.specs.Text.{unusedLine}
 use Rattle.spec_text.specs.Reading.{isRelation, isKey, isProgram, isStatementOrFlow, isLink, isStatement, isStatementOf, canBeParent}
-use Rattle.spec_text.specs.Reading.{Block, sameBlock, blocksAfter, openBlocks, program, loop, firstArm, secondArm, kindSets, firstFailed}
+use Rattle.spec_text.specs.Reading.{Block, sameBlock, blocksAfter, openBlocks, program, loop, firstArm, secondArm, setsAllowed, firstFailed}
 
 -- what is needed of the lines of the program at hand
 pub record Own : Type 0 where
@@ -161,9 +161,7 @@ unfoldable pub stateSetsFit : State → Line → Bool
 stateSetsFit s l =
     elim (l .kind) [
       | Rl ↦ not (eqb (l .reads) 0)
-      | St k ↦
-          let whole = getD (s .relations) (l .rel) unusedLine .reads in
-          within (l .reads) whole && within (l .writes) whole && within (l .tests) whole && kindSets whole k l
+      | St k ↦ setsAllowed (getD (s .relations) (l .rel) unusedLine .reads) k l
       | Fk ↦ true
       | Pr ↦ true
       | Lo ↦ true

@@ -19,7 +19,7 @@ use Rattle.spec_text.specs.declared.StatementKind.{StatementKind}
 use Rattle.spec_text.specs.Text.{same, linesIn, namesLine, formsOf, lineOf, unusedLine}
 use Rattle.law_text.specs.TextLaws.{fits, allFit, valuesIn, lineFits, line-fits}
 use Rattle.spec_text.specs.Reading.{sort, isRelation, isStatement, program, relation, relationSet, withinBounds, noneOpen, ordered}
-use Rattle.spec_text.specs.Reading.{named, kindSets, setsFit, linkFits, testsOf, firstFailed, fault, Outcome, readLines, otherByte}
+use Rattle.spec_text.specs.Reading.{named, kindSets, setsAllowed, setsFit, linkFits, testsOf, firstFailed, fault, Outcome, readLines, otherByte}
 use Rattle.spec_text.specs.Reading.{endsLine, read}
 use Rattle.spec_text.specs.Reading.Outcome.{refused, accepted}
 
@@ -241,20 +241,9 @@ statement-names before l k e h =
     ltb-true (l .rel) (count isRelation before) (and-true (eqb (l .id) (count isStatement (program before))) _ own .1)
 
 statement-fits : (before : List Line) (l : Line) (k : StatementKind) → l .kind ≡ St k → setsFit before l ≡ true
-    → let whole = relationSet before (l .rel) in
-    (within (l .reads) whole ≡ true)
-    × (within (l .writes) whole ≡ true)
-    × (within (l .tests) whole ≡ true)
-    × (kindSets whole k l ≡ true)
+    → setsAllowed (relationSet before (l .rel)) k l ≡ true
 unfolding setsFit
-statement-fits before l k e h =
-    let whole = relationSet before (l .rel) in
-    let all-four : within (l .reads) whole && within (l .writes) whole && within (l .tests) whole && kindSets whole k l ≡ true =
-    rw (e, setsFit) at h in
-    let a = and-true (within (l .reads) whole && within (l .writes) whole && within (l .tests) whole) _ all-four in
-    let b = and-true (within (l .reads) whole && within (l .writes) whole) _ (a .0) in
-    let c = and-true (within (l .reads) whole) _ (b .0) in
-    (c .0, c .1, b .1, a .1)
+statement-fits before l k e h = rw (e, setsFit) at h
 
 -- T9: the attributes of a relation of an accepted text are a set of one 64-bit word, and not empty
 pub relation-set : (text : List ℕ) {lines : List Line} → read text ≡ accepted lines → (r : ℕ) → r < count isRelation lines
@@ -276,6 +265,15 @@ pub record SetsLawful (whole : ℕ) (k : StatementKind) (l : Line) : Type 0 wher
   pub tests-within : within (l .tests) whole ≡ true
   pub kind-sets : kindSets whole k l ≡ true
 
+-- the four tests of T9 one by one
+pub sets-lawful : {whole : ℕ} (k : StatementKind) (l : Line) → (whole ≡ 0 → ⊥) → whole < 2 ^ 64 → setsAllowed whole k l ≡ true
+    → SetsLawful whole k l
+sets-lawful {whole} k l filled word h =
+    let a = and-true (within (l .reads) whole && within (l .writes) whole && within (l .tests) whole) _ h in
+    let b = and-true (within (l .reads) whole && within (l .writes) whole) _ (a .0) in
+    let c = and-true (within (l .reads) whole) _ (b .0) in
+    record { nonempty = filled; word = word; reads-within = c .0; writes-within = c .1; tests-within = b .1; kind-sets = a .1 }
+
 -- T7: the relation that a statement of an accepted text names is there
 pub statement-relation : (text : List ℕ) {lines : List Line} → read text ≡ accepted lines
     → {l : Line} → List·Memᴰ l lines → (k : StatementKind) → l .kind ≡ St k
@@ -285,24 +283,22 @@ statement-relation text {lines} h {l} m k e =
     let below = statement-names (s .0) l k e (line-passes text h (s .0) l (s .1) (s .2) .names) in
     rw (s .2, count-append) (omega arith)
 
--- T9: the sets of a statement of an accepted text
-pub statement-sets : (text : List ℕ) {lines : List Line} → read text ≡ accepted lines
+-- T9: the sets of a statement of an accepted text are allowed over its relation
+pub statement-allowed : (text : List ℕ) {lines : List Line} → read text ≡ accepted lines
     → {l : Line} → List·Memᴰ l lines → (k : StatementKind) → l .kind ≡ St k
-    → SetsLawful (relationSet lines (l .rel)) k l
+    → setsAllowed (relationSet lines (l .rel)) k l ≡ true
 unfolding relationSet
-statement-sets text {lines} h {l} m k e =
+statement-allowed text {lines} h {l} m k e =
     let s = member-split m in
     let passes = line-passes text h (s .0) l (s .1) (s .2) in
-    let there = relation-set text h (l .rel) (statement-relation text h m k e) in
-    let fits = statement-fits (s .0) l k e (passes .sets) in
     let same : relationSet lines (l .rel) ≡ relationSet (s .0) (l .rel) =
     ap (λ x. relationSet x (l .rel)) (s .2)
     ∙ ap (λ x. x .reads) (relation-before (s .0) (l ∷ s .1) (l .rel) (statement-names (s .0) l k e (passes .names))) in
-    record {
-      nonempty = there .0;
-      word = there .1;
-      reads-within = rw same (fits .0);
-      writes-within = rw same (fits .1);
-      tests-within = rw same (fits .2);
-      kind-sets = rw same (fits .3);
-    }
+    rw same (statement-fits (s .0) l k e (passes .sets))
+
+pub statement-sets : (text : List ℕ) {lines : List Line} → read text ≡ accepted lines
+    → {l : Line} → List·Memᴰ l lines → (k : StatementKind) → l .kind ≡ St k
+    → SetsLawful (relationSet lines (l .rel)) k l
+statement-sets text {lines} h {l} m k e =
+    let there = relation-set text h (l .rel) (statement-relation text h m k e) in
+    sets-lawful k l (there .0) (there .1) (statement-allowed text h m k e)

@@ -8,14 +8,14 @@ use native.Mathlib.Omega.{arith}
 use lib.Dec.{eqb, leb, ltb, eqb·suc-zero}
 use lib.ListN.{length, getD, length-append, length-map}
 use borrow.Author.Tests.{eqb-true, eqb-false, ltb-true, ltb-false, leb-true, eq-eqb, ne-eqb, lt-ltb, le-leb}
-use Rattle.spec_base.specs.Basic.{all, keep, within}
+use Rattle.spec_base.specs.Basic.{all, keep}
 use Rattle.law_base.specs.BoolLaws.{and-true, and-of, same-test, not-true, not-of-false}
 use Rattle.spec_text.specs.declared.Line.{Line}
 use Rattle.spec_text.specs.declared.LineKind.{LineKind}
 use Rattle.spec_text.specs.declared.LineKind.the-variants.{Rl, Fk, Pr, St, Lo, Br, El, En, Li}
 use Rattle.spec_text.specs.Text.{unusedLine}
 use Rattle.spec_text.specs.Reading.{sort, isRelation, isKey, isProgram, isStatementOrFlow, isLink, isStatement, isStatementOf, canBeParent}
-use Rattle.spec_text.specs.Reading.{Block, blocksAfter, toSecondArm, kindSets, firstFailed}
+use Rattle.spec_text.specs.Reading.{Block, blocksAfter, toSecondArm, setsAllowed, firstFailed}
 use Rattle.law_text.specs.ReaderState.{Own, State as Before, ownAfter, ownAfterAny, emptyOwn, stateAfter, stateBounded, stateInBody}
 use Rattle.law_text.specs.ReaderState.{stateNoneOpen, stateInnermost, stateOrdered, stateNamed, stateSetsFit, blocksWithin, stateLinkFits}
 use Rattle.law_text.specs.ReaderState.{stateTests, stateFault}
@@ -179,7 +179,7 @@ setsFit-kept s b k l = go (l .kind)
         → setsFitAs (s .tables) (ofKind kind l) kind ≡ stateSetsFit b (ofKind kind l)
     go (St j) h =
         ap
-        (λ v. within (l .reads) v && within (l .writes) v && within (l .tests) v && kindSets v j (ofKind (St j) l))
+        (λ v. setsAllowed v j (ofKind (St j) l))
         (whole (and-true (eqb (l .id) (length (b .own .statements))) (ltb (l .rel) (length (b .relations))) h .1))
     go Rl h = refl
     go Fk h = refl

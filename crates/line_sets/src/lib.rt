@@ -7,9 +7,7 @@ use line_kinds::facts_of;
 use spec_text::Line;
 use spec_text::StatementKind;
 ghost use mathlib.Core.Path.{_≡_};
-ghost use mathlib.Core.Bool.{_&&_};
-ghost use Rattle.spec_base.specs.Basic.{within};
-ghost use Rattle.spec_text.specs.Reading.{kindSets};
+ghost use Rattle.spec_text.specs.Reading.{kindSets, setsAllowed};
 
 // What the kind of a statement says of its sets, over a relation with this set.
 fn kind_sets(whole: u64, kind: StatementKind, l: Line) -> bool
@@ -24,9 +22,7 @@ fn kind_sets(whole: u64, kind: StatementKind, l: Line) -> bool
 
 // The sets of a statement fit a relation with this set.
 pub fn sets_fit(whole: u64, kind: StatementKind, l: Line) -> bool
-    ensures { λ r. ⌜
-        r ≡ ((within (l .reads) whole && within (l .writes) whole && within (l .tests) whole) && kindSets whole kind l)
-        ⌝ }
+    ensures { λ r. ⌜ r ≡ setsAllowed whole kind l ⌝ }
 {
     let reads = l.reads & whole == l.reads;
     let writes = l.writes & whole == l.writes;

@@ -5,11 +5,10 @@ use Prim.Native.Nat.{ℕ, _+_, _-_, _^_}
 use lib.Bits.{bitOr}
 use lib.Dec.{eqb, ltb}
 use lib.ListN.{getD, set, replicate}
-use Rattle.spec_base.specs.Basic.{within}
 use Rattle.spec_text.specs.declared.Line.{Line}
 use Rattle.spec_text.specs.declared.LineKind.{LineKind}
 use Rattle.spec_text.specs.declared.LineKind.the-variants.{Rl, Fk, Pr, St, Lo, Br, El, En, Li}
-use Rattle.spec_text.specs.Reading.{canBeParent, kindSets}
+use Rattle.spec_text.specs.Reading.{canBeParent, setsAllowed}
 use Rattle.line_state.specs.Records.{Tables, Stack, Statements, State}
 
 -- one more
@@ -269,9 +268,7 @@ unfoldable pub setsFitAs : Tables → Line → LineKind → Bool
 setsFitAs t l kind =
     elim kind [
       | Rl ↦ not (eqb (l .reads) 0)
-      | St k ↦
-          let whole = getD (t .sets) (l .rel) 0 in
-          (within (l .reads) whole && within (l .writes) whole && within (l .tests) whole) && kindSets whole k l
+      | St k ↦ setsAllowed (getD (t .sets) (l .rel) 0) k l
       | Fk ↦ true
       | Pr ↦ true
       | Lo ↦ true

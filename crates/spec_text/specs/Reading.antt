@@ -204,14 +204,16 @@ kindSets whole Kd l = eqb (l .writes) whole
 kindSets whole Pd l = eqb (l .writes) whole
 kindSets whole Kl l = not (eqb (l .reads) 0)
 
--- R5, T9: a relation has attributes; sets lie within the relation's
+-- R5, T9: what a statement's sets must be over a relation with the attributes `whole`: they lie within it, and are as its kind asks
+abbrev pub setsAllowed : ℕ → StatementKind → Line → Bool
+setsAllowed whole k l = within (l .reads) whole && within (l .writes) whole && within (l .tests) whole && kindSets whole k l
+
+-- R5, T9: a relation has attributes; a statement's sets are allowed over its relation
 unfoldable pub setsFit : List Line → Line → Bool
 setsFit before l =
     elim (l .kind) [
       | Rl ↦ not (eqb (l .reads) 0)
-      | St k ↦
-          let whole = relationSet before (l .rel) in
-          within (l .reads) whole && within (l .writes) whole && within (l .tests) whole && kindSets whole k l
+      | St k ↦ setsAllowed (relationSet before (l .rel)) k l
       | Fk ↦ true
       | Pr ↦ true
       | Lo ↦ true

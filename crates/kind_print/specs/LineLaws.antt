@@ -1,0 +1,138 @@
+-- Line after line, the table is written.
+use mathlib.Core.List.{List, [], _∷_, _++_, flatMap, append-assoc, append-nil}
+use mathlib.Core.Path.{_≡_, refl, sym, ap, ap₂, subst, _∙_}
+use Prim.Native.Nat.{ℕ, suc, _+_, _-_, _*_, _/_, _%_, _≤_, _<_}
+use native.Mathlib.Numerals.{add-one}
+use native.Mathlib.Omega.{arith}
+use lib.Dec.{eqb}
+use lib.ListN.{length, getD, take, drop, length-append, length-drop, drop-of-length-le}
+use lib.Seq.{paste, take-all, drop-drop, take-at, length-paste, take-paste}
+use borrow.Author.Tests.{eqb-true}
+use borrow.Rule.Slice.PartMut.{putMid}
+use Rattle.spec_text.specs.declared.LineKind.the-variants.{St}
+use Rattle.spec_text.specs.declared.StatementKind.{StatementKind}
+use Rattle.spec_text.specs.Text.{space, newline, digit, wordOf}
+use Rattle.spec_graph.specs.Edge.{Letter}
+use Rattle.spec_graph.specs.Edge.Letter.{A, B, C, D, E}
+use Rattle.spec_kinds.specs.declared.Chance.{Chance}
+use Rattle.spec_kinds.specs.Table.{digitOf, tableNames, columns, tableLine, tableText, KindTable}
+use Rattle.law_kinds.specs.EveryKind.{every-kind}
+use Rattle.law_kinds.specs.Chances.{chanceOf}
+use Rattle.law_kinds.specs.ChanceLaws.{chance-means, means-one}
+use Rattle.law_kinds.specs.TableLaws.{chances-table}
+use Rattle.edge_kinds.specs.Kinds.{kindOf, kindNamed}
+use Rattle.kind_chances.specs.declared.Entry.{Entry}
+use Rattle.kind_chances.specs.Entries.{chanceFor, EntryMeans}
+use Rattle.kind_print.specs.Lines.{lineOf, lineAt, written, Filled}
+
+-- ---- a line
+
+-- the word of a kind has two bytes
+word-length : (k : StatementKind) → length (wordOf (St k)) ≡ 2
+unfolding wordOf
+word-length k = eqb-true _ 2 (every-kind (λ k. eqb (length (wordOf (St k))) 2) refl k)
+
+-- bytes of two are their first and their second
+two-bytes : (w rest : List ℕ) → length w ≡ 2 → getD w 0 0 ∷ getD w 1 0 ∷ rest ≡ w ++ rest
+two-bytes [] rest h = absurd (omega arith)
+two-bytes (a ∷ []) rest h = absurd (omega arith)
+two-bytes (a ∷ b ∷ []) rest h = refl
+two-bytes (a ∷ b ∷ c ∷ w) rest h = absurd (omega arith)
+
+-- what an entry tells of a letter is its chance
+entry-chance : (k l : StatementKind) (e : Entry) → EntryMeans k l e → (x : Letter) → chanceFor e x ≡ chanceOf x k l
+entry-chance k l e m x = means-one x k l (chanceFor e x) (chanceOf x k l) (m x) (chance-means x k l)
+
+-- the bytes of a line: two of each word and the five digits, with spaces between them
+abbrev lineBytes : List ℕ → List ℕ → ℕ → ℕ → ℕ → ℕ → ℕ → List ℕ
+lineBytes from to a b c d e =
+    getD from 0 0 ∷ getD from 1 0 ∷ space ∷ getD to 0 0 ∷ getD to 1 0
+    ∷ space ∷ a ∷ space ∷ b ∷ space ∷ c ∷ space ∷ d ∷ space ∷ e ∷ newline ∷ []
+
+-- the digit of a chance
+abbrev shown : Chance → ℕ
+shown c = digit (digitOf c)
+
+line-bytes : (k l : StatementKind) (f : Letter → Chance)
+    → lineBytes (wordOf (St k)) (wordOf (St l)) (shown (f A)) (shown (f B)) (shown (f C)) (shown (f D)) (shown (f E)) ≡ tableLine k l f
+unfolding tableLine columns flatMap
+line-bytes k l f =
+    let first = wordOf (St k) in
+    let second = wordOf (St l) in
+    two-bytes first _ (word-length k)
+    ∙ ap (λ (r : List ℕ). first ++ (space ∷ r)) (two-bytes second (columns f ++ (newline ∷ [])) (word-length l))
+    ∙ sym (append-assoc first (space ∷ second) (columns f ++ (newline ∷ [])))
+    ∙ sym (append-assoc (first ++ (space ∷ second)) (columns f) (newline ∷ []))
+
+pub line-right : (k l : StatementKind) (e : Entry) → EntryMeans k l e → {from to : List ℕ} {a b c d f : ℕ}
+    → from ≡ wordOf (St k) → to ≡ wordOf (St l)
+    → a ≡ shown (e .a) → b ≡ shown (e .b) → c ≡ shown (e .c) → d ≡ shown (e .d) → f ≡ shown (e .e)
+    → lineBytes from to a b c d f ≡ lineOf k l
+unfolding lineOf
+line-right k l e m first second ea eb ec ed ef =
+    let so = entry-chance k l e m in
+    rw (first, second, ea, eb, ec, ed, ef, so A, so B, so C, so D, so E) (line-bytes k l (λ x. chanceOf x k l))
+
+line-length : (k l : StatementKind) → length (lineOf k l) ≡ 16
+unfolding lineOf
+line-length k l = ap length (sym (line-bytes k l (λ x. chanceOf x k l)))
+
+pub at-length : (i : ℕ) → length (lineAt i) ≡ 16
+unfolding lineAt
+at-length i = line-length (kindOf (i / 8)) (kindOf (i % 8))
+
+pub line-at : (i : ℕ) {k l : StatementKind} {line : List ℕ} → k ≡ kindOf (i / 8) → l ≡ kindOf (i % 8) → line ≡ lineOf k l → line ≡ lineAt i
+unfolding lineAt
+line-at i e f h = h ∙ ap₂ lineOf e f
+
+-- ---- a line in its place
+
+-- a line that is copied to the front of the rest of an area stands there in the area
+pub line-pasted : (out : List ℕ) (at i : ℕ) {line end : List ℕ} → line ≡ lineAt i
+    → end ≡ take (length line) line ++ drop (length line) (take (length out - at) (drop at out))
+    → putMid at (length out - at) out end ≡ paste out at (lineAt i) 16
+line-pasted out at i {line} {end} e h =
+    let room : length (drop at out) ≤ length out - at = omega (arith, length-drop at out) in
+    let last : drop (length out - at) (drop at out) ≡ [] = drop-of-length-le (drop at out) room in
+    let rest : drop 16 (take (length out - at) (drop at out)) ≡ drop (at + 16) out =
+    ap (drop 16) (take-all (length out - at) (drop at out) room) ∙ drop-drop 16 at out in
+    rw (h, e, at-length i, last, rest)
+    (ap (λ (l : List ℕ). take at out ++ l) (append-nil _) ∙ sym (append-assoc (take at out) (take 16 (lineAt i)) (drop (at + 16) out)))
+
+-- ---- the table
+
+-- the names are copied to the front
+pub names-first : (out : List ℕ) {after : List ℕ} → 1042 ≡ length out → after ≡ take 18 tableNames ++ drop 18 out → Filled 0 after
+unfolding tableNames written
+names-first out {after} size h = record {
+  size = rw h (omega (arith, length-append (take 18 tableNames) (drop 18 out), length-drop 18 out));
+  lines = omega arith;
+  front = rw h (take-at (take 18 tableNames) (drop 18 out) 18 refl);
+}
+
+-- then line i
+pub line-next : {i : ℕ} {out after : List ℕ} → i < 64 → Filled i out → after ≡ paste out (18 + i * 16) (lineAt i) 16 → Filled (i + 1) after
+unfolding written
+line-next {i} {out} {after} below f h =
+    let long = at-length i in
+    record {
+      size = rw h (length-paste out (18 + i * 16) (lineAt i) 16 (omega (arith, f .size)) (omega (arith, long)) ∙ f .size);
+      lines = omega arith;
+      front =
+          let place : 18 + (i + 1) * 16 ≡ 18 + i * 16 + 16 = omega arith in
+          rw (h, place)
+          (take-paste out (18 + i * 16) (lineAt i) 16 (omega (arith, f .size)) (omega (arith, long))
+          ∙ ap₂ (λ (a b : List ℕ). a ++ b) (f .front) (take-all 16 (lineAt i) (omega (arith, long)))
+          ∙ ap written (sym (add-one i)));
+    }
+
+-- after 64 of them it is whole
+all-written : written 64 ≡ tableText chanceOf
+unfolding written lineAt lineOf tableText tableLine tableNames columns flatMap wordOf digit chanceOf kindOf kindNamed
+all-written = refl
+
+pub table-end : {i : ℕ} {out : List ℕ} → 64 ≤ i → Filled i out → KindTable out
+table-end {i} {out} h f =
+    let last : i ≡ 64 = omega (arith, f .lines) in
+    let whole : 18 + i * 16 ≡ 1042 = omega arith in
+    chances-table (sym (take-all 1042 out (omega (arith, f .size))) ∙ ap (λ (n : ℕ). take n out) (sym whole) ∙ f .front ∙ ap written last ∙ all-written)
