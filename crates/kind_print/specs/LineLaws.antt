@@ -23,7 +23,7 @@ use Rattle.law_kinds.specs.TableLaws.{chances-table}
 use Rattle.edge_kinds.specs.Kinds.{kindOf, kindNamed}
 use Rattle.kind_chances.specs.declared.Entry.{Entry}
 use Rattle.kind_chances.specs.Entries.{chanceFor, EntryMeans}
-use Rattle.kind_print.specs.Lines.{lineOf, lineAt, written, Filled}
+use Rattle.kind_print.specs.Lines.{lineAt, written, Filled}
 
 -- ---- a line
 
@@ -64,26 +64,21 @@ line-bytes k l f =
     ∙ sym (append-assoc first (space ∷ second) (columns f ++ (newline ∷ [])))
     ∙ sym (append-assoc (first ++ (space ∷ second)) (columns f) (newline ∷ []))
 
-pub line-right : (k l : StatementKind) (e : Entry) → EntryMeans k l e → {from to : List ℕ} {a b c d f : ℕ}
-    → from ≡ wordOf (St k) → to ≡ wordOf (St l)
+-- line i, from the words of its kinds and the digits of what an entry tells of them
+pub line-right : (i : ℕ) {k l m n : StatementKind} (e : Entry) {from to : List ℕ} {a b c d f : ℕ}
+    → k ≡ kindOf (i / 8) → from ≡ wordOf (St k) → l ≡ kindOf (i % 8) → to ≡ wordOf (St l)
+    → m ≡ kindOf (i / 8) → n ≡ kindOf (i % 8) → EntryMeans m n e
     → a ≡ shown (e .a) → b ≡ shown (e .b) → c ≡ shown (e .c) → d ≡ shown (e .d) → f ≡ shown (e .e)
-    → lineBytes from to a b c d f ≡ lineOf k l
-unfolding lineOf
-line-right k l e m first second ea eb ec ed ef =
-    let so = entry-chance k l e m in
-    rw (first, second, ea, eb, ec, ed, ef, so A, so B, so C, so D, so E) (line-bytes k l (λ x. chanceOf x k l))
-
-line-length : (k l : StatementKind) → length (lineOf k l) ≡ 16
-unfolding lineOf
-line-length k l = ap length (sym (line-bytes k l (λ x. chanceOf x k l)))
-
-pub at-length : (i : ℕ) → length (lineAt i) ≡ 16
+    → lineBytes from to a b c d f ≡ lineAt i
 unfolding lineAt
-at-length i = line-length (kindOf (i / 8)) (kindOf (i % 8))
+line-right i {m = m} {n} e hk first hl second hm hn means ea eb ec ed ef =
+    let so = entry-chance m n e means in
+    rw (first, second, hk, hl, ea, eb, ec, ed, ef, so A, so B, so C, so D, so E, hm, hn)
+    (line-bytes (kindOf (i / 8)) (kindOf (i % 8)) (λ x. chanceOf x (kindOf (i / 8)) (kindOf (i % 8))))
 
-pub line-at : (i : ℕ) {k l : StatementKind} {line : List ℕ} → k ≡ kindOf (i / 8) → l ≡ kindOf (i % 8) → line ≡ lineOf k l → line ≡ lineAt i
+at-length : (i : ℕ) → length (lineAt i) ≡ 16
 unfolding lineAt
-line-at i e f h = h ∙ ap₂ lineOf e f
+at-length i = ap length (sym (line-bytes (kindOf (i / 8)) (kindOf (i % 8)) (λ x. chanceOf x (kindOf (i / 8)) (kindOf (i % 8)))))
 
 -- ---- a line in its place
 
@@ -128,7 +123,7 @@ line-next {i} {out} {after} below f h =
 
 -- after 64 of them it is whole
 all-written : written 64 ≡ tableText chanceOf
-unfolding written lineAt lineOf tableText tableLine tableNames columns flatMap wordOf digit chanceOf kindOf kindNamed
+unfolding written lineAt tableText tableLine tableNames columns flatMap wordOf digit chanceOf kindOf kindNamed
 all-written = refl
 
 pub table-end : {i : ℕ} {out : List ℕ} → 64 ≤ i → Filled i out → KindTable out

@@ -3,18 +3,13 @@ use mathlib.Core.List.{List, _++_}
 use mathlib.Core.Path.{_≡_}
 use Prim.Native.Nat.{ℕ, zero, suc, _+_, _*_, _/_, _%_, _≤_}
 use lib.ListN.{length, take}
-use Rattle.spec_text.specs.declared.StatementKind.{StatementKind}
 use Rattle.spec_kinds.specs.Table.{tableNames, tableLine}
 use Rattle.law_kinds.specs.Chances.{chanceOf}
 use Rattle.edge_kinds.specs.Kinds.{kindOf}
 
--- the line of two kinds
-unfoldable pub lineOf : StatementKind → StatementKind → List ℕ
-lineOf k l = tableLine k l (λ x. chanceOf x k l)
-
 -- line i, counted from 0 after the names
 unfoldable pub lineAt : ℕ → List ℕ
-lineAt i = lineOf (kindOf (i / 8)) (kindOf (i % 8))
+lineAt i = let k = kindOf (i / 8) in let l = kindOf (i % 8) in tableLine k l (λ x. chanceOf x k l)
 
 -- the names and the first n lines
 unfoldable pub written : ℕ → List ℕ

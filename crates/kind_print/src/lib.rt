@@ -11,7 +11,7 @@ ghost use lib.Seq.{paste};
 ghost use Rattle.spec_text.specs.Text.{wordOf, digit};
 ghost use Rattle.spec_text.specs.declared.LineKind.the-variants.{St};
 ghost use Rattle.spec_kinds.specs.Table.{digitOf, KindTable};
-ghost use Rattle.kind_print.specs.Lines.{lineOf, lineAt};
+ghost use Rattle.kind_print.specs.Lines.{lineAt};
 
 // The bytes of the names, of each line, and of the whole table.
 const NAMES_BYTES: usize = 18;
@@ -52,13 +52,13 @@ fn digit_of(c: Chance) -> u8
     }
 }
 
-// The line of two kinds.
-fn line_of(k: StatementKind, l: StatementKind) -> [u8; LINE_BYTES]
-    ensures { λ r. ⌜ r ≡ lineOf k l ⌝ }
+// Line i of the table, counted from 0 after the names: the kind that an edge enters changes fastest.
+fn line_at(i: usize) -> [u8; LINE_BYTES]
+    ensures { λ r. ⌜ r ≡ lineAt i ⌝ }
 {
-    let from = word_of(k);
-    let to = word_of(l);
-    let entry = entry_of(k, l);
+    let from = word_of(kind_of((i / KINDS) as u64));
+    let to = word_of(kind_of((i % KINDS) as u64));
+    let entry = entry_of(kind_of((i / KINDS) as u64), kind_of((i % KINDS) as u64));
     let a = entry.a;
     let b = entry.b;
     let c = entry.c;
@@ -82,14 +82,6 @@ fn line_of(k: StatementKind, l: StatementKind) -> [u8; LINE_BYTES]
         digit_of(e),
         b'\n',
     ]
-}
-
-// Line i of the table, counted from 0 after the names: the kind entered changes fastest.
-fn line_at(i: usize) -> [u8; LINE_BYTES]
-    requires { ⌜ i < 64 ⌝ }
-    ensures { λ r. ⌜ r ≡ lineAt i ⌝ }
-{
-    line_of(kind_of((i / KINDS) as u64), kind_of((i % KINDS) as u64))
 }
 
 // Writes line i of the table to its place.
