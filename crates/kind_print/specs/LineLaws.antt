@@ -130,4 +130,5 @@ pub table-end : {i : ℕ} {out : List ℕ} → 64 ≤ i → Filled i out → Kin
 table-end {i} {out} h f =
     let last : i ≡ 64 = omega (arith, f .lines) in
     let whole : 18 + i * 16 ≡ 1042 = omega arith in
-    chances-table (sym (take-all 1042 out (omega (arith, f .size))) ∙ ap (λ (n : ℕ). take n out) (sym whole) ∙ f .front ∙ ap written last ∙ all-written)
+    chances-table
+    (sym (take-all 1042 out (omega (arith, f .size))) ∙ ap (λ (n : ℕ). take n out) (sym whole) ∙ f .front ∙ ap written last ∙ all-written)

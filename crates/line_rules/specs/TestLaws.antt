@@ -8,7 +8,7 @@ use native.Mathlib.Omega.{arith}
 use lib.Dec.{eqb, leb, ltb, eqb·suc-zero}
 use lib.ListN.{length, getD, length-append, length-map}
 use borrow.Author.Tests.{eqb-true, eqb-false, ltb-true, ltb-false, leb-true, eq-eqb, ne-eqb, lt-ltb, le-leb}
-use Rattle.spec_base.specs.Basic.{all, keep}
+use Rattle.spec_base.specs.Basic.{all, keep, within}
 use Rattle.law_base.specs.BoolLaws.{and-true, and-of, same-test, not-true, not-of-false}
 use Rattle.spec_text.specs.declared.Line.{Line}
 use Rattle.spec_text.specs.declared.LineKind.{LineKind}

@@ -12,4 +12,13 @@ returns c =
     (c3 .writes-of .ensures) (c .before .before .writes-of2 .ensures) (c .unless .ensures)
 
 pub chance-a-spec : {M : Type 1} → statement M
-chance-a-spec = tie.close (tie.spec (λ c κs. search needs) (λ c κs. search needs) (λ c κs. search needs) (λ c κs. search needs) (λ c κs. search needs) (λ c κs. search needs) returns)
+chance-a-spec =
+    tie.close
+    (tie.spec
+    (λ c κs. search needs)
+    (λ c κs. search needs)
+    (λ c κs. search needs)
+    (λ c κs. search needs)
+    (λ c κs. search needs)
+    (λ c κs. search needs)
+    returns)

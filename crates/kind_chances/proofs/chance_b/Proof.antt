@@ -12,4 +12,12 @@ returns c =
     (c3 .writes-of .ensures) (c .before .before .reads-of .ensures) (c .unless .ensures)
 
 pub chance-b-spec : {M : Type 1} → statement M
-chance-b-spec = tie.close (tie.spec (λ c κs. search needs) (λ c κs. search needs) (λ c κs. search needs) (λ c κs. search needs) (λ c κs. search needs) returns)
+chance-b-spec =
+    tie.close
+    (tie.spec
+    (λ c κs. search needs)
+    (λ c κs. search needs)
+    (λ c κs. search needs)
+    (λ c κs. search needs)
+    (λ c κs. search needs)
+    returns)

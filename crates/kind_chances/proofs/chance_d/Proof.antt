@@ -12,4 +12,12 @@ returns c =
     (c3 .reads-of .ensures) (c .before .before .writes-of .ensures) (c .unless .ensures)
 
 pub chance-d-spec : {M : Type 1} → statement M
-chance-d-spec = tie.close (tie.spec (λ c κs. search needs) (λ c κs. search needs) (λ c κs. search needs) (λ c κs. search needs) (λ c κs. search needs) returns)
+chance-d-spec =
+    tie.close
+    (tie.spec
+    (λ c κs. search needs)
+    (λ c κs. search needs)
+    (λ c κs. search needs)
+    (λ c κs. search needs)
+    (λ c κs. search needs)
+    returns)
