@@ -4,7 +4,7 @@
 # vectors and on 40,000 generated texts, every report, edge record and unfolding of 4,000 of them by the program inspect (beside PROGRAM unless
 # named), then brute force against demand 3; texts that arrive in pieces and inputs and outputs that fail; and the script judge, with a stand-in
 # for rt. Half of the texts and workloads are drawn without kl, as before document 02, Req 03, the other half with it. The table of kinds is held to
-# the rules as it stands in the source, whatever PROGRAM was built from.
+# the rules as it stands in the source, whatever PROGRAM was built from, and as the program kinds beside PROGRAM prints it.
 here="$(CDPATH= cd -- "$(dirname -- "$0")" && pwd)"
 program="${1:?usage: run.sh PROGRAM [SEED [INSPECT]]}"
 seed="${2:-1}"
@@ -15,7 +15,9 @@ reports="$here/listing.sh $inspect report"
 "$here/build.sh" || exit 1
 failed=0
 "$here/check.sh" "$program" "$unfoldings" "$edges" || failed=1
-"$here/kinds.sh" || failed=1
+kinds="$(dirname "$program")/kinds"
+[ -x "$kinds" ] || kinds=-
+"$here/kinds.sh" "$kinds" || failed=1
 for locks in "" --locks; do
     "$here/target/selfcheck" "$seed" 5000 "$here/../examples/tpcc.txt" $locks || failed=1
     "$here/target/shields" "$seed" 3000 $locks || failed=1

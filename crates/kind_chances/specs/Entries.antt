@@ -1,12 +1,9 @@
--- What is said of the letters between two kinds, together. Believed by who calls `entry_of`.
-use mathlib.Core.Bool.{Bool, cond}
+-- What is said of the letters between two kinds, together. Believed.
 use Rattle.spec_text.specs.declared.StatementKind.{StatementKind}
 use Rattle.spec_graph.specs.Edge.{Letter}
 use Rattle.spec_graph.specs.Edge.Letter.{A, B, C, D, E}
 use Rattle.spec_kinds.specs.declared.Chance.{Chance}
 use Rattle.spec_kinds.specs.Meaning.{Means}
-use Rattle.law_kinds.specs.declared.SetClass.{SetClass}
-use Rattle.law_kinds.specs.declared.SetClass.the-variants.{Lacking, Any, Filled, Whole}
 use Rattle.kind_chances.specs.declared.Entry.{Entry}
 
 -- the chance of a letter
@@ -20,7 +17,3 @@ chanceFor e E = e .e
 -- Req 05: each says what is so by the rules
 abbrev pub EntryMeans : StatementKind → StatementKind → Entry → Type 0
 EntryMeans k l e = (x : Letter) → Means x k l (chanceFor e x)
-
--- the class of a set, from whether the kind has it, whether it is never empty, and whether it is the whole relation
-abbrev pub classBy : Bool → Bool → Bool → SetClass
-classBy there some whole = cond there (cond whole Whole (cond some Filled Any)) Lacking

@@ -1,67 +1,16 @@
--- The facts by which a line is read (line_kinds) tell the classes of a kind's sets, and these the chances.
+-- What code asks of two kinds, and of the classes of their sets, gives the chance of each letter between them.
 use mathlib.Core.Bool.{Bool, true, false, cond, not, _||_}
-use mathlib.Core.Path.{_≡_, refl, sym, ap, ap₂, subst, _∙_}
-use Prim.Native.Nat.{ℕ}
+use mathlib.Core.Path.{_≡_, refl, sym, ap₂, subst, _∙_}
 use Rattle.spec_text.specs.declared.StatementKind.{StatementKind}
-use Rattle.spec_text.specs.declared.StatementKind.the-variants.{Is, Ks, Ps, Ku, Pu, Kd, Pd, Kl}
 use Rattle.spec_graph.specs.Edge.{R, W, T, hasTests, inserts, deletes}
 use Rattle.spec_graph.specs.Edge.Letter.{A, B, C, D, E}
 use Rattle.spec_kinds.specs.declared.Chance.{Chance}
 use Rattle.spec_kinds.specs.declared.Chance.the-variants.{Impossible, Certain}
 use Rattle.spec_kinds.specs.Meaning.{Means}
 use Rattle.law_kinds.specs.declared.SetClass.{SetClass}
-use Rattle.law_kinds.specs.EveryKind.{kinds-agree}
-use Rattle.law_kinds.specs.KindSets.{setsOf}
 use Rattle.law_kinds.specs.SetMeaning.{SetMeans, set-one, reads-mean, writes-mean, tests-mean}
 use Rattle.law_kinds.specs.Chances.{meeting, chanceOf}
 use Rattle.law_kinds.specs.ChanceLaws.{chance-means}
-use Rattle.line_kinds.specs.Kinds.{factsOf, lacksFact, hasReads, hasWrites, hasTests as testsBit, someReads, someWrites, wholeWrites}
-use Rattle.kind_chances.specs.Entries.{classBy}
-
--- a fact among those of a kind
-abbrev has : ℕ → ℕ → Bool
-has facts fact = not (lacksFact facts fact)
-
--- the classes that the facts of a kind tell
-abbrev readsBy : ℕ → SetClass
-readsBy facts = classBy (has facts hasReads) (has facts someReads) false
-
-abbrev writesBy : ℕ → SetClass
-writesBy facts = classBy (has facts hasWrites) (has facts someWrites) (has facts wholeWrites)
-
-abbrev testsBy : ℕ → SetClass
-testsBy facts = classBy (has facts testsBit) false false
-
-record FactsTold (k : StatementKind) : Type 0 where
-  reads : readsBy (factsOf k) ≡ setsOf k .reads
-  writes : writesBy (factsOf k) ≡ setsOf k .writes
-  tests : testsBy (factsOf k) ≡ setsOf k .tests
-
-facts-told : (k : StatementKind) → FactsTold k
-facts-told Is = record { reads = refl; writes = refl; tests = refl }
-facts-told Ks = record { reads = refl; writes = refl; tests = refl }
-facts-told Ps = record { reads = refl; writes = refl; tests = refl }
-facts-told Ku = record { reads = refl; writes = refl; tests = refl }
-facts-told Pu = record { reads = refl; writes = refl; tests = refl }
-facts-told Kd = record { reads = refl; writes = refl; tests = refl }
-facts-told Pd = record { reads = refl; writes = refl; tests = refl }
-facts-told Kl = record { reads = refl; writes = refl; tests = refl }
-
-module _ (k : StatementKind) {facts : ℕ} {c : SetClass} (e : facts ≡ factsOf k) where
-  pub reads-by : c ≡ readsBy facts → SetMeans R k c
-  reads-by h = subst (SetMeans R k) (sym (h ∙ ap readsBy e ∙ facts-told k .reads)) (reads-mean k)
-
-  pub writes-by : c ≡ writesBy facts → SetMeans W k c
-  writes-by h = subst (SetMeans W k) (sym (h ∙ ap writesBy e ∙ facts-told k .writes)) (writes-mean k)
-
-  pub tests-by : c ≡ testsBy facts → SetMeans T k c
-  tests-by h = subst (SetMeans T k) (sym (h ∙ ap testsBy e ∙ facts-told k .tests)) (tests-mean k)
-
--- a kind has tests where its facts say so
-pub tests-there : (k : StatementKind) {facts : ℕ} → facts ≡ factsOf k → has facts testsBit ≡ hasTests k
-tests-there k e = ap (λ (f : ℕ). has f testsBit) e ∙ kinds-agree (λ k. has (factsOf k) testsBit) hasTests refl k
-
--- ---- the letters, by what code asks of the two kinds and of the classes of their sets
 
 turned : (b : Bool) (c d : Chance) → cond (not b) c d ≡ cond b d c
 turned true c d = refl

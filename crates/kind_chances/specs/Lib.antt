@@ -1,2 +1,3 @@
 pub mod Entries
+pub mod Classes
 pub mod EntryLaws

@@ -19,7 +19,8 @@ ghost use Rattle.spec_kinds.specs.Meaning.{Means};
 ghost use Rattle.law_kinds.specs.SetMeaning.{SetMeans};
 ghost use Rattle.law_kinds.specs.Chances.{meeting};
 ghost use Rattle.law_kinds.specs.KindSets.{isThere, isFilled, isWhole};
-ghost use Rattle.kind_chances.specs.Entries.{classBy, EntryMeans};
+ghost use Rattle.kind_chances.specs.Classes.{classBy};
+ghost use Rattle.kind_chances.specs.Entries.{EntryMeans};
 
 // The chances of the five letters between two kinds.
 pub struct Entry {

@@ -4,3 +4,4 @@ pub mod SetMeaning
 pub mod Chances
 pub mod ChanceLaws
 pub mod TableLaws
+pub mod TextPairs

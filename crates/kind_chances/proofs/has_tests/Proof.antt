@@ -1,6 +1,6 @@
 -- The fact says it (tests-there).
 use borrow.Author.Needs.{needs}
-use Rattle.kind_chances.specs.EntryLaws.{tests-there}
+use Rattle.kind_chances.specs.Classes.{tests-there}
 use Rattle.kind_chances.proofs.has_tests.Statement.{statement}
 use Rattle.kind_chances.proofs.has_tests.Tie as tie
 

@@ -1,6 +1,6 @@
 -- The facts of the kind tell the class of its reads (reads-by): those that T9 allows.
 use borrow.Author.Needs.{needs}
-use Rattle.kind_chances.specs.EntryLaws.{reads-by}
+use Rattle.kind_chances.specs.Classes.{reads-by}
 use Rattle.kind_chances.proofs.reads_of.Statement.{statement}
 use Rattle.kind_chances.proofs.reads_of.Tie as tie
 

@@ -1,6 +1,6 @@
 -- The facts of the kind tell the class of its tests (tests-by): those that T9 allows.
 use borrow.Author.Needs.{needs}
-use Rattle.kind_chances.specs.EntryLaws.{tests-by}
+use Rattle.kind_chances.specs.Classes.{tests-by}
 use Rattle.kind_chances.proofs.tests_of.Statement.{statement}
 use Rattle.kind_chances.proofs.tests_of.Tie as tie
 

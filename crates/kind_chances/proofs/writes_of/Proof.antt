@@ -1,6 +1,6 @@
 -- The facts of the kind tell the class of its writes (writes-by): those that T9 allows.
 use borrow.Author.Needs.{needs}
-use Rattle.kind_chances.specs.EntryLaws.{writes-by}
+use Rattle.kind_chances.specs.Classes.{writes-by}
 use Rattle.kind_chances.proofs.writes_of.Statement.{statement}
 use Rattle.kind_chances.proofs.writes_of.Tie as tie
 

@@ -1,0 +1,42 @@
+#!/bin/sh
+# kind-lines.sh [names|values [SOURCE]]: prints the constant table of kinds as it stands in the source (crates/kind_table/src/lib.rt unless named), in
+# the lines of document 02, Req 05: by the values of the codes in its grid, which the code reads, or by their names, which people read. What cannot
+# be read becomes `?`. To hold the printed table to the source:
+#     outside/kind-lines.sh > /tmp/source-table && target/bin/kinds | diff /tmp/source-table - && echo the same
+here="$(CDPATH= cd -- "$(dirname -- "$0")" && pwd)"
+way="${1:-values}"
+source="${2:-$here/../crates/kind_table/src/lib.rt}"
+case "$way" in names | values) ;; *) echo "usage: kind-lines.sh [names|values [SOURCE]]" >&2; exit 2 ;; esac
+[ -r "$source" ] || { echo "kind-lines: cannot read $source" >&2; exit 1; }
+LC_ALL=C exec awk -v way="$way" '
+    function by_name(code,   k, c, out) {
+        for (k = 1; k <= length(code); k++) {
+            c = substr(code, k, 1)
+            out = out " " (c == "_" ? 0 : c == substr("ABCDE", k, 1) ? 1 : c == substr("abcde", k, 1) ? 2 : "?")
+        }
+        return out
+    }
+    function by_value(code,   out) {
+        out = value[code]
+        if (out !~ /^0b(0[01]|10)(_(0[01]|10))(_(0[01]|10))(_(0[01]|10))(_(0[01]|10))$/) return " ?"
+        sub(/^0b/, "_", out)
+        gsub(/_00/, " 0", out)
+        gsub(/_01/, " 1", out)
+        gsub(/_10/, " 2", out)
+        return out
+    }
+    BEGIN { split("is ks ps ku pu kd pd kl", kind); print "from to a b c d e" }
+    { sub(/\/\/.*/, "") }
+    /^const [A-Za-z_]+: u32 = / { sub(/:$/, "", $2); sub(/;$/, "", $5); value[$2] = $5; next }
+    /^const LETTERS:/ { inside = 1; sub(/.*=/, "") }
+    inside {
+        last = /;/
+        gsub(/[^A-Za-z0-9_]+/, " ")
+        for (k = 1; k <= NF; k++) code[codes++] = $k
+        if (last) inside = 0
+    }
+    END {
+        for (k = 0; k < codes; k++)
+            print kind[int(k / 8) + 1] " " kind[k % 8 + 1] (way == "names" ? by_name(code[k]) : by_value(code[k]))
+    }
+' "$source"
