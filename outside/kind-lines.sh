@@ -1,13 +1,16 @@
 #!/bin/sh
-# kind-lines.sh [names|values [SOURCE]]: prints the constant table of kinds as it stands in the source (crates/kind_table/src/lib.rt unless named), in
-# the lines of document 02, Req 05: by the values of the codes in its grid, which the code reads, or by their names, which people read. What cannot
-# be read becomes `?`. To hold the printed table to the source:
+# kind-lines.sh [values|names|page [FILE]]: prints the constant table of kinds as it stands in its source (crates/kind_table unless one is named), in
+# the lines of document 02, Req 05: by the values of the codes in its grid, which the code reads, or by their names, which people read; or the grid
+# of the page for reviewers, docs/KINDS.md. What cannot be read becomes `?`. To hold the printed table to the source:
 #     outside/kind-lines.sh > /tmp/source-table && target/bin/kinds | diff /tmp/source-table - && echo the same
 here="$(CDPATH= cd -- "$(dirname -- "$0")" && pwd)"
 way="${1:-values}"
-source="${2:-$here/../crates/kind_table/src/lib.rt}"
-case "$way" in names | values) ;; *) echo "usage: kind-lines.sh [names|values [SOURCE]]" >&2; exit 2 ;; esac
-[ -r "$source" ] || { echo "kind-lines: cannot read $source" >&2; exit 1; }
+case "$way" in
+    values | names) file="${2:-$here/../crates/kind_table/src/lib.rt}" ;;
+    page) file="${2:-$here/../docs/KINDS.md}" ;;
+    *) echo "usage: kind-lines.sh [values|names|page [FILE]]" >&2; exit 2 ;;
+esac
+[ -r "$file" ] && [ -f "$file" ] || { echo "kind-lines: cannot read $file" >&2; exit 1; }
 LC_ALL=C exec awk -v way="$way" '
     function by_name(code,   k, c, out) {
         for (k = 1; k <= length(code); k++) {
@@ -26,6 +29,13 @@ LC_ALL=C exec awk -v way="$way" '
         return out
     }
     BEGIN { split("is ks ps ku pu kd pd kl", kind); print "from to a b c d e" }
+    way == "page" {
+        if (/^\| \*\*/) {
+            gsub(/[^A-Za-z_]+/, " ")
+            for (k = 2; k <= NF; k++) print $1 " " kind[k - 1] by_name($k)
+        }
+        next
+    }
     { sub(/\/\/.*/, "") }
     /^const [A-Za-z_]+: u32 = / { sub(/:$/, "", $2); sub(/;$/, "", $5); value[$2] = $5; next }
     /^const LETTERS:/ { inside = 1; sub(/.*=/, "") }
@@ -39,4 +49,4 @@ LC_ALL=C exec awk -v way="$way" '
         for (k = 0; k < codes; k++)
             print kind[int(k / 8) + 1] " " kind[k % 8 + 1] (way == "names" ? by_name(code[k]) : by_value(code[k]))
     }
-' "$source"
+' "$file"

@@ -1,7 +1,7 @@
 #!/bin/sh
-# kinds.sh [PROGRAM [SOURCE]]: holds the constant table of kinds, as it stands in the source, by the values of its codes and by their names, and what
-# PROGRAM (the built program `kinds`) prints to what `kinds` of this directory works out from the rules by brute force. Without PROGRAM, or with
-# `-`, the recorded output of the program, crates/kinds/stdout, stands for what it prints.
+# kinds.sh [PROGRAM [SOURCE]]: holds the constant table of kinds, as it stands in the source, by the values of its codes and by their names, the page
+# docs/KINDS.md and what PROGRAM (the built program `kinds`) prints to what `kinds` of this directory works out from the rules by brute force.
+# Without PROGRAM, or with `-`, the recorded output of the program, crates/kinds/stdout, stands for what it prints.
 here="$(CDPATH= cd -- "$(dirname -- "$0")" && pwd)"
 root="$(CDPATH= cd -- "$here/.." && pwd)"
 program="${1:--}"
@@ -22,6 +22,8 @@ for way in names values; do
     "$here/kind-lines.sh" $way "$source" > "$made/$way" || failed=1
     same "$source, read by its $way" "$made/$way"
 done
+"$here/kind-lines.sh" page > "$made/page" || failed=1
+same "docs/KINDS.md" "$made/page"
 if [ "$program" = - ]; then
     same "the recorded output" "$root/crates/kinds/stdout"
     printed="the recorded output"
@@ -30,5 +32,5 @@ else
     same "what $program prints" "$made/printed"
     printed="what $program prints"
 fi
-[ $failed = 1 ] || echo "kinds: the 64 entries of $source, by their names and by their values, and $printed are what the rules give"
+[ $failed = 1 ] || echo "kinds: the 64 entries of $source, by their names and by their values, docs/KINDS.md and $printed are what the rules give"
 exit $failed
