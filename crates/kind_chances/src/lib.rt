@@ -148,19 +148,6 @@ fn is_whole(c: SetClass) -> bool
     }
 }
 
-// Whether two sets meet: never where one is not there, always where one is the whole relation and the other never empty.
-fn met(a: SetClass, b: SetClass) -> Chance
-    ensures { λ r. ⌜ r ≡ meeting a b ⌝ }
-{
-    if is_there(a) & is_there(b) {
-        if (is_whole(a) & is_filled(b)) | (is_filled(a) & is_whole(b)) {
-            return Chance::Certain;
-        }
-        return Chance::Hanging;
-    }
-    Chance::Impossible
-}
-
 // A chance, but where a kind rules the letter out.
 fn unless(out: bool, chance: Chance) -> Chance
     ensures { λ r. ⌜ r ≡ cond out Impossible chance ⌝ }
@@ -171,7 +158,17 @@ fn unless(out: bool, chance: Chance) -> Chance
     chance
 }
 
-// A chance, but where a kind is enough.
+// A chance, where what it needs is there.
+fn needing(there: bool, chance: Chance) -> Chance
+    ensures { λ r. ⌜ r ≡ cond there chance Impossible ⌝ }
+{
+    if there {
+        return chance;
+    }
+    Chance::Impossible
+}
+
+// A chance, but where something is enough.
 fn or_certain(enough: bool, chance: Chance) -> Chance
     ensures { λ r. ⌜ r ≡ cond enough Certain chance ⌝ }
 {
@@ -179,6 +176,14 @@ fn or_certain(enough: bool, chance: Chance) -> Chance
         return Chance::Certain;
     }
     chance
+}
+
+// Whether two sets meet: never where one is not there, always where one is the whole relation and the other never empty.
+fn met(a: SetClass, b: SetClass) -> Chance
+    ensures { λ r. ⌜ r ≡ meeting a b ⌝ }
+{
+    let sure = (is_whole(a) & is_filled(b)) | (is_filled(a) & is_whole(b));
+    needing(is_there(a) & is_there(b), or_certain(sure, Chance::Hanging))
 }
 
 // ---- the letters
@@ -197,14 +202,12 @@ fn chance_b(k: StatementKind, l: StatementKind) -> Chance
     unless(deletes(k), met(writes_of(k), reads_of(l)))
 }
 
-// EC: an insert or delete and any tests, or a write and the tests.
+// EC: a kind that tests after an insert or delete, or tests that meet a write.
 fn chance_c(k: StatementKind, l: StatementKind) -> Chance
     ensures { λ r. ⌜ Means Letter.C k l r ⌝ }
 {
-    unless(
-        !has_tests(l),
-        or_certain(inserts(k) | deletes(k), met(writes_of(k), tests_of(l))),
-    )
+    let meet = met(writes_of(k), tests_of(l));
+    needing(has_tests(l), or_certain(inserts(k) | deletes(k), meet))
 }
 
 // ED: a read and a write, no insert.
@@ -214,14 +217,11 @@ fn chance_d(k: StatementKind, l: StatementKind) -> Chance
     unless(inserts(l), met(reads_of(k), writes_of(l)))
 }
 
-// EE: any tests and an insert or delete, or the tests and a write.
+// EE: as EC, the other way round.
 fn chance_e(k: StatementKind, l: StatementKind) -> Chance
     ensures { λ r. ⌜ Means Letter.E k l r ⌝ }
 {
-    unless(
-        !has_tests(k),
-        or_certain(inserts(l) | deletes(l), met(tests_of(k), writes_of(l))),
-    )
+    chance_c(l, k)
 }
 
 // The letters between two kinds, over all sets that document 01 allows them on one relation.

@@ -6,12 +6,12 @@ use Rattle.kind_chances.proofs.chance_c.Tie as tie
 
 returns : tie.Need-returns
 returns c =
-    let c4 = c .before .before .before .before in
-    let c7 = c4 .before .before .before in
-    let given = c7 .before .args in
-    c-told (given .k) (given .l) (c .before .before .met .ensures) (c7 .has-tests .ensures) (c4 .before .before .inserts .ensures)
-    (c4 .before .deletes .ensures) (c4 .writes-of .ensures) (c .before .before .before .tests-of .ensures) (c .before .or-certain .ensures)
-    (c .unless .ensures)
+    let c3 = c .before .before .before in
+    let c6 = c3 .before .before .before in
+    let given = c6 .before .before .args in
+    c-told (given .k) (given .l) (c3 .before .before .met .ensures) (c6 .before .writes-of .ensures) (c6 .tests-of .ensures)
+    (c3 .before .has-tests .ensures) (c3 .inserts .ensures) (c .before .before .deletes .ensures) (c .before .or-certain .ensures)
+    (c .needing .ensures)
 
 pub chance-c-spec : {M : Type 1} → statement M
 chance-c-spec =

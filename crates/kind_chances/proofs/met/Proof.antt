@@ -1,5 +1,4 @@
--- Where both are there, the two ways to meet for certain are asked; else they cannot meet.
-use mathlib.Core.Path.{sym}
+-- What is asked of the two classes is what the contract asks.
 use borrow.Author.Needs.{needs}
 use Rattle.kind_chances.proofs.met.Statement.{statement}
 use Rattle.kind_chances.proofs.met.Tie as tie
@@ -9,33 +8,15 @@ returns c =
     let c3 = c .before .before .before in
     let c6 = c3 .before .before .before in
     rw (
-      sym (c6 .before .is-there .ensures),
-      sym (c6 .is-there2 .ensures),
-      c3 .before .before .if1 .taken,
-      sym (c3 .before .is-whole .ensures),
-      sym (c3 .is-filled .ensures),
-      sym (c .before .before .is-filled2 .ensures),
-      sym (c .before .is-whole2 .ensures),
-      c .if2 .taken,
+      c .needing .ensures,
+      c .before .or-certain .ensures,
+      c .before .before .is-there2 .ensures,
+      c3 .is-there .ensures,
+      c3 .before .is-whole2 .ensures,
+      c3 .before .before .is-filled2 .ensures,
+      c6 .is-filled .ensures,
+      c6 .before .is-whole .ensures,
     )
-
-returns-2 : tie.Need-returns-2
-returns-2 c =
-    let c3 = c .before .before .before in
-    let c6 = c3 .before .before .before in
-    rw (
-      sym (c6 .before .is-there .ensures),
-      sym (c6 .is-there2 .ensures),
-      c3 .before .before .if1 .taken,
-      sym (c3 .before .is-whole .ensures),
-      sym (c3 .is-filled .ensures),
-      sym (c .before .before .is-filled2 .ensures),
-      sym (c .before .is-whole2 .ensures),
-      c .if2 .left,
-    )
-
-returns-3 : tie.Need-returns-3
-returns-3 c = rw (sym (c .before .before .is-there .ensures), sym (c .before .is-there2 .ensures), c .if1 .left)
 
 pub met-spec : {M : Type 1} → statement M
 met-spec =
@@ -47,6 +28,6 @@ met-spec =
     (λ c κs. search needs)
     (λ c κs. search needs)
     (λ c κs. search needs)
-    returns
-    returns-2
-    returns-3)
+    (λ c κs. search needs)
+    (λ c κs. search needs)
+    returns)
