@@ -1,7 +1,7 @@
 #!/bin/sh
 # kind-lines.sh [values|names|page [FILE]]: prints the constant table of kinds as it stands in its source (crates/kind_table unless one is named), in
 # the lines of document 02, Req 05: by the values of the codes in its grid, which the code reads, or by their names, which people read; or the grid
-# of the page for reviewers, docs/KINDS.md. What cannot be read becomes `?`. To hold the printed table to the source:
+# of the page for reviewers, docs/KINDS.md. What is not in the form that it has there becomes `?`. To hold the printed table to the source:
 #     outside/kind-lines.sh > /tmp/source-table && target/bin/kinds | diff /tmp/source-table - && echo the same
 here="$(CDPATH= cd -- "$(dirname -- "$0")" && pwd)"
 way="${1:-values}"
@@ -37,11 +37,19 @@ LC_ALL=C exec awk -v way="$way" '
         next
     }
     { sub(/\/\/.*/, "") }
-    /^const [A-Za-z_]+: u32 = / { sub(/:$/, "", $2); sub(/;$/, "", $5); value[$2] = $5; next }
+    /\/\*/ { code[codes++] = "?" }
+    /^const [A-Za-z_]+: u32/ {
+        whole = /^const [A-Za-z_]+: u32 = 0b[01_]+;[ \t]*$/
+        sub(/:$/, "", $2)
+        sub(/;$/, "", $5)
+        value[$2] = whole ? $5 : "?"
+        next
+    }
     /^const LETTERS:/ { inside = 1; sub(/.*=/, "") }
     inside {
         last = /;/
-        gsub(/[^A-Za-z0-9_]+/, " ")
+        if (/[^][A-Za-z0-9_,; \t]/) code[codes++] = "?"
+        gsub(/[^A-Za-z0-9_?]+/, " ")
         for (k = 1; k <= NF; k++) code[codes++] = $k
         if (last) inside = 0
     }
@@ -49,4 +57,4 @@ LC_ALL=C exec awk -v way="$way" '
         for (k = 0; k < codes; k++)
             print kind[int(k / 8) + 1] " " kind[k % 8 + 1] (way == "names" ? by_name(code[k]) : by_value(code[k]))
     }
-' "$file"
+' < "$file"

@@ -7,6 +7,7 @@ root="$(CDPATH= cd -- "$here/.." && pwd)"
 program="${1:--}"
 source="${2:-$root/crates/kind_table/src/lib.rt}"
 [ -x "$here/target/kinds" ] || "$here/build.sh" kinds || exit 1
+[ "$(readlink -f -- "$program")" != "$here/target/kinds" ] || { echo "kinds: PROGRAM is the brute force itself"; exit 2; }
 made="$here/target/kind-table"
 mkdir -p "$made"
 "$here/target/kinds" > "$made/rules" || { echo "kinds: the rules give no table"; exit 1; }

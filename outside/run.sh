@@ -4,7 +4,8 @@
 # vectors and on 40,000 generated texts, every report, edge record and unfolding of 4,000 of them by the program inspect (beside PROGRAM unless
 # named), then brute force against demand 3; texts that arrive in pieces and inputs and outputs that fail; and the script judge, with a stand-in
 # for rt. Half of the texts and workloads are drawn without kl, as before document 02, Req 03, the other half with it. The table of kinds is held to
-# the rules as it stands in the source, whatever PROGRAM was built from, and as the program kinds beside PROGRAM prints it.
+# the rules as it stands in the source, whatever PROGRAM was built from, and as the program kinds beside PROGRAM prints it, or its recorded output
+# where there is none.
 here="$(CDPATH= cd -- "$(dirname -- "$0")" && pwd)"
 program="${1:?usage: run.sh PROGRAM [SEED [INSPECT]]}"
 seed="${2:-1}"

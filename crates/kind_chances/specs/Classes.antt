@@ -1,5 +1,5 @@
 -- The classes of a kind's sets, from the facts by which its lines are read (line_kinds).
-use mathlib.Core.Bool.{Bool, true, false, cond, not}
+use mathlib.Core.Bool.{Bool, false, cond, not}
 use mathlib.Core.Path.{_≡_, refl, sym, ap, subst, _∙_}
 use Prim.Native.Nat.{ℕ}
 use Rattle.spec_text.specs.declared.StatementKind.{StatementKind}

@@ -1,7 +1,6 @@
--- The whole table of kinds, line by line (Req 05): a rule on kinds, sets, letters or on the table's form that is changed makes this false.
+-- The whole table of kinds, line by line (Req 05): a change of the rules that changes an entry, or of the table's form, makes this false.
 use mathlib.Core.List.{List, [], _∷_, flatMap}
-use mathlib.Core.Path.{_≡_, refl}
-use Prim.Native.Nat.{ℕ}
+use mathlib.Core.Path.{refl}
 use Prim.Native.String.{String}
 use Rattle.spec_text.specs.Text.{digit, wordOf}
 use Rattle.spec_text.specs.Quoted.{bytes, text}

@@ -1,7 +1,7 @@
 -- Line after line, the table is written.
 use mathlib.Core.List.{List, [], _∷_, _++_, flatMap, append-assoc, append-nil}
-use mathlib.Core.Path.{_≡_, refl, sym, ap, ap₂, subst, _∙_}
-use Prim.Native.Nat.{ℕ, suc, _+_, _-_, _*_, _/_, _%_, _≤_, _<_}
+use mathlib.Core.Path.{_≡_, refl, sym, ap, ap₂, _∙_}
+use Prim.Native.Nat.{ℕ, _+_, _-_, _*_, _/_, _%_, _≤_, _<_}
 use native.Mathlib.Numerals.{add-one}
 use native.Mathlib.Omega.{arith}
 use lib.Dec.{eqb}
@@ -23,7 +23,7 @@ use Rattle.law_kinds.specs.TableLaws.{chances-table}
 use Rattle.edge_kinds.specs.Kinds.{kindOf, kindNamed}
 use Rattle.kind_chances.specs.declared.Entry.{Entry}
 use Rattle.kind_chances.specs.Entries.{chanceFor, EntryMeans}
-use Rattle.kind_print.specs.Lines.{lineAt, written, Filled}
+use Rattle.kind_print.specs.Lines.{lineAt, written, Filling}
 
 -- ---- a line
 
@@ -97,7 +97,7 @@ line-pasted out at i {line} {end} e h =
 -- ---- the table
 
 -- the names are copied to the front
-pub names-first : (out : List ℕ) {after : List ℕ} → 1042 ≡ length out → after ≡ take 18 tableNames ++ drop 18 out → Filled 0 after
+pub names-first : (out : List ℕ) {after : List ℕ} → 1042 ≡ length out → after ≡ take 18 tableNames ++ drop 18 out → Filling 0 after
 unfolding tableNames written
 names-first out {after} size h = record {
   size = rw h (omega (arith, length-append (take 18 tableNames) (drop 18 out), length-drop 18 out));
@@ -106,7 +106,7 @@ names-first out {after} size h = record {
 }
 
 -- then line i
-pub line-next : {i : ℕ} {out after : List ℕ} → i < 64 → Filled i out → after ≡ paste out (18 + i * 16) (lineAt i) 16 → Filled (i + 1) after
+pub line-next : {i : ℕ} {out after : List ℕ} → i < 64 → Filling i out → after ≡ paste out (18 + i * 16) (lineAt i) 16 → Filling (i + 1) after
 unfolding written
 line-next {i} {out} {after} below f h =
     let long = at-length i in
@@ -126,7 +126,7 @@ all-written : written 64 ≡ tableText chanceOf
 unfolding written lineAt tableText tableLine tableNames columns flatMap wordOf digit chanceOf kindOf kindNamed
 all-written = refl
 
-pub table-end : {i : ℕ} {out : List ℕ} → 64 ≤ i → Filled i out → KindTable out
+pub table-end : {i : ℕ} {out : List ℕ} → 64 ≤ i → Filling i out → KindTable out
 table-end {i} {out} h f =
     let last : i ≡ 64 = omega (arith, f .lines) in
     let whole : 18 + i * 16 ≡ 1042 = omega arith in

@@ -17,7 +17,7 @@ written zero = tableNames
 written (suc n) = written n ++ lineAt n
 
 -- what holds in each turn of the loop over the lines
-pub record Filled (i : ℕ) (out : List ℕ) : Type 0 where
+pub record Filling (i : ℕ) (out : List ℕ) : Type 0 where
   pub size : length out ≡ 1042
   pub lines : i ≤ 64
   pub front : take (18 + i * 16) out ≡ written i

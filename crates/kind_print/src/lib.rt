@@ -1,5 +1,6 @@
 // The table of kinds as bytes: a line of names, then a line for each two kinds (Req 05).
 
+use edge_kinds::KINDS;
 use edge_kinds::kind_of;
 use kind_chances::entry_of;
 use spec_kinds::Chance;
@@ -20,9 +21,7 @@ const LINE_BYTES: usize = 16;
 
 pub const TABLE_BYTES: usize = 1042;
 
-// The kinds, and the lines: one for each two of them.
-const KINDS: usize = 8;
-
+// The lines: one for each two kinds.
 const LINES: usize = 64;
 
 // The two letters of a kind.
@@ -56,9 +55,9 @@ fn digit_of(c: Chance) -> u8
 fn line_at(i: usize) -> [u8; LINE_BYTES]
     ensures { λ r. ⌜ r ≡ lineAt i ⌝ }
 {
-    let from = word_of(kind_of((i / KINDS) as u64));
-    let to = word_of(kind_of((i % KINDS) as u64));
-    let entry = entry_of(kind_of((i / KINDS) as u64), kind_of((i % KINDS) as u64));
+    let from = word_of(kind_of(i as u64 / KINDS));
+    let to = word_of(kind_of(i as u64 % KINDS));
+    let entry = entry_of(kind_of(i as u64 / KINDS), kind_of(i as u64 % KINDS));
     let a = entry.a;
     let b = entry.b;
     let c = entry.c;

@@ -1,7 +1,7 @@
 -- A rule over all statement kinds is one computed test over their list; a new kind stands in the list (spec_kinds/Table) and has a line in
 -- `kind-listed`. So is a rule over all letters between all pairs of kinds.
 use mathlib.Core.Bool.{Bool, true, false, cond, not, _||_}
-use mathlib.Core.List.{List, [], _∷_, List·Memᴰ}
+use mathlib.Core.List.{List·Memᴰ}
 use mathlib.Core.Path.{_≡_, refl, sym}
 use Rattle.spec_base.specs.Basic.{all}
 use Rattle.law_base.specs.ListLaws.{getElem?-member}

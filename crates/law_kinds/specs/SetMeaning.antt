@@ -1,5 +1,5 @@
 -- The class of a set says which sets T9 allows a kind there: these and no others.
-use mathlib.Core.Bool.{Bool, true, false, cond, not}
+use mathlib.Core.Bool.{Bool, true, cond, not}
 use mathlib.Core.Path.{_≡_, refl, sym, ap, _∙_}
 use Prim.Native.Nat.{ℕ, _<_, _^_}
 use native.Mathlib.Omega.{arith}
@@ -16,12 +16,12 @@ use Rattle.law_base.specs.BoolLaws.{and-of}
 use Rattle.law_kinds.specs.declared.SetClass.{SetClass}
 use Rattle.law_kinds.specs.declared.SetClass.the-variants.{Lacking, Any, Filled, Whole}
 use Rattle.law_kinds.specs.EveryKind.{kinds-agree}
-use Rattle.law_kinds.specs.KindSets.{setsOf, isThere, Fits, Allowed, allowed-over, fits-within}
+use Rattle.law_kinds.specs.KindSets.{setsOf, isThere, Fits, allowed-over, fits-within}
 
 -- T9: over every relation, a set that a statement of this kind is allowed there fits the class, and each set that fits is that of an allowed one
 pub record SetMeans (set : Statement → ℕ) (k : StatementKind) (c : SetClass) : Type 0 where
   pub fits : {full : ℕ} (l : Line) → (full ≡ 0 → ⊥) → full < 2 ^ 64 → setsAllowed full k l ≡ true → Fits c full (set (statementOf k l))
-  pub met : {full : ℕ} (x : ℕ) → (full ≡ 0 → ⊥) → full < 2 ^ 64 → Fits c full x
+  pub allowed : {full : ℕ} (x : ℕ) → (full ≡ 0 → ⊥) → full < 2 ^ 64 → Fits c full x
       → (l : Line) × (setsAllowed full k l ≡ true) × (set (statementOf k l) ≡ x)
 
 -- ---- one class alone says so
@@ -48,7 +48,7 @@ fits-one Whole Filled f g = let e = g 1 (refl, λ e. omega arith) in absurd (ome
 module _ {set : Statement → ℕ} {k : StatementKind} where
   passed-on : {c d : SetClass} → SetMeans set k c → SetMeans set k d → (x : ℕ) → Fits c 3 x → Fits d 3 x
   passed-on {c} {d} f g x h =
-      let m = f .met {full = 3} x (λ e. omega arith) (omega arith) h in
+      let m = f .allowed {full = 3} x (λ e. omega arith) (omega arith) h in
       rw (sym (m .2)) (g .fits {full = 3} (m .0) (λ e. omega arith) (omega arith) (m .1))
 
   pub set-one : {c d : SetClass} → SetMeans set k c → SetMeans set k d → c ≡ d
@@ -134,7 +134,7 @@ pub reads-mean : (k : StatementKind) → SetMeans R k (setsOf k .reads)
 unfolding statementOf
 reads-mean k = record {
   fits = λ l some word h. allowed-over k l some word h .reads;
-  met = λ {full} x some word h.
+  allowed = λ {full} x some word h.
       let f : Chosen k full x _ _ =
       record { reads = h; writes = some-fits (setsOf k .writes) full some; tests = some-fits (setsOf k .tests) full some } in
       (_, sets-allowed f, reads-are f);
@@ -144,7 +144,7 @@ pub writes-mean : (k : StatementKind) → SetMeans W k (setsOf k .writes)
 unfolding statementOf
 writes-mean k = record {
   fits = λ l some word h. allowed-over k l some word h .writes;
-  met = λ {full} x some word h.
+  allowed = λ {full} x some word h.
       let f : Chosen k full _ x _ =
       record { reads = some-fits (setsOf k .reads) full some; writes = h; tests = some-fits (setsOf k .tests) full some } in
       (_, sets-allowed f, writes-are f);
@@ -154,7 +154,7 @@ pub tests-mean : (k : StatementKind) → SetMeans T k (setsOf k .tests)
 unfolding statementOf
 tests-mean k = record {
   fits = λ l some word h. allowed-over k l some word h .tests;
-  met = λ {full} x some word h.
+  allowed = λ {full} x some word h.
       let f : Chosen k full _ _ x =
       record { reads = some-fits (setsOf k .reads) full some; writes = some-fits (setsOf k .writes) full some; tests = h } in
       (_, sets-allowed f, tests-are f);

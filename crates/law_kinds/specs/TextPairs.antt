@@ -1,7 +1,6 @@
 -- What a table of kinds says is so of every accepted text: two statements of one over one relation are a pair that the rules speak of.
-use mathlib.Core.Bool.{Bool}
 use mathlib.Core.List.{List, List·Memᴰ}
-use mathlib.Core.Path.{_≡_, ap, sym, _∙_}
+use mathlib.Core.Path.{_≡_}
 use Prim.Native.Nat.{ℕ}
 use Rattle.spec_text.specs.declared.Line.{Line}
 use Rattle.spec_text.specs.declared.LineKind.the-variants.{St}
@@ -23,8 +22,8 @@ means-told letter Impossible m x = m x
 means-told letter Certain m x = m x
 means-told letter Hanging m x = m .0 x
 
-module _ (text : List ℕ) {lines : List Line} (isRead : read text ≡ accepted lines) {p q : Line}
-    (inP : List·Memᴰ p lines) (inQ : List·Memᴰ q lines) (k l : StatementKind) (isP : p .kind ≡ St k) (isQ : q .kind ≡ St l) (one : p .rel ≡ q .rel) where
+module _ (text : List ℕ) {lines : List Line} (isRead : read text ≡ accepted lines) (k l : StatementKind) {p q : Line}
+    (inP : List·Memᴰ p lines) (isP : p .kind ≡ St k) (inQ : List·Memᴰ q lines) (isQ : q .kind ≡ St l) (one : p .rel ≡ q .rel) where
   pub textPair : Pair k l
   textPair =
       let there = relation-set text isRead (p .rel) (statement-relation text isRead inP k isP) in

@@ -12,7 +12,8 @@ use Rattle.spec_graph.specs.Edge.{Letter, holds, shared}
 use Rattle.spec_kinds.specs.declared.Chance.{Chance}
 use Rattle.spec_kinds.specs.declared.Chance.the-variants.{Impossible, Certain, Hanging}
 
--- T9, Req 03: two lines of these kinds whose sets are allowed over one relation; its attributes `full` are a set of one word, and not empty
+-- T9, Req 03: two lines, taken as statements of these kinds, whose sets are allowed over one relation; its attributes `full` are a set of one word,
+-- and not empty
 pub record Pair (k l : StatementKind) : Type 0 where
   pub full : ℕ
   pub attributes : full ≡ 0 → ⊥

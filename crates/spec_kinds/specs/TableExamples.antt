@@ -1,8 +1,7 @@
 -- Closed cases of the table's form. The whole table, with its entries: kind_laws/TableExamples.
-use mathlib.Core.List.{List, [], _∷_, _++_, map, flatMap}
+use mathlib.Core.List.{[], _∷_, _++_, flatMap}
 use mathlib.Core.Path.{_≡_, refl}
-use Prim.Native.Nat.{ℕ, _^_}
-use Prim.Native.String.{String}
+use Prim.Native.Nat.{_^_}
 use native.Mathlib.Omega.{arith}
 use Rattle.spec_text.specs.declared.LineKind.the-variants.{St}
 use Rattle.spec_text.specs.declared.StatementKind.{StatementKind}

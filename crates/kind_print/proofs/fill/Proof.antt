@@ -1,17 +1,16 @@
--- The names stand in front, and after i turns the first i lines behind them (`Filled`); each turn puts the next (line-next), up to the last
+-- The names stand in front, and after i turns the first i lines behind them (`Filling`); each turn puts the next (line-next), up to the last
 -- (table-end).
 use mathlib.Core.Path.{sym}
 use Prim.Native.Nat.{_-_}
-use native.Mathlib.Omega.{arith}
 use borrow.Author.Needs.{needs}
 use Rattle.spec_kinds.specs.Table.{tableNames}
-use Rattle.kind_print.specs.Lines.{Filled}
+use Rattle.kind_print.specs.Lines.{Filling}
 use Rattle.kind_print.specs.LineLaws.{names-first, line-next, table-end}
 use Rattle.kind_print.proofs.fill.Statement.{statement}
 use Rattle.kind_print.proofs.fill.Tie as tie
 
 abbrev Inv-loop : tie.InvT-loop
-Inv-loop out₀ i₀ out i = Filled i out
+Inv-loop out₀ i₀ out i = Filling i out
 
 abbrev μ-loop : tie.MeasureT-loop
 μ-loop out₀ i₀ out i = 64 - i
