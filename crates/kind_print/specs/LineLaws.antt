@@ -4,10 +4,8 @@ use mathlib.Core.Path.{_≡_, refl, sym, ap, ap₂, _∙_}
 use Prim.Native.Nat.{ℕ, _+_, _-_, _*_, _/_, _%_, _≤_, _<_}
 use native.Mathlib.Numerals.{add-one}
 use native.Mathlib.Omega.{arith}
-use lib.Dec.{eqb}
 use lib.ListN.{length, getD, take, drop, length-append, length-drop, drop-of-length-le}
 use lib.Seq.{paste, take-all, drop-drop, take-at, length-paste, take-paste}
-use borrow.Author.Tests.{eqb-true}
 use borrow.Rule.Slice.PartMut.{putMid}
 use Rattle.spec_text.specs.declared.LineKind.the-variants.{St}
 use Rattle.spec_text.specs.declared.StatementKind.{StatementKind}
@@ -16,7 +14,7 @@ use Rattle.spec_graph.specs.Edge.{Letter}
 use Rattle.spec_graph.specs.Edge.Letter.{A, B, C, D, E}
 use Rattle.spec_kinds.specs.declared.Chance.{Chance}
 use Rattle.spec_kinds.specs.Table.{digitOf, tableNames, columns, tableLine, tableText, KindTable}
-use Rattle.law_kinds.specs.EveryKind.{every-kind}
+use Rattle.law_text.specs.TextLaws.{word-two}
 use Rattle.law_kinds.specs.Chances.{chanceOf}
 use Rattle.law_kinds.specs.ChanceLaws.{chance-means, means-one}
 use Rattle.law_kinds.specs.TableLaws.{chances-table}
@@ -26,11 +24,6 @@ use Rattle.kind_chances.specs.Entries.{chanceFor, EntryMeans}
 use Rattle.kind_print.specs.Lines.{lineAt, written, Filling}
 
 -- ---- a line
-
--- the word of a kind has two bytes
-word-length : (k : StatementKind) → length (wordOf (St k)) ≡ 2
-unfolding wordOf
-word-length k = eqb-true _ 2 (every-kind (λ k. eqb (length (wordOf (St k))) 2) refl k)
 
 -- bytes of two are their first and their second
 two-bytes : (w rest : List ℕ) → length w ≡ 2 → getD w 0 0 ∷ getD w 1 0 ∷ rest ≡ w ++ rest
@@ -59,8 +52,8 @@ unfolding tableLine columns flatMap
 line-bytes k l f =
     let first = wordOf (St k) in
     let second = wordOf (St l) in
-    two-bytes first _ (word-length k)
-    ∙ ap (λ (r : List ℕ). first ++ (space ∷ r)) (two-bytes second (columns f ++ (newline ∷ [])) (word-length l))
+    two-bytes first _ (word-two (St k))
+    ∙ ap (λ (r : List ℕ). first ++ (space ∷ r)) (two-bytes second (columns f ++ (newline ∷ [])) (word-two (St l)))
     ∙ sym (append-assoc first (space ∷ second) (columns f ++ (newline ∷ [])))
     ∙ sym (append-assoc (first ++ (space ∷ second)) (columns f) (newline ∷ []))
 

@@ -114,7 +114,7 @@ module _ {full : ℕ} (p q : Statement) (f : Allowed full p) (g : Allowed full q
 
 -- a line of a kind, its sets chosen by their classes
 abbrev sample : (SetClass → ℕ) → StatementKind → Line
-sample choose k = lineOfSets k (choose (setsOf k .reads)) (choose (setsOf k .writes)) (choose (setsOf k .tests))
+sample choose k = lineOfSets 0 k (choose (setsOf k .reads)) (choose (setsOf k .writes)) (choose (setsOf k .tests))
 
 -- attribute 0 in every set
 abbrev shares : SetClass → ℕ

@@ -56,9 +56,9 @@ module _ {set : Statement → ℕ} {k : StatementKind} where
 
 -- ---- the class that `setsOf` names does
 
--- a line of a kind with these sets
-abbrev pub lineOfSets : StatementKind → ℕ → ℕ → ℕ → Line
-lineOfSets k reads writes tests = record { kind = St k; id = 0; rel = 0; to = 0; reads = reads; writes = writes; tests = tests }
+-- a line of a kind with these sets, as a statement of this number
+abbrev pub lineOfSets : ℕ → StatementKind → ℕ → ℕ → ℕ → Line
+lineOfSets i k reads writes tests = record { kind = St k; id = i; rel = 0; to = 0; reads = reads; writes = writes; tests = tests }
 
 -- some set of a class
 abbrev someSet : SetClass → ℕ → ℕ
@@ -81,20 +81,20 @@ there-set Filled full x h = refl
 there-set Whole full x h = refl
 
 -- three sets of a kind, each of its class
-record Chosen (k : StatementKind) (full r w t : ℕ) : Type 0 where
-  reads : Fits (setsOf k .reads) full r
-  writes : Fits (setsOf k .writes) full w
-  tests : Fits (setsOf k .tests) full t
+pub record Chosen (k : StatementKind) (full r w t : ℕ) : Type 0 where
+  pub reads : Fits (setsOf k .reads) full r
+  pub writes : Fits (setsOf k .writes) full w
+  pub tests : Fits (setsOf k .tests) full t
 
-module _ {k : StatementKind} {full r w t : ℕ} (f : Chosen k full r w t) where
-  kind-allows : kindSets full k (lineOfSets k r w t) ≡ true
+module _ (i : ℕ) {k : StatementKind} {full r w t : ℕ} (f : Chosen k full r w t) where
+  kind-allows : kindSets full k (lineOfSets i k r w t) ≡ true
   unfolding kindSets
   kind-allows = go k (f .reads) (f .writes)
     where
       not-empty : (x : ℕ) → (x ≡ 0 → ⊥) → not (eqb x 0) ≡ true
       not-empty x h = ap not (ne-eqb x 0 h)
 
-      go : (j : StatementKind) → Fits (setsOf j .reads) full r → Fits (setsOf j .writes) full w → kindSets full j (lineOfSets j r w t) ≡ true
+      go : (j : StatementKind) → Fits (setsOf j .reads) full r → Fits (setsOf j .writes) full w → kindSets full j (lineOfSets i j r w t) ≡ true
       go Is a b = eq-eqb w full b
       go Ks a b = not-empty r (a .1)
       go Ps a b = refl
@@ -104,26 +104,26 @@ module _ {k : StatementKind} {full r w t : ℕ} (f : Chosen k full r w t) where
       go Pd a b = eq-eqb w full b
       go Kl a b = not-empty r (a .1)
 
-  sets-allowed : setsAllowed full k (lineOfSets k r w t) ≡ true
+  pub sets-allowed : setsAllowed full k (lineOfSets i k r w t) ≡ true
   sets-allowed =
       let reads = fits-within (setsOf k .reads) full r (f .reads) in
       let writes = fits-within (setsOf k .writes) full w (f .writes) in
       let tests = fits-within (setsOf k .tests) full t (f .tests) in
       and-of (and-of (and-of reads writes) tests) kind-allows
 
-  reads-are : R (statementOf k (lineOfSets k r w t)) ≡ r
+  pub reads-are : R (statementOf k (lineOfSets i k r w t)) ≡ r
   unfolding R statementOf
   reads-are =
       ap (λ (b : Bool). cond b r 0) (kinds-agree hasReads (λ k. isThere (setsOf k .reads)) refl k)
       ∙ there-set (setsOf k .reads) full r (f .reads)
 
-  writes-are : W (statementOf k (lineOfSets k r w t)) ≡ w
+  pub writes-are : W (statementOf k (lineOfSets i k r w t)) ≡ w
   unfolding W statementOf
   writes-are =
       ap (λ (b : Bool). cond b w 0) (kinds-agree hasWrites (λ k. isThere (setsOf k .writes)) refl k)
       ∙ there-set (setsOf k .writes) full w (f .writes)
 
-  tests-are : T (statementOf k (lineOfSets k r w t)) ≡ t
+  pub tests-are : T (statementOf k (lineOfSets i k r w t)) ≡ t
   unfolding T statementOf
   tests-are =
       ap (λ (b : Bool). cond b t 0) (kinds-agree hasTests (λ k. isThere (setsOf k .tests)) refl k)
@@ -137,7 +137,7 @@ reads-mean k = record {
   allowed = λ {full} x some word h.
       let f : Chosen k full x _ _ =
       record { reads = h; writes = some-fits (setsOf k .writes) full some; tests = some-fits (setsOf k .tests) full some } in
-      (_, sets-allowed f, reads-are f);
+      (_, sets-allowed 0 f, reads-are 0 f);
 }
 
 pub writes-mean : (k : StatementKind) → SetMeans W k (setsOf k .writes)
@@ -147,7 +147,7 @@ writes-mean k = record {
   allowed = λ {full} x some word h.
       let f : Chosen k full _ x _ =
       record { reads = some-fits (setsOf k .reads) full some; writes = h; tests = some-fits (setsOf k .tests) full some } in
-      (_, sets-allowed f, writes-are f);
+      (_, sets-allowed 0 f, writes-are 0 f);
 }
 
 pub tests-mean : (k : StatementKind) → SetMeans T k (setsOf k .tests)
@@ -157,5 +157,5 @@ tests-mean k = record {
   allowed = λ {full} x some word h.
       let f : Chosen k full _ _ x =
       record { reads = some-fits (setsOf k .reads) full some; writes = some-fits (setsOf k .writes) full some; tests = h } in
-      (_, sets-allowed f, tests-are f);
+      (_, sets-allowed 0 f, tests-are 0 f);
 }

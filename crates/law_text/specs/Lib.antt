@@ -1,5 +1,6 @@
 pub mod TextLaws
 pub mod Written
+pub mod WrittenLaws
 pub mod ReadingLaws
 pub mod LineCountLaws
 pub mod AsSelect

@@ -2,13 +2,14 @@
 use mathlib.Core.Bool.{Bool, true, false}
 use mathlib.Core.List.{List, [], _∷_, _++_}
 use mathlib.Core.Path.{_≡_, refl, sym, ap, subst, _∙_}
-use Prim.Native.Nat.{ℕ, zero, suc, _+_, _*_, _/_, _%_, _≤_, _<_, zero-le, suc-le-suc}
+use Prim.Native.Nat.{ℕ, zero, suc, _+_, _*_, _/_, _%_, _≤_, _<_}
 use native.Mathlib.Omega.{arith}
 use lib.Dec.{ltb}
 use lib.ListN.{length, length-append}
 use borrow.Author.Tests.{lt-ltb, le-ltb, ltb-true, ltb-false}
 use Rattle.spec_text.specs.Text.{digit, digitsOf}
 use Rattle.spec_report.specs.Report.{decimal}
+use Rattle.law_text.specs.WrittenLaws.{digits-most}
 use Rattle.report_print.specs.Printed.{Put}
 use Rattle.report_print.specs.PrintLaws.{put-both, put-most, put-same}
 
@@ -19,21 +20,6 @@ digits-one most n h = rw (lt-ltb n 10 h, digitsOf)
 digits-many : (most n : ℕ) → 10 ≤ n → digitsOf 10 (suc most) n ≡ digitsOf 10 most (n / 10) ++ (digit (n % 10) ∷ [])
 unfolding digitsOf
 digits-many most n h = rw (le-ltb n 10 h, digitsOf)
-
-digits-none : (n : ℕ) → digitsOf 10 zero n ≡ []
-unfolding digitsOf
-digits-none n = refl
-
--- no more digits than are allowed
-pub digits-few : (most n : ℕ) → length (digitsOf 10 most n) ≤ most
-digits-few zero n = rw (digits-none n) zero-le
-digits-few (suc most) n = go (ltb n 10) refl (digits-few most (n / 10))
-  where
-    go : (b : Bool) → ltb n 10 ≡ b → length (digitsOf 10 most (n / 10)) ≤ most → length (digitsOf 10 (suc most) n) ≤ suc most
-    go true e h = rw (digits-one most n (ltb-true n 10 e)) (suc-le-suc zero-le)
-    go false e h =
-        let many = length-append (digitsOf 10 most (n / 10)) (digit (n % 10) ∷ []) in
-        rw (digits-many most n (ltb-false n 10 e)) (omega arith)
 
 -- 10, 100, and so on
 unfoldable tens : ℕ → ℕ
@@ -70,7 +56,7 @@ decimal-many n h w =
 
 pub decimal-few : (n : ℕ) → length (decimal n) ≤ 20
 unfolding decimal
-decimal-few n = digits-few 20 n
+decimal-few n = digits-most 10 20 n
 
 -- after the digits in front there is room for the last
 pub last-room : (n : ℕ) → 10 ≤ n → n < 18446744073709551616 → length (decimal (n / 10)) + 1 ≤ 20

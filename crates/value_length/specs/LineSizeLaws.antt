@@ -16,6 +16,7 @@ use Rattle.spec_text.specs.Text.{Form, newline, formsOf, wordOf}
 use Rattle.spec_text.specs.Text.Form.{number, set}
 use Rattle.spec_text.specs.Text.{digit, digitsOf}
 use Rattle.law_text.specs.Written.{fieldWritten, fieldsWritten, lineWritten}
+use Rattle.law_text.specs.WrittenLaws.{digits-most}
 use Rattle.law_text.specs.TextLaws.{fits, allFit, lineFits, valuesIn, word-two}
 use Rattle.line_kinds.specs.Kinds.{lineFacts, lacksFact, hasId, hasRel, hasTo, hasReads, hasWrites, hasTests, numberIf, setIf, formsWith}
 use Rattle.line_kinds.specs.KindLaws.{forms-told}
@@ -30,15 +31,6 @@ digits-more : (base room n : ℕ) → base ≤ n → length (digitsOf base (suc 
 unfolding digitsOf
 digits-more base room n h =
     rw (le-ltb n base h, digitsOf) (omega (arith, length-append (digitsOf base room (n / base)) (digit (n % base) ∷ [])))
-
-pub digits-most : (base most n : ℕ) → length (digitsOf base most n) ≤ most
-unfolding digitsOf
-digits-most base zero n = omega arith
-digits-most base (suc most) n = go (ltb n base) refl (digits-most base most (n / base))
-  where
-    go : (t : Bool) → ltb n base ≡ t → length (digitsOf base most (n / base)) ≤ most → length (digitsOf base (suc most) n) ≤ suc most
-    go true e r = omega (arith, digits-one base most n (ltb-true n base e))
-    go false e r = omega (arith, digits-more base most n (ltb-false n base e))
 
 -- T3: a number has one, two or three digits
 pub decimal-one : (n : ℕ) → n < 10 → length (digitsOf 10 3 n) ≡ 1
