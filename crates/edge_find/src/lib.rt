@@ -11,7 +11,7 @@ use edge_record::Edge;
 use edge_record::Found;
 use edge_test::back_letter;
 use edge_test::forward_letter;
-use kind_table::pair_code;
+use kind_pair::pair_code;
 use place_fetch::row_at;
 use place_fetch::row_count;
 use place_row::KIND;

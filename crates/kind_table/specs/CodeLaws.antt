@@ -24,8 +24,6 @@ use Rattle.law_kinds.specs.Chances.{chanceOf, told}
 use Rattle.law_kinds.specs.ChanceLaws.{chance-means}
 use Rattle.edge_kinds.specs.Kinds.{kindNumber}
 use Rattle.kind_table.specs.Codes.{certainBit, hangingBit, codeOf, codesFrom, letterTable, chanceIn, toldIn}
-use Rattle.kind_table.specs.declared.Halves.{Halves}
-use Rattle.kind_table.specs.Packed.{halvesOf}
 
 -- ---- what a code tells
 
@@ -98,20 +96,6 @@ code-right k l e f = f ∙ ap (λ (c : List ℕ). getD c (kindNumber l) 0) e ∙
   where
     entry : (k l : StatementKind) → getD (codesFrom k) (kindNumber l) 0 ≡ codeOf k l
     entry k l = eqb-true _ _ (every-pair (λ k l. eqb (getD (codesFrom k) (kindNumber l) 0) (codeOf k l)) refl k l)
-
--- so it does where the codes are packed, four in a word
-pub code-packed : (k l : StatementKind) {i word : ℕ} {halves : Halves} → i ≡ kindNumber l → halves ≡ halvesOf (codesFrom k)
-    → word ≡ cond (leb 4 i) (halves .last) (halves .first) → word / 2 ^ (i % 4 * 16) % 65536 ≡ codeOf k l
-unfolding codesFrom codeOf chanceOf
-code-packed k l place row word = rw (word, place, row) (entry k l)
-  where
-    codeAt : StatementKind → StatementKind → ℕ
-    codeAt k l =
-        let halves = halvesOf (codesFrom k) in
-        cond (leb 4 (kindNumber l)) (halves .last) (halves .first) / 2 ^ (kindNumber l % 4 * 16) % 65536
-
-    entry : (k l : StatementKind) → codeAt k l ≡ codeOf k l
-    entry k l = eqb-true _ _ (every-pair (λ k l. eqb (codeAt k l) (codeOf k l)) refl k l)
 
 -- Req 04: what stands in the table says what is so
 pub table-means : (x : Letter) (k l : StatementKind) → Means x k l (chanceIn (getD (getD letterTable (kindNumber k) []) (kindNumber l) 0) x)

@@ -1,7 +1,7 @@
 -- The chances of all letters between two kinds as one number, the code of the two: two bits to each letter.
 use mathlib.Core.Bool.{Bool, cond, _&&_, _||_}
 use mathlib.Core.List.{List, map}
-use Prim.Native.Nat.{ℕ, _+_, _*_, _%_}
+use Prim.Native.Nat.{ℕ, _+_, _*_}
 use Rattle.spec_base.specs.Basic.{meets}
 use Rattle.spec_text.specs.declared.StatementKind.{StatementKind}
 use Rattle.spec_graph.specs.Edge.{Letter}
@@ -45,7 +45,3 @@ chanceIn code x = cond (meets code (certainBit x)) Certain (cond (meets code (ha
 -- whether a letter is told to hold, by a code and by whether its two sets meet
 abbrev pub toldIn : ℕ → Letter → Bool → Bool
 toldIn code x meet = meets code (certainBit x) || meets code (hangingBit x) && meet
-
--- four codes in a word, sixteen bits to each
-abbrev pub packed : ℕ → ℕ → ℕ → ℕ → ℕ
-packed a b c d = a % 65536 + b % 65536 * 65536 + c % 65536 * 4294967296 + d % 65536 * 281474976710656

@@ -14,7 +14,7 @@ use edge_test::back_stands;
 use edge_test::forward_stands;
 use edge_word::NODES;
 use edge_word::PLACES;
-use kind_table::pair_code;
+use kind_pair::pair_code;
 use place_fetch::row_at;
 use place_fetch::row_count;
 use place_row::ROW_WORDS;

@@ -1,7 +1,7 @@
 -- Each word is packed from its four codes.
 use borrow.Author.Needs.{needs}
-use Rattle.kind_table.proofs.halves_of.Statement.{statement}
-use Rattle.kind_table.proofs.halves_of.Tie as tie
+use Rattle.kind_pair.proofs.halves_of.Statement.{statement}
+use Rattle.kind_pair.proofs.halves_of.Tie as tie
 
 returns : tie.Need-returns
 returns c = λ i. record { first = (c .before .packed-word .ensures) i; last = (c .packed-word2 .ensures) i }

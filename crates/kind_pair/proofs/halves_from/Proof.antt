@@ -3,11 +3,11 @@ use mathlib.Core.List.{List}
 use mathlib.Core.Path.{ap, _∙_}
 use Prim.Native.Nat.{ℕ}
 use borrow.Author.Needs.{needs}
 use Rattle.kind_table.specs.Codes.{letterTable}
-use Rattle.kind_table.specs.Packed.{halvesOf}
+use Rattle.kind_pair.specs.Packed.{halvesOf}
 use Rattle.kind_table.specs.CodeLaws.{row-of}
-use Rattle.kind_table.proofs.halves_from.Statement.{statement}
-use Rattle.kind_table.proofs.halves_from.Tie as tie
+use Rattle.kind_pair.proofs.halves_from.Statement.{statement}
+use Rattle.kind_pair.proofs.halves_from.Tie as tie
 
 returns : tie.Need-returns
 unfolding letterTable

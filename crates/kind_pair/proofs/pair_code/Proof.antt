@@ -1,8 +1,8 @@
 -- The word that holds the code is taken, and the code out of its place in it (code-packed).
 use borrow.Author.Needs.{needs}
-use Rattle.kind_table.specs.CodeLaws.{code-packed}
-use Rattle.kind_table.proofs.pair_code.Statement.{statement}
-use Rattle.kind_table.proofs.pair_code.Tie as tie
+use Rattle.kind_pair.specs.PackedLaws.{code-packed}
+use Rattle.kind_pair.proofs.pair_code.Statement.{statement}
+use Rattle.kind_pair.proofs.pair_code.Tie as tie
 
 returns : tie.Need-returns
 returns c =

@@ -1,7 +1,7 @@
 -- The number is compared with four, as the contract has it.
 use borrow.Author.Tests.{le-leb, lt-leb}
-use Rattle.kind_table.proofs.half_for.Statement.{statement}
-use Rattle.kind_table.proofs.half_for.Tie as tie
+use Rattle.kind_pair.proofs.half_for.Statement.{statement}
+use Rattle.kind_pair.proofs.half_for.Tie as tie
 
 returns : tie.Need-returns
 returns c = simp (le-leb 4 _ (c .if1 .taken))
