@@ -1,7 +1,8 @@
 #!/bin/sh
 # kind-lines.sh [values|names|page [FILE]]: prints the constant table of kinds as it stands in its source (crates/kind_table unless one is named), in
 # the lines of document 02, Req 05: by the values of the codes in its grid, which the code reads, or by their names, which people read; or the grid
-# of the page for reviewers, docs/KINDS.md. What is not in the form that it has there becomes `?`. To hold the printed table to the source:
+# of the page for reviewers, docs/KINDS.md, whose other table has the digits of each code. What is not as it should be gives a `?`. To hold the
+# printed table to the source:
 #     outside/kind-lines.sh > /tmp/source-table && target/bin/kinds | diff /tmp/source-table - && echo the same
 here="$(CDPATH= cd -- "$(dirname -- "$0")" && pwd)"
 way="${1:-values}"
@@ -30,12 +31,20 @@ LC_ALL=C exec awk -v way="$way" '
     }
     BEGIN { split("is ks ps ku pu kd pd kl", kind); print "from to a b c d e" }
     way == "page" {
+        if (/^\| from/ && !/^\| from \\ to \| is \| ks \| ps \| ku \| pu \| kd \| pd \| kl \|$/) print "? " $0
         if (/^\| \*\*/) {
+            for (k = 3; k <= 19; k++) if ($k !~ (k % 2 ? "^[|]$" : "^`[A-Ea-e_]+`$") || NF != 19) print "? " $0
             gsub(/[^A-Za-z_]+/, " ")
             for (k = 2; k <= NF; k++) print $1 " " kind[k - 1] by_name($k)
         }
+        if (/^\| `[A-Ea-e_]+` \|/) {
+            code[0] = substr($2, 2, length($2) - 2)
+            if (" " $4 " " $5 " " $6 " " $7 " " $8 != by_name(code[0])) print "? " $0
+        }
         next
     }
+    inside && /^ *\/\/ is/ && !/\/\/ is +ks +ps +ku +pu +kd +pd +kl$/ { code[codes++] = "?" }
+    inside && /\], *\/\// && $NF != kind[++rows] { code[codes++] = "?" }
     { sub(/\/\/.*/, "") }
     /\/\*/ { code[codes++] = "?" }
     /^const [A-Za-z_]+: u32/ {

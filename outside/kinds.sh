@@ -1,12 +1,12 @@
 #!/bin/sh
-# kinds.sh [PROGRAM [SOURCE]]: holds the constant table of kinds, as it stands in the source, by the values of its codes and by their names, the page
-# docs/KINDS.md and what PROGRAM (the built program `kinds`) prints to what `kinds` of this directory works out from the rules by brute force.
+# kinds.sh [PROGRAM [SOURCE]]: holds the constant table of kinds, as it stands in the source, by the values of its codes and by their names, the grid
+# of docs/KINDS.md and what PROGRAM (the built program `kinds`) prints to what `kinds` of this directory works out from the rules by brute force.
 # Without PROGRAM, or with `-`, the recorded output of the program, crates/kinds/stdout, stands for what it prints.
 here="$(CDPATH= cd -- "$(dirname -- "$0")" && pwd)"
 root="$(CDPATH= cd -- "$here/.." && pwd)"
 program="${1:--}"
 source="${2:-$root/crates/kind_table/src/lib.rt}"
-[ -x "$here/target/kinds" ] || "$here/build.sh" kinds || exit 1
+"$here/build.sh" kinds || exit 1
 [ "$(readlink -f -- "$program")" != "$here/target/kinds" ] || { echo "kinds: PROGRAM is the brute force itself"; exit 2; }
 made="$here/target/kind-table"
 mkdir -p "$made"
@@ -33,5 +33,5 @@ else
     same "what $program prints" "$made/printed"
     printed="what $program prints"
 fi
-[ $failed = 1 ] || echo "kinds: the 64 entries of $source, by their names and by their values, docs/KINDS.md and $printed are what the rules give"
+[ $failed = 1 ] || echo "kinds: $source, by its names and by its values, the grid of docs/KINDS.md and $printed are what the rules give"
 exit $failed

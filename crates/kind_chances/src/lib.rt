@@ -1,5 +1,5 @@
 // Whether each letter can hold between two kinds of statement, worked out from the rules: from which sets a kind has, which of them may be empty and
-// which are the whole relation (Req 05). The constant table (kind_table) has no part in it.
+// which are the whole relation (Req 05). The constant table has no part in it.
 
 use law_kinds::SetClass;
 use line_kinds::READS;
@@ -188,14 +188,14 @@ fn met(a: SetClass, b: SetClass) -> Chance
 
 // ---- the letters
 
-// EA: two writes, the first no delete, the second no insert.
+// EA: two writes that meet, the first no delete, the second no insert.
 fn chance_a(k: StatementKind, l: StatementKind) -> Chance
     ensures { λ r. ⌜ Means Letter.A k l r ⌝ }
 {
     unless(deletes(k) | inserts(l), met(writes_of(k), writes_of(l)))
 }
 
-// EB: a write, no delete, and a read.
+// EB: a write, no delete, that meets a read.
 fn chance_b(k: StatementKind, l: StatementKind) -> Chance
     ensures { λ r. ⌜ Means Letter.B k l r ⌝ }
 {
@@ -210,7 +210,7 @@ fn chance_c(k: StatementKind, l: StatementKind) -> Chance
     needing(has_tests(l), or_certain(inserts(k) | deletes(k), meet))
 }
 
-// ED: a read and a write, no insert.
+// ED: a read that meets a write, no insert.
 fn chance_d(k: StatementKind, l: StatementKind) -> Chance
     ensures { λ r. ⌜ Means Letter.D k l r ⌝ }
 {

@@ -1,3 +1,3 @@
 pub mod Agreement
 pub mod TableExamples
-pub mod PairTexts
+pub mod WitnessTexts

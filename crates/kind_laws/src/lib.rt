@@ -1,1 +1,2 @@
-// The table of kinds in the source (kind_table) and the one that is worked out from the rules and printed (kind_print) agree: laws, in specs/.
+// What the table of kinds rests on, and what it agrees with: the constant in the source (kind_table), and the texts that have its pairs. Laws, in
+// specs/.

@@ -69,7 +69,7 @@ fn half_for(i: u64, first: u64, last: u64) -> u64
     first
 }
 
-// The code of two kinds, where it is the only one that is looked up.
+// The code of two kinds.
 pub fn pair_code(k: StatementKind, l: StatementKind) -> u32
     ensures { λ r. ⌜ r ≡ codeOf k l ⌝ }
 {

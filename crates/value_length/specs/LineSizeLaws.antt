@@ -13,7 +13,6 @@ use borrow.Author.Tests.{ltb-true, ltb-false, lt-ltb, le-ltb, eqb-true}
 use Rattle.law_base.specs.BoolLaws.{and-true}
 use Rattle.spec_text.specs.declared.Line.{Line}
 use Rattle.spec_text.specs.Text.{Form, newline, formsOf, wordOf}
-use Rattle.spec_text.specs.Text.Form.{number, set}
 use Rattle.spec_text.specs.Text.{digit, digitsOf}
 use Rattle.law_text.specs.Written.{fieldWritten, fieldsWritten, lineWritten}
 use Rattle.law_text.specs.WrittenLaws.{digits-most}

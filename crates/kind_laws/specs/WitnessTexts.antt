@@ -21,8 +21,9 @@ use Rattle.spec_text.specs.Reading.{openBlocks, blocksAfterLines, blocksAfter, 
 use Rattle.spec_text.specs.Reading.{setsAllowed, setsFit, linkFits, testsOf, firstFailed, fault, read}
 use Rattle.spec_text.specs.Reading.Outcome.{accepted}
 use Rattle.spec_graph.specs.Program.{Statement, statementOf}
-use Rattle.spec_graph.specs.Edge.{R, W, T}
-use Rattle.spec_kinds.specs.Meaning.{Pair}
+use Rattle.spec_graph.specs.Edge.{R, W, T, Letter, holds}
+use Rattle.spec_graph.specs.Edge.Letter.{A, B, C, D, E}
+use Rattle.spec_kinds.specs.Meaning.{Pair, holdsIn}
 use Rattle.law_base.specs.BoolLaws.{and-of}
 use Rattle.law_base.specs.ListLaws.{getElem?-member}
 use Rattle.law_text.specs.Written.{written}
@@ -100,6 +101,7 @@ pub record TextOf {k l : StatementKind} (x : Pair k l) : Type 0 where
   pub inRight : List·Memᴰ right lines
   pub isLeft : left .kind ≡ St k
   pub isRight : right .kind ≡ St l
+  pub apart : left .id ≡ right .id → ⊥
   pub one : left .rel ≡ right .rel
   pub full : relationSet lines (left .rel) ≡ x .full
   pub leftSets : SameSets (statementOf k left) (statementOf k (x .left))
@@ -167,8 +169,19 @@ module _ {k l : StatementKind} (x : Pair k l) where
         inRight = getElem?-member lines 3 refl;
         isLeft = refl;
         isRight = refl;
+        apart = λ e. omega arith;
         one = refl;
         full = refl;
         leftSets = record { reads = reads-are 0 left; writes = writes-are 0 left; tests = tests-are 0 left };
         rightSets = record { reads = reads-are 1 right; writes = writes-are 1 right; tests = tests-are 1 right };
       }
+
+-- a letter holds between them as it does in the pair
+pub text-letter : {k l : StatementKind} (x : Pair k l) (t : TextOf x) (letter : Letter)
+    → holds letter (statementOf k (t .left)) (statementOf l (t .right)) ≡ holdsIn letter x
+unfolding holds statementOf
+text-letter x t A = rw (t .leftSets .writes, t .rightSets .writes) refl
+text-letter x t B = rw (t .leftSets .writes, t .rightSets .reads) refl
+text-letter x t C = rw (t .leftSets .writes, t .rightSets .tests) refl
+text-letter x t D = rw (t .leftSets .reads, t .rightSets .writes) refl
+text-letter x t E = rw (t .leftSets .tests, t .rightSets .writes) refl
