@@ -5,6 +5,8 @@
 #   crates/inspect/{data,args,stdout}     copies of examples/ and vectors/verdict under --report; for --areas what `outside areas` says
 #   crates/verdict/{stdin,stdout}         an example that is robust
 #   crates/verdict_twice/{stdin,stdout}   an example with danger; its report is followed by that of an empty text
+#   crates/parts/{data,args,stdout}       copies of examples/: all groups of the programs of SmallBank and of Auction, each with the text that is
+#                                         named by these programs; then some pairs that do not agree. What it should print is said here
 # VECTORS is a folder that spread-vectors.sh made, with vectors added to it or changed. No output of the proved program goes in here.
 # `--reports` makes the outputs in examples/ and vectors/verdict anew, whole reports as `outside report` prints them; first two lines that stand there
 # already must stay, since people wrote them or looked at them: an output whose first two lines would change is named and left.
@@ -38,9 +40,11 @@ empty=station-empty
 areas="base linked unlinked loop predicate-twice names-alone 65-unfoldings empty"
 
 rm -rf "$made"
-mkdir -p "$made/inspect/data" "$made/verdict" "$made/verdict_twice"
+mkdir -p "$made/inspect/data" "$made/verdict" "$made/verdict_twice" "$made/parts/data"
 : > "$made/inspect/args"
 : > "$made/inspect/stdout"
+: > "$made/parts/args"
+: > "$made/parts/stdout"
 
 # the next text that inspect is run on, whose file stands in data/ already; what it should print of it comes from standard input
 next() { # FILE
@@ -74,7 +78,51 @@ cp "$root/examples/$robust.out" "$made/verdict/stdout"
 cp "$root/examples/$danger.txt" "$made/verdict_twice/stdin"
 cat "$root/examples/$danger.out" "$root/examples/$empty.out" > "$made/verdict_twice/stdout"
 
-copies="inspect/args inspect/stdout inspect/data verdict/stdin verdict/stdout verdict_twice/stdin verdict_twice/stdout"
+# the next two words that parts is run on, the second the name of an example, and what it should say of them
+ask() { # WORD EXAMPLE ANSWER
+    printf '%s\n' "$1" "$2" >> "$made/parts/args"
+    echo "$1 $2$3" >> "$made/parts/stdout"
+    cp "$root/examples/$2" "$made/parts/data/$2"
+}
+
+# an example as the whole; every group of its programs, whose words stand in the order of their numbers, makes the example that is named by them
+whole() { # NAME PROGRAM...
+    name="$1"
+    shift
+    ask --of "$name.txt" ""
+    for near in "a loop left open" "a relation in the cell after the last line" "more lines than cells"; do
+        echo "$near: 21 same" >> "$made/parts/stdout"
+    done
+    last=$(((1 << $#) - 1))
+    group=0
+    while [ "$group" -le "$last" ]; do
+        part="$name"
+        bit=0
+        for program in "$@"; do
+            [ $((group >> bit & 1)) = 0 ] || part="$part-$program"
+            bit=$((bit + 1))
+        done
+        [ "$group" != 0 ] || part="$name-none"
+        [ "$group" != "$last" ] || part="$name"
+        ask "$group" "$part.txt" " same"
+        group=$((group + 1))
+    done
+}
+
+ask 0 smallbank-none.txt " refused 21"
+whole smallbank am bal dc ts wc
+ask 32 smallbank-none.txt " same"
+ask 65535 smallbank.txt " same"
+ask 2 smallbank-am.txt " differs"
+ask 30 smallbank.txt " differs"
+ask 31 station-empty.txt " refused 2"
+ask 65536 smallbank.txt " no group"
+ask 1f smallbank.txt " no group"
+whole auction fb pb
+ask --of station-empty.txt " refused 2"
+ask 0 auction-none.txt " refused 21"
+
+copies="inspect/args inspect/stdout inspect/data verdict/stdin verdict/stdout verdict_twice/stdin verdict_twice/stdout parts/args parts/stdout parts/data"
 for file in $copies; do
     if [ "$1" = --copy ]; then
         rm -rf "$root/crates/$file"

@@ -1,11 +1,11 @@
 #!/bin/sh
-# run.sh PROGRAM [SEED [INSPECT]]: everything but the timings, some four minutes (with RATTLE_LIB also the exports, by `records`): builds, checks this
-# implementation against itself, its shield against document 01's and its first walks against the definition, then the program on all examples and
-# vectors and on 40,000 generated texts, every report, edge record and unfolding of 4,000 of them by the program inspect (beside PROGRAM unless
-# named), then brute force against demand 3; texts that arrive in pieces and inputs and outputs that fail; and the script judge, with a stand-in
-# for rt. Half of the texts and workloads are drawn without kl, as before document 02, Req 03, the other half with it. The table of kinds is held to
-# the rules as it stands in the source, whatever PROGRAM was built from, and as the program kinds beside PROGRAM prints it, or its recorded output
-# where there is none.
+# run.sh PROGRAM [SEED [INSPECT]]: everything but the timings, some four minutes (with RATTLE_LIB also the exports, by `records`): builds, checks
+# this implementation against itself, its shield against document 01's, its first walks against the definition and the graphs of parts against those
+# of their wholes, then the program on all examples and vectors and on 40,000 generated texts, every report, edge record and unfolding of 4,000 of
+# them by the program inspect (beside PROGRAM unless named), then brute force against demand 3; texts that arrive in pieces and inputs and outputs
+# that fail; and the script judge, with a stand-in for rt. Half of the texts and workloads are drawn without kl, as before document 02, Req 03, the
+# other half with it. The table of kinds is held to the rules as it stands in the source, whatever PROGRAM was built from, and as the program kinds
+# beside PROGRAM prints it, or its recorded output where there is none. The program parts beside PROGRAM is asked which texts are parts of which.
 here="$(CDPATH= cd -- "$(dirname -- "$0")" && pwd)"
 program="${1:?usage: run.sh PROGRAM [SEED [INSPECT]]}"
 seed="${2:-1}"
@@ -19,10 +19,14 @@ failed=0
 kinds="$(dirname "$program")/kinds"
 [ -x "$kinds" ] || kinds=-
 "$here/kinds.sh" "$kinds" || failed=1
+parts="$(dirname "$program")/parts"
+[ -x "$parts" ] || echo "parts: there is no $parts to ask"
 for locks in "" --locks; do
     "$here/target/selfcheck" "$seed" 5000 "$here/../examples/tpcc.txt" $locks || failed=1
     "$here/target/shields" "$seed" 3000 $locks || failed=1
     "$here/target/walks" "$seed" 1000 "$here"/../examples/*.txt "$here"/../vectors/verdict/*.txt $locks || failed=1
+    "$here/target/parts" "$seed" 3000 "$here"/../examples/*.txt "$here"/../vectors/verdict/*.txt $locks || failed=1
+    [ ! -x "$parts" ] || "$here/target/parts" --against "$parts" "$seed" 300 $locks || failed=1
     "$here/target/compare" "$program" "$seed" 20000 $locks || failed=1
     "$here/target/compare" "$reports" "$seed" 2000 $locks || failed=1
     "$here/target/compare" "$edges" "$seed" 2000 edges $locks || failed=1

@@ -42,8 +42,7 @@ fn accepted(value: &Value) -> Result<Accepted, u8> {
         return Err(22);
     }
     let spots = spots(&workload, &unfoldings);
-    let mut edges = vec![EMPTY_EDGE; count(&unfoldings, &spots).0];
-    fill(&unfoldings, &spots, &mut edges).expect("as long as the count");
+    let edges = list(&unfoldings, &spots);
     Ok(Accepted { workload, unfoldings, edges })
 }
 

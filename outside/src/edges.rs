@@ -5,7 +5,7 @@ use crate::unfolding::*;
 use crate::workload::*;
 
 /// What the edge rules ask of one place: its statement and the keys by which it is shielded.
-#[derive(Clone, Copy)]
+#[derive(Clone, Copy, PartialEq, Eq, Debug)]
 pub struct Spot {
     pub kind: u8,
     pub rel: u8,
@@ -227,6 +227,13 @@ pub fn fill(unfoldings: &Unfoldings, spots: &[Spot], out: &mut [Edge]) -> Option
         }
     }
     Some(filled)
+}
+
+/// The same as a list of their own.
+pub fn list(unfoldings: &Unfoldings, spots: &[Spot]) -> Vec<Edge> {
+    let mut edges = vec![EMPTY_EDGE; count(unfoldings, spots).0];
+    fill(unfoldings, spots, &mut edges).expect("as long as the count");
+    edges
 }
 
 /// The forward and the back edge between two places, as far as they stand.

@@ -27,7 +27,7 @@ pub fn first_walk<P: Places>(graph: &Graph<P>, counted: u64, walk: &mut [Step; M
 }
 
 /// The numbers of a word's bits.
-fn bits(mut word: u64) -> impl Iterator<Item = usize> {
+pub fn bits(mut word: u64) -> impl Iterator<Item = usize> {
     std::iter::from_fn(move || {
         let bit = word.trailing_zeros() as usize;
         word &= word.wrapping_sub(1);

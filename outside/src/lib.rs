@@ -2,8 +2,10 @@
 //! Text -> workload -> unfoldings -> edges -> verdict with a walk -> report, a checker for walks,
 //! and a generator of texts. The programs under `bin/` are thin.
 
+pub mod against;
 pub mod areas;
 pub mod arguments;
+pub mod cuts;
 pub mod damage;
 pub mod edges;
 pub mod feeding;
@@ -13,6 +15,7 @@ pub mod graph;
 pub mod late;
 pub mod lines;
 pub mod outcome;
+pub mod parts;
 pub mod plain_walk;
 pub mod random;
 pub mod reader;

@@ -8,6 +8,13 @@ use crate::workload::*;
 use std::io::{Read, Write};
 use std::process::{Command, Stdio};
 
+/// Saves a text that shows a difference under found/; its path, or that it could not be saved.
+pub fn saved(name: &str, text: &[u8]) -> String {
+    let path = format!("found/{name}.txt");
+    let outcome = std::fs::create_dir_all("found").and_then(|_| std::fs::write(&path, text));
+    outcome.map_or_else(|error| format!("not saved: {error}"), |_| path)
+}
+
 /// What a program gave on a text.
 pub struct Ran {
     pub output: Vec<u8>,

@@ -85,10 +85,8 @@ pub fn list_edges(text: &[u8]) -> String {
 }
 
 pub fn listed_edges(unfolded: &Unfolded) -> String {
-    let mut records = vec![EMPTY_EDGE; count(&unfolded.unfoldings, &unfolded.spots).0];
-    let filled = fill(&unfolded.unfoldings, &unfolded.spots, &mut records).expect("as long as the count");
     let mut out = String::from("node leaves node enters flow letter shared lowest\n");
-    for edge in &records[..filled] {
+    for edge in &list(&unfolded.unfoldings, &unfolded.spots) {
         let Edge { node, leaves, into, enters, sharing, lowest, .. } = edge;
         let (flow, letter) = (edge.flow as char, edge.letter as char);
         let _ = writeln!(out, "{node} {leaves} {into} {enters} {flow} {letter} {sharing} {lowest}");

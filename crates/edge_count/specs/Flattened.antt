@@ -1,8 +1,7 @@
 -- The edges of a table are what stands in its slots, slot after slot.
 use mathlib.Core.Path.{_≡_, refl, sym, ap, ap₂, _∙_}
 use mathlib.Core.Bool.{Bool, true, false, cond, _&&_}
-use mathlib.Core.List.{List, [], _∷_, _++_, map, flatMap, append-nil, append-assoc, List·Memᴰ}
-use mathlib.Core.List.List·Memᴰ.{List·Memᴰ·head, List·Memᴰ·tail}
+use mathlib.Core.List.{List, [], _∷_, _++_, map, flatMap, append-nil}
 use Prim.Native.Nat.{ℕ, zero, suc, _+_, _-_, _*_, _/_, _%_, _≤_, _<_}
 use native.Mathlib.Nat.{le-antisymm, add-suc, add-zero, zero-add, suc-add, add-comm, suc-mul, zero-mul}
 use native.Mathlib.Nat.{mul-add-div-right, mod-eq-of-lt, div-eq-of-lt, add-mul-mod-self-right}
@@ -17,21 +16,13 @@ use Rattle.spec_graph.specs.Graph as G
 use Rattle.spec_graph.specs.Edge as E
 use Rattle.place_row.specs.declared.Row.{Row}
 use Rattle.place_row.specs.RowTable.{rowAt, rowCount, rowForward, rowBack, rowStands, rowEdge, rowEdges, tableRows, edgesOfRows}
-use Rattle.place_row.specs.RowTableLaws.{flatMap-map, flatMap-same}
+use Rattle.law_base.specs.FlatLaws.{flatMap-map, flatMap-append, flatMap-same, flatMap-none}
 use Rattle.edge_count.specs.declared.Counts.{Counts}
 use Rattle.edge_count.specs.Slots.{tableEdges, tableCounts, slots, leftRow, rightRow, standsAt, slotEdge}
 use Rattle.edge_count.specs.Slots.{one, edgesBelow, backBelow, countsBelow}
 use Rattle.edge_count.specs.SlotLaws.{rows-small}
 
 -- ---- numbers in rows
-
-module _ {A C : Type 0} where
-  -- to gather from two parts is to gather from each
-  pub flatMap-append : (f : A → List C) (l r : List A) → flatMap f (l ++ r) ≡ flatMap f l ++ flatMap f r
-  unfolding flatMap
-  flatMap-append f [] r = refl
-  flatMap-append f (x ∷ l) r =
-      ap (λ (t : List C). f x ++ t) (flatMap-append f l r) ∙ sym (append-assoc (f x) (flatMap f l) (flatMap f r))
 
 -- numbers in two parts
 pub numbersFrom-append : (a k m : ℕ) → numbersFrom a (k + m) ≡ numbersFrom a k ++ numbersFrom (a + k) m
@@ -94,14 +85,6 @@ unfolding rowEdges flatMap
 pair-slots p q =
     ap (λ (l : List E.Edge). cond (rowForward p q) (rowEdge G.Flow.forward p q ∷ []) [] ++ l)
     (sym (append-nil (cond (rowBack p q) (rowEdge G.Flow.back p q ∷ []) [])))
-
-module _ {A C : Type 0} where
-  -- what gives nothing for each element gathers nothing
-  flatMap-none : (f : A → List C) (l : List A) → ((x : A) → List·Memᴰ x l → f x ≡ []) → flatMap f l ≡ []
-  unfolding flatMap
-  flatMap-none f [] none = refl
-  flatMap-none f (x ∷ l) none =
-      ap₂ (λ (a b : List C). a ++ b) (none x (List·Memᴰ·head refl)) (flatMap-none f l (λ y m. none y (List·Memᴰ·tail m)))
 
 module _ (table : List ℕ) where
   abbrev n : ℕ

@@ -29,7 +29,8 @@ use Rattle.edge_count.specs.Slots.{standsAt, slotEdge, edgeAt, nextFrom, nextSl
 use Rattle.edge_test.specs.Letters.{byteOf, letterBetween}
 use Rattle.edge_find.specs.Search.{edgeFrom, letterFrom, sharedBy, nothingTo, stepIn, Looked}
 use Rattle.edge_count.specs.SlotLaws.{rows-few, stands-past, stands-apart, stands-forward, stands-back, edge-forward, edge-back}
-use Rattle.edge_count.specs.Flattened.{flatMap-append, numbersFrom-append, slotEdges, edges-flat, edges-below}
+use Rattle.law_base.specs.FlatLaws.{flatMap-append}
+use Rattle.edge_count.specs.Flattened.{numbersFrom-append, slotEdges, edges-flat, edges-below}
 
 -- ---- an edge put together
 

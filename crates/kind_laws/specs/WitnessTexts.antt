@@ -18,7 +18,8 @@ use Rattle.spec_text.specs.Text.{formsOf}
 use Rattle.spec_text.specs.Text.Form.{number, set, nothing}
 use Rattle.spec_text.specs.Reading.{sort, isRelation, isKey, isProgram, isStatementOrFlow, isLink, isStatementOf, isStatement, program, relation}
 use Rattle.spec_text.specs.Reading.{openBlocks, blocksAfterLines, blocksAfter, noneOpen, inBody, relationSet, bounded, withinBounds, ordered, named}
-use Rattle.spec_text.specs.Reading.{setsAllowed, setsFit, linkFits, testsOf, firstFailed, fault, read}
+use Rattle.spec_text.specs.Reading.{setsAllowed, setsFit, linkFits, fault, read}
+use Rattle.law_text.specs.ReadingLaws.{passes-faultless}
 use Rattle.spec_text.specs.Reading.Outcome.{accepted}
 use Rattle.spec_graph.specs.Program.{Statement, statementOf}
 use Rattle.spec_graph.specs.Edge.{R, W, T, Letter, holds}
@@ -78,11 +79,10 @@ line-fits i k {full} {r} {w} {t} small word f =
 
 -- ---- a text of a relation and one program with the two statements
 
--- a line that passes the tests has no fault
+-- a line whose sets fit and which passes the other tests by itself has no fault
 fault-free : (before : List Line) (l : Line) → withinBounds before l ≡ true → ordered before l ≡ true → named before l ≡ true
     → setsFit before l ≡ true → linkFits before l ≡ true → fault before l ≡ none
-unfolding fault testsOf firstFailed
-fault-free before l a b c d e = rw (a, b, c, d, e) refl
+fault-free before l a b c d e = passes-faultless before l (record { bounds = a; order = b; names = c; sets = d; link = e })
 
 -- the same three sets
 pub record SameSets (s t : Statement) : Type 0 where

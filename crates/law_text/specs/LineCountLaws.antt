@@ -51,7 +51,7 @@ bounded-true lines h =
     }
 
 -- a test of lines and one more
-any-last : (p : Line → Bool) (before : List Line) (l : Line) → any p (before ++ (l ∷ [])) ≡ any p before || p l
+pub any-last : (p : Line → Bool) (before : List Line) (l : Line) → any p (before ++ (l ∷ [])) ≡ any p before || p l
 any-last p before l = any-append p before (l ∷ []) ∙ ap (λ b. any p before || b) (B.or-false (p l))
 
 -- a `pr` further back begins the program at hand
@@ -159,13 +159,13 @@ sort-once l p h = go (or-true (isRelation l) (isKey l) h)
     go (inr e) = omega (arith, eqb-true (sort (l .kind)) 2 p, eqb-true (sort (l .kind)) 1 e)
 
 -- where relations and keys still may come, no program has begun
-not-begun : (before : List Line) → all (λ b. isRelation b || isKey b) before ≡ true → any isProgram before ≡ true → ⊥
+pub not-begun : (before : List Line) → all (λ b. isRelation b || isKey b) before ≡ true → any isProgram before ≡ true → ⊥
 not-begun before a p =
     let t = any-true isProgram before p in
     sort-once (t .0) (t .2) (all-true (λ b. isRelation b || isKey b) a (t .1))
 
 -- relations only are relations or keys
-relations-early : (before : List Line) → all isRelation before ≡ true → all (λ b. isRelation b || isKey b) before ≡ true
+pub relations-early : (before : List Line) → all isRelation before ≡ true → all (λ b. isRelation b || isKey b) before ≡ true
 relations-early before h =
     all-of (λ b. isRelation b || isKey b) before (λ x m. or-left (isKey x) (all-true isRelation h m))
 

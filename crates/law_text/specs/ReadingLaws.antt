@@ -48,6 +48,11 @@ fault-none before l h =
     let e = first-passed 8 (linkFits before l) _ (d .1) in
     record { bounds = a .0; order = b .0; names = c .0; sets = d .0; link = e .0 }
 
+-- and a line that passes them has no fault
+pub passes-faultless : (before : List Line) (l : Line) → Passes before l → fault before l ≡ none
+unfolding fault testsOf firstFailed
+passes-faultless before l p = rw (p .bounds, p .order, p .names, p .sets, p .link)
+
 -- a value line that gives this line
 pub record FromBytes (l : Line) : Type 0 where
   pub bytes : List ℕ

@@ -1,10 +1,10 @@
 -- S21: the workload values that accepted texts give.
 use mathlib.Core.Path.{_≡_, refl, sym, ap, _∙_}
-use mathlib.Core.List.{List, _++_}
-use Prim.Native.Nat.{ℕ, _-_, _≤_}
+use mathlib.Core.List.{List, [], _∷_, _++_, append-assoc}
+use Prim.Native.Nat.{ℕ, suc, _+_, _-_, _≤_, _<_}
 use native.Mathlib.Omega.{arith}
-use lib.ListN.{length, take, drop, replicate, length-append, length-replicate, take-append-drop}
-use lib.Seq.{take-at, drop-at, length-take-le}
+use lib.ListN.{length, set, take, drop, replicate, length-append, length-replicate, take-append-drop}
+use lib.Seq.{set-append-seam, take-at, drop-at, length-take-le}
 use Rattle.spec_text.specs.declared.Line.{Line}
 use Rattle.spec_text.specs.declared.Workload.{Workload}
 use Rattle.spec_text.specs.Text.{unusedLine}
@@ -17,6 +17,22 @@ use Rattle.law_text.specs.LineCountLaws.{accepted-length}
 pub lines-of-value : (lines : List Line) → linesOf (valueOf lines) ≡ lines
 unfolding linesOf valueOf
 lines-of-value lines = take-at lines _ _ refl
+
+-- one line more is stored in the cell after the others
+pub appended-value : (before : List Line) (l : Line) → length before < 1616
+    → _≡_ {A = Workload}
+    (record { count = valueOf before .count + 1; lines = set (valueOf before .lines) (valueOf before .count) l })
+    (valueOf (before ++ (l ∷ [])))
+unfolding valueOf
+appended-value before l h =
+    let counts : length before + 1 ≡ length (before ++ (l ∷ [])) = sym (length-append before (l ∷ [])) in
+    let left : 1616 - length before ≡ suc (1616 - length (before ++ (l ∷ []))) = omega (arith, length-append before (l ∷ [])) in
+    let cells : set (before ++ replicate (1616 - length before) unusedLine) (length before) l
+    ≡ (before ++ (l ∷ [])) ++ replicate (1616 - length (before ++ (l ∷ []))) unusedLine
+    = ap (λ n. set (before ++ replicate n unusedLine) (length before) l) left
+    ∙ set-append-seam before unusedLine (replicate (1616 - length (before ++ (l ∷ []))) unusedLine) l
+    ∙ sym (append-assoc before (l ∷ []) (replicate (1616 - length (before ++ (l ∷ []))) unusedLine)) in
+    λ i. record { count = counts i; lines = cells i }
 
 -- an accepted text gives the value of its lines
 pub value-given : (text : List ℕ) {lines : List Line} → read text ≡ accepted lines → Given (valueOf lines)

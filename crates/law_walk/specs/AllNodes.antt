@@ -1,24 +1,21 @@
 -- The part of a graph in which all its nodes are chosen is the graph: the same walks are dangerous in both, so the same walk is the first.
 use mathlib.Core.Bool.{Bool, true, _&&_}
-use mathlib.Core.List.{List, List·Memᴰ}
+use mathlib.Core.List.{List}
 use mathlib.Core.Path.{_≡_, sym, _∙_}
 use Prim.Native.Nat.{ℕ, _≤_, _<_}
 use native.Mathlib.Omega.{arith}
 use Rattle.spec_base.specs.Basic.{all, has}
 use Rattle.law_base.specs.BoolLaws.{same-test, and-true, and-of}
-use Rattle.law_base.specs.ListLaws.{all-true, all-of, around-next}
+use Rattle.law_base.specs.ListLaws.{all-of}
 use Rattle.law_base.specs.SetLaws.{has-every}
 use Rattle.spec_graph.specs.Graph.{Graph}
-use Rattle.spec_graph.specs.Walk.{Step, isEdge, isDangerous, DangerousWalk, FirstWalk}
-use Rattle.law_walk.specs.Parts.{Below, dangerous-parts, only, only-walks}
+use Rattle.spec_graph.specs.Walk.{Step, isDangerous, DangerousWalk, FirstWalk}
+use Rattle.law_walk.specs.Parts.{Below, dangerous-parts, edges-over, only, only-walks}
 use Rattle.law_walk.specs.Reach.{Regular}
 
 -- a dangerous walk goes over nodes of the graph
-walk-nodes : {g : Graph} → Regular g → (walk : List Step) → isDangerous g walk ≡ true → Below (g .size) walk
-unfolding isEdge
-walk-nodes {g} regular walk d s m =
-    let n = around-next walk m in
-    regular .inNodes (s .node) (s .leaves) (n .0 .node) (s .enters) (s .flow) (all-true (isEdge g) (dangerous-parts walk d .edges) (n .1)) .0
+pub walk-nodes : {g : Graph} → Regular g → (walk : List Step) → isDangerous g walk ≡ true → Below (g .size) walk
+walk-nodes {g} regular walk d = edges-over g (λ m i n j flow e. regular .inNodes m i n j flow e .0) walk (dangerous-parts walk d .edges)
 
 module _ (chosen : ℕ → Bool) {g : Graph} (regular : Regular g) (every : (m : ℕ) → m < g .size → chosen m ≡ true) where
   -- the same walks are dangerous

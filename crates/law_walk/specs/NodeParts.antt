@@ -1,20 +1,18 @@
 -- Parts of a summary graph: the graph of some of the nodes is an induced part of the graph of all. So its dangerous walks are those of
 -- the whole that stay in these nodes, renumbered (`part-walks`, `walk-back`, `none-in-part` of Parts).
-use mathlib.Core.Bool.{Bool, true, false, not, _&&_, _||_}
+use mathlib.Core.Bool.{Bool, true, false, _&&_}
 use mathlib.Core.List.{List, [], _∷_, List·Memᴰ}
 use mathlib.Core.List.List·Memᴰ.{List·Memᴰ·head, List·Memᴰ·tail}
-use mathlib.Core.List.{List·Memᴰ·not-nil, List·Memᴰ·cases-cons}
-use mathlib.Core.Logic.{_⊎_, inl, inr}
 use mathlib.Core.Option.{Option, none, some}
 use mathlib.Core.Path.{_≡_, refl, sym, ap, ap₂, _∙_}
-use Prim.Native.Nat.{ℕ, zero, suc, _≤_, _<_, suc-le-suc}
+use Prim.Native.Nat.{ℕ, zero, suc, _<_, suc-le-suc}
 use native.Mathlib.Omega.{arith}
 use lib.ListN.{length, getD, getElem?}
-use Rattle.spec_base.specs.Basic.{any, keep, numbersFrom, numbers}
-use Rattle.law_base.specs.ListLaws.{any-same, getElem?-found, getElem?-lt, some-injective, keep-yes, keep-no, keep-member, numbersFrom-member}
+use Rattle.spec_base.specs.Basic.{any, keep, numbersFrom}
+use Rattle.law_base.specs.ListLaws.{any-same, getElem?-found, some-injective, keep-yes, keep-no, keep-member, numbersFrom-member}
 use Rattle.spec_graph.specs.Graph.{Flow}
 use Rattle.spec_graph.specs.Unfolding.{Node, Occurrence}
-use Rattle.spec_graph.specs.Edge.{Place, Letter, at, holds, selects, sameRelation, hasParent}
+use Rattle.spec_graph.specs.Edge.{Place, at, hasParent}
 use Rattle.spec_graph.specs.Edge.{guardedNear, guardedFar, shielded, forward, back, stands, bothPass}
 use Rattle.spec_graph.specs.Edge.{loosensAt, placeAt, graphOf}
 use Rattle.spec_graph.specs.Walk.{Step}
@@ -24,11 +22,11 @@ use Rattle.law_walk.specs.Parts.{Embedding, Stays}
 -- ---- edges do not look at the numbers of nodes and programs
 
 -- two places alike but for the numbers of their nodes and programs
-record Alike (s t : Place) : Type 0 where
-  occurrence : s .occurrence ≡ t .occurrence
-  place : s .place ≡ t .place
-  links : s .node .links ≡ t .node .links
-  places : s .node .places ≡ t .node .places
+pub record Alike (s t : Place) : Type 0 where
+  pub occurrence : s .occurrence ≡ t .occurrence
+  pub place : s .place ≡ t .place
+  pub links : s .node .links ≡ t .node .links
+  pub places : s .node .places ≡ t .node .places
 
 -- they have parents that shield by the same keys, near and far
 near-alike : (key : ℕ) {s t : Place} → Alike s t → guardedNear key s ≡ guardedNear key t
@@ -48,7 +46,7 @@ shielded-alike {s} {s′} {t} {t′} a b =
     ∙ ap (any (λ l. guardedNear (l .key) s′ && guardedFar (l .key) t′)) (a .links)
 
 -- and the same edges stand
-stands-alike : (flow : Flow) {s s′ t t′ : Place} → Alike s s′ → Alike t t′ → stands flow s t ≡ stands flow s′ t′
+pub stands-alike : (flow : Flow) {s s′ t t′ : Place} → Alike s s′ → Alike t t′ → stands flow s t ≡ stands flow s′ t′
 unfolding forward back
 stands-alike Flow.forward a b = rw (a .occurrence, b .occurrence) refl
 stands-alike Flow.back a b = rw (shielded-alike a b, a .occurrence, b .occurrence) refl
@@ -131,7 +129,7 @@ nodesAt nodes [] = []
 nodesAt nodes (c ∷ chosen) = elim (getElem? nodes c) [ none ↦ nodesAt nodes chosen | some n ↦ n ∷ nodesAt nodes chosen ]
 
 -- a number with a node gives that node first
-nodesAt-cons : (nodes : List Node) (c : ℕ) (chosen : List ℕ) {n : Node} → getElem? nodes c ≡ some n
+pub nodesAt-cons : (nodes : List Node) (c : ℕ) (chosen : List ℕ) {n : Node} → getElem? nodes c ≡ some n
     → nodesAt nodes (c ∷ chosen) ≡ n ∷ nodesAt nodes chosen
 unfolding nodesAt
 nodesAt-cons nodes c chosen e =
@@ -174,14 +172,21 @@ pub chosen-embedded : (nodes : List Node) (chosen : List ℕ) → ((c : ℕ) →
 chosen-embedded nodes chosen below =
     nodes-embedded (nodesAt nodes chosen) nodes (chosenNumber chosen) (chosen-stands nodes chosen below)
 
+-- the number of a chosen node is one of the chosen
+pub chosen-member : (chosen : List ℕ) (k : ℕ) → k < length chosen → List·Memᴰ (chosenNumber chosen k) chosen
+chosen-member [] k h = absurd (omega arith)
+chosen-member (c ∷ chosen) zero h = List·Memᴰ·head refl
+chosen-member (c ∷ chosen) (suc k) h = List·Memᴰ·tail (chosen-member chosen k (omega arith))
+
+-- and each of the chosen is that of a chosen node
+pub chosen-found : {chosen : List ℕ} {n : ℕ} → List·Memᴰ n chosen → (k : ℕ) × (k < length chosen) × (chosenNumber chosen k ≡ n)
+chosen-found (List·Memᴰ·head e) = (0, omega arith, sym e)
+chosen-found (List·Memᴰ·tail i) = let t = chosen-found i in (suc (t .0), suc-le-suc (t .1), t .2)
+
 -- a walk stays in the part if each of its nodes is chosen
 pub stays-chosen : (chosen : List ℕ) (walk : List Step) → ((s : Step) → List·Memᴰ s walk → List·Memᴰ (s .node) chosen)
     → Stays (length chosen) (chosenNumber chosen) walk
-stays-chosen chosen walk inside s m = go (inside s m)
-  where
-    go : {l : List ℕ} {n : ℕ} → List·Memᴰ n l → (k : ℕ) × (k < length l) × (chosenNumber l k ≡ n)
-    go (List·Memᴰ·head e) = (0, omega arith, sym e)
-    go (List·Memᴰ·tail i) = let t = go i in (suc (t .0), suc-le-suc (t .1), t .2)
+stays-chosen chosen walk inside s m = chosen-found (inside s m)
 
 -- numbers kept of those below n stand in increasing order, so nodes keep their order
 pub kept-increase : (p : ℕ → Bool) (a n k l : ℕ) → k < l → l < length (keep p (numbersFrom a n))
@@ -195,13 +200,8 @@ kept-increase p a (suc n) k l h below = go (p a) refl k l h below (λ k l h b. k
     Increases : List ℕ → Type 0
     Increases x = (k l : ℕ) → k < l → l < length x → chosenNumber x k < chosenNumber x l
 
-    later : (l : ℕ) (x : List ℕ) → l < length x → List·Memᴰ (getD x l 0) x
-    later l [] b = absurd (omega arith)
-    later zero (y ∷ x) b = List·Memᴰ·head refl
-    later (suc l) (y ∷ x) b = List·Memᴰ·tail (later l x (omega arith))
-
     above : (l : ℕ) → l < length rest → a < chosenNumber rest l
-    above l b = numbersFrom-member (suc a) n (keep-member p (numbersFrom (suc a) n) (later l rest b) .0) .0
+    above l b = numbersFrom-member (suc a) n (keep-member p (numbersFrom (suc a) n) (chosen-member rest l b) .0) .0
 
     cons : Increases rest → Increases (a ∷ rest)
     cons inc zero zero h b = absurd (omega arith)

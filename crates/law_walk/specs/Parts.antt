@@ -1,12 +1,12 @@
 -- Dangerous walks of a graph and of its parts: a map of nodes that keeps edges and loose places carries them over, and the walks of
 -- an induced part are exactly the walks of the whole that stay in it, renumbered.
-use mathlib.Core.Bool.{Bool, true, false, cond, not, _&&_, _||_}
+use mathlib.Core.Bool.{Bool, true, not, _&&_, _||_}
 use mathlib.Core.List.{List, [], _∷_, map, headD, tail, List·Memᴰ}
 use mathlib.Core.List.List·Memᴰ.{List·Memᴰ·head, List·Memᴰ·tail}
 use mathlib.Core.List.{List·Memᴰ·not-nil, List·Memᴰ·cases-cons}
 use mathlib.Core.Logic.{_⊎_, inl, inr, _↔_}
 use mathlib.Core.Path.{_≡_, refl, sym, ap, ap₂, _∙_}
-use Prim.Native.Nat.{ℕ, zero, suc, _<_}
+use Prim.Native.Nat.{ℕ, _<_}
 use native.Mathlib.Omega.{arith}
 use lib.Dec.{ltb}
 use Rattle.spec_base.specs.Basic.{any, all, around}
@@ -124,9 +124,38 @@ pub record Embedding (g h : Graph) (f : ℕ → ℕ) : Type 0 where
 abbrev pub Below : ℕ → List Step → Type 0
 Below size walk = (s : Step) → List·Memᴰ s walk → s .node < size
 
+-- a closed walk goes over nodes of a graph whose edges leave its nodes
+pub edges-over : (g : Graph) → ((m i n j : ℕ) (flow : Flow) → g .edge m i n j flow ≡ true → m < g .size)
+    → (walk : List Step) → all (isEdge g) (around walk) ≡ true → Below (g .size) walk
+unfolding isEdge
+edges-over g leave walk edges s m =
+    let n = around-next walk m in
+    leave (s .node) (s .leaves) (n .0 .node) (s .enters) (s .flow) (all-true (isEdge g) edges (n .1))
+
 -- each node of the walk is one that f gives
 abbrev pub Stays : (size : ℕ) (f : ℕ → ℕ) → List Step → Type 0
 Stays size f walk = (s : Step) → List·Memᴰ s walk → (k : ℕ) × (k < size) × (f k ≡ s .node)
+
+-- a walk over nodes that f gives is a walk over the first nodes, renumbered
+pub steps-back : (size : ℕ) (f : ℕ → ℕ) (walk : List Step) → Stays size f walk
+    → (inPart : List Step) × (renumbered f inPart ≡ walk) × Below size inPart
+unfolding renumber
+steps-back size f [] stays = ([], refl, λ s m. absurd (List·Memᴰ·not-nil m))
+steps-back size f (s ∷ walk) stays =
+    let k = stays s (List·Memᴰ·head refl) in
+    let t = steps-back size f walk (λ x m. stays x (List·Memᴰ·tail m)) in
+    let first : Step = record { node = k .0; leaves = s .leaves; enters = s .enters; flow = s .flow } in
+    (first ∷ t .0, ap₂ _∷_ (step-back (k .0) (k .2)) (t .1), below-cons first (t .0) (k .1) (t .2))
+  where
+    step-back : (k : ℕ) → f k ≡ s .node → renumber f (record { node = k; leaves = s .leaves; enters = s .enters; flow = s .flow }) ≡ s
+    step-back k e = ap (λ (n : ℕ). record { node = n; leaves = s .leaves; enters = s .enters; flow = s .flow }) e
+
+    below-cons : (s : Step) (l : List Step) → s .node < size → Below size l → Below size (s ∷ l)
+    below-cons s l h b x m = go (List·Memᴰ·cases-cons m)
+      where
+        go : (x ≡ s) ⊎ List·Memᴰ x l → x .node < size
+        go (inl e) = rw e h
+        go (inr n) = b x n
 
 module _ {g h : Graph} {f : ℕ → ℕ} (part : Embedding g h f) where
   -- an embedding is a homomorphism
@@ -137,31 +166,37 @@ module _ {g h : Graph} {f : ℕ → ℕ} (part : Embedding g h f) where
         keepsLoose = λ m i n j flow e l. part .sameLoose m i (part .inNodes m i n j flow e .0) ∙ l;
       }
 
-  -- a walk on the part's nodes is dangerous exactly if, renumbered, it is in the whole
-  pub walk-same : (walk : List Step) → Below (g .size) walk → isDangerous h (renumbered f walk) ≡ isDangerous g walk
-  unfolding isDangerous isEdge dangerousPair renumber
-  walk-same walk below =
-      ap₂ _&&_
-      (ap₂ _&&_ (all-renumbered f (isEdge h) walk ∙ all-same _ (isEdge g) (around walk) edge)
-      (any-renumbered f (dangerousPair h) walk ∙ any-same _ (dangerousPair g) (around walk) pair))
-      (flows-renumbered f walk)
+  -- a walk on the part's nodes is closed exactly if, renumbered, it is in the whole
+  pub edges-same : (walk : List Step) → Below (g .size) walk → all (isEdge h) (around (renumbered f walk)) ≡ all (isEdge g) (around walk)
+  unfolding isEdge renumber
+  edges-same walk below = all-renumbered f (isEdge h) walk ∙ all-same _ (isEdge g) (around walk) edge
     where
       edge : (q : Step × Step) → List·Memᴰ q (around walk) → isEdge h (renumberBoth f q) ≡ isEdge g q
       edge q m =
           let b = around-member walk m in
           part .sameEdges (q .0 .node) (q .0 .leaves) (q .1 .node) (q .0 .enters) (q .0 .flow) (below (q .0) (b .0)) (below (q .1) (b .1))
 
+  -- and it is dangerous exactly if, renumbered, it is in the whole
+  pub walk-same : (walk : List Step) → Below (g .size) walk → isDangerous h (renumbered f walk) ≡ isDangerous g walk
+  unfolding isDangerous dangerousPair renumber
+  walk-same walk below =
+      ap₂ _&&_
+      (ap₂ _&&_ (edges-same walk below)
+      (any-renumbered f (dangerousPair h) walk ∙ any-same _ (dangerousPair g) (around walk) pair))
+      (flows-renumbered f walk)
+    where
       pair : (q : Step × Step) → List·Memᴰ q (around walk) → dangerousPair h (renumberBoth f q) ≡ dangerousPair g q
       pair q m =
           ap (λ (b : Bool). isBack (q .1 .flow) && (isBack (q .0 .flow) || ltb (q .1 .leaves) (q .0 .enters) || b))
           (part .sameLoose (q .0 .node) (q .0 .leaves) (below (q .0) (around-member walk m .0)))
 
-  -- a dangerous walk of the part goes over its nodes
+  -- a closed walk of the part goes over its nodes
+  pub edges-below : (walk : List Step) → all (isEdge g) (around walk) ≡ true → Below (g .size) walk
+  edges-below = edges-over g (λ m i n j flow e. part .inNodes m i n j flow e .0)
+
+  -- so does a dangerous one
   pub walk-below : (walk : List Step) → isDangerous g walk ≡ true → Below (g .size) walk
-  unfolding isEdge
-  walk-below walk d s m =
-      let n = around-next walk m in
-      part .inNodes (s .node) (s .leaves) (n .0 .node) (s .enters) (s .flow) (all-true (isEdge g) (dangerous-parts walk d .edges) (n .1)) .0
+  walk-below walk d = edges-below walk (dangerous-parts walk d .edges)
 
   -- the dangerous walks of the part are the walks on its nodes that are dangerous in the whole
   pub part-walks : (walk : List Step) → (isDangerous g walk ≡ true) ↔ (Below (g .size) walk × (isDangerous h (renumbered f walk) ≡ true))
@@ -171,28 +206,9 @@ module _ {g h : Graph} {f : ℕ → ℕ} (part : Embedding g h f) where
   -- and each dangerous walk of the whole that stays in the part is one of them, renumbered
   pub walk-back : (walk : List Step) → Stays (g .size) f walk → isDangerous h walk ≡ true
       → (inPart : List Step) × (renumbered f inPart ≡ walk) × (isDangerous g inPart ≡ true)
-  unfolding renumber
   walk-back walk stays d =
-      let t = steps-back walk stays in
+      let t = steps-back (g .size) f walk stays in
       (t .0, t .1, sym (walk-same (t .0) (t .2)) ∙ ap (isDangerous h) (t .1) ∙ d)
-    where
-      step-back : (s : Step) (k : ℕ) → f k ≡ s .node → renumber f (record { node = k; leaves = s .leaves; enters = s .enters; flow = s .flow }) ≡ s
-      step-back s k e = ap (λ (n : ℕ). record { node = n; leaves = s .leaves; enters = s .enters; flow = s .flow }) e
-
-      below-cons : (s : Step) (l : List Step) → s .node < g .size → Below (g .size) l → Below (g .size) (s ∷ l)
-      below-cons s l h b x m = go (List·Memᴰ·cases-cons m)
-        where
-          go : (x ≡ s) ⊎ List·Memᴰ x l → x .node < g .size
-          go (inl e) = rw e h
-          go (inr n) = b x n
-
-      steps-back : (walk : List Step) → Stays (g .size) f walk → (inPart : List Step) × (renumbered f inPart ≡ walk) × Below (g .size) inPart
-      steps-back [] stays = ([], refl, λ s m. absurd (List·Memᴰ·not-nil m))
-      steps-back (s ∷ walk) stays =
-          let k = stays s (List·Memᴰ·head refl) in
-          let t = steps-back walk (λ x m. stays x (List·Memᴰ·tail m)) in
-          let first : Step = record { node = k .0; leaves = s .leaves; enters = s .enters; flow = s .flow } in
-          (first ∷ t .0, ap₂ _∷_ (step-back s (k .0) (k .2)) (t .1), below-cons first (t .0) (k .1) (t .2))
 
   -- where the whole has no dangerous walk that stays in the part, the part has none, and the other way round
   pub none-in-part : (DangerousWalk g → ⊥) ↔ ((walk : List Step) → Stays (g .size) f walk → isDangerous h walk ≡ true → ⊥)

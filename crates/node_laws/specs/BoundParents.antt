@@ -30,13 +30,9 @@ use Rattle.node_laws.specs.Bodies.{Body, bodyOf, taken-own, accepted-bod
 use Rattle.node_laws.specs.Sites.{Site, sites, Bound, run-bound}
 use Rattle.node_laws.specs.LineSites.{LineSite, lineSites, carried, sites-cut, site-around, site-kind, site-found}
 use Rattle.node_laws.specs.RunSites.{seen, run-sites}
+use Rattle.node_laws.specs.LineCases.{program-kind}
 
 -- ---- the lines before a link
-
--- a `pr` line is a program's
-program-kind : (l : Line) → l .kind ≡ Pr → isProgram l ≡ true
-unfolding isProgram sort
-program-kind l e = rw e refl
 
 -- the lines after the last `pr` are the program at hand
 program-own : (front : List Line) (pr : Line) (passed : List Line) → isProgram pr ≡ true → any isProgram passed ≡ false

@@ -1,11 +1,12 @@
 -- What a line is to the programs of a workload: a `pr`, a link, or another; and what programs, links and body read off it.
-use mathlib.Core.Bool.{false}
+use mathlib.Core.Bool.{true, false}
 use mathlib.Core.List.{List, [], _∷_}
 use mathlib.Core.Path.{_≡_, refl, sym, ap, _∙_}
 use Prim.Native.Nat.{ℕ}
 use native.Mathlib.Omega.{arith}
 use lib.Dec.{eqb}
 use lib.ListN.{length}
+use Rattle.law_base.specs.BoolLaws.{true-false}
 use Rattle.spec_text.specs.declared.Line.{Line}
 use Rattle.spec_text.specs.declared.LineKind.{LineKind}
 use Rattle.spec_text.specs.declared.LineKind.the-variants.{Rl, Fk, Pr, St, Lo, Br, El, En, Li}
@@ -53,6 +54,20 @@ no-program l d = go (l .kind) refl
     go El e = refl
     go En e = refl
     go Li e = refl
+
+-- T6: a `pr` begins one
+pub program-kind : (l : Line) → l .kind ≡ Pr → isProgram l ≡ true
+unfolding isProgram sort
+program-kind l e = rw e refl
+
+-- T6: a line that begins a program is a `pr`
+pub kind-program : (l : Line) → isProgram l ≡ true → l .kind ≡ Pr
+kind-program l h = go (line-case (l .kind))
+  where
+    go : LineCase (l .kind) → l .kind ≡ Pr
+    go (is-program e) = e
+    go (is-link e) = absurd (true-false h (no-program l (link-program e)))
+    go (is-other d q) = absurd (true-false h (no-program l d))
 
 module _ (l : Line) (lines : List Line) where
   -- the program that is read off the lines after a `pr`, and the link of a line

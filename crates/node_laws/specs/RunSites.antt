@@ -1,5 +1,4 @@
 -- The run that is read off a program's lines has the sites of the lines.
-use mathlib.Core.Bool.{Bool}
 use mathlib.Core.Bool as B
 use mathlib.Core.List.{List, [], _∷_, _++_, map, tail, reverseAux, append-assoc, append-nil, map-append}
 use mathlib.Core.Path.{_≡_, refl, sym, ap, ap₂, subst, _∙_}
@@ -12,11 +11,11 @@ use Rattle.spec_text.specs.declared.LineKind.the-variants.{Rl, Fk, Pr, St, Lo, 
 use Rattle.spec_text.specs.declared.StatementKind.{StatementKind}
 use Rattle.spec_text.specs.Reading.{Block, toSecondArm, blocksAfter}
 use Rattle.spec_text.specs.Reading.{loop, firstArm, secondArm}
-use Rattle.spec_graph.specs.Program.{Item, Parsed, runOf, inFrontOf, statementOf}
+use Rattle.spec_graph.specs.Program.{Item, Parsed, runLines, itemLines, runOf, inFrontOf, statementOf}
 use Rattle.spec_graph.specs.Program.Run.{done}
 use Rattle.node_laws.specs.Bodies.{Body, Stops, Ended, tail-fewer, run-stops, run-statement, run-loop, run-branch}
 use Rattle.node_laws.specs.Bodies.{body-statement, body-loop, body-branch, body-relation, body-key, body-closed, body-second}
-use Rattle.node_laws.specs.Sites.{runLines, itemLines, Site, within, sites, itemSites}
+use Rattle.node_laws.specs.Sites.{Site, within, sites, itemSites}
 use Rattle.node_laws.specs.LineSites.{LineSite, lineSites, Flow, statement-sites, flow-sites, program-sites, link-sites}
 
 -- a site of a run inside these blocks, as the lines have it

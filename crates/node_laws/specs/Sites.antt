@@ -14,7 +14,7 @@ use Rattle.law_base.specs.BoolLaws.{and-of}
 use Rattle.law_base.specs.ListLaws.{map-member}
 use Rattle.spec_text.specs.Reading as R
 use Rattle.spec_text.specs.Reading.{Block, firstArm, secondArm}
-use Rattle.spec_graph.specs.Program.{Statement, Item, Run}
+use Rattle.spec_graph.specs.Program.{Statement, Item, Run, runLines, itemLines}
 use Rattle.spec_graph.specs.Program.Item.{statement, loop, branch}
 use Rattle.spec_graph.specs.Program.Run.{done, next}
 use Rattle.spec_graph.specs.Unfolding.{Execution, ItemExecution, Turns, Occurrence, inside, occurrences, itemOccurrences, turnOccurrences}
@@ -22,17 +22,6 @@ use Rattle.spec_graph.specs.Unfolding.Execution.{end, step}
 use Rattle.spec_graph.specs.Unfolding.ItemExecution.{perform, turns, arm-one, arm-two}
 use Rattle.spec_graph.specs.Unfolding.Turns.{stop, turn}
 use Rattle.spec_graph.specs.Edge.{leads}
-
--- T8: on how many lines a run and an item stand: a loop has its `lo` and `en`, a branch its `br`, `el` and `en`
-unfoldable mutual
-  pub runLines : Run → ℕ
-  runLines done = 0
-  runLines (next x r) = itemLines x + runLines r
-
-  pub itemLines : Item → ℕ
-  itemLines (statement s) = 1
-  itemLines (loop r) = runLines r + 2
-  itemLines (branch a b) = runLines a + runLines b + 3
 
 -- a statement of a run and the blocks of the run around it, outermost first
 pub record Site : Type 0 where
@@ -83,14 +72,14 @@ ranged-within low high block from h k r s m b n =
 mutual
   unfolding sites runLines
 
-  run-ranged : (r : Run) (place : ℕ) → Ranged place (place + runLines r) (sites r place)
+  pub run-ranged : (r : Run) (place : ℕ) → Ranged place (place + runLines r) (sites r place)
   run-ranged done place = λ s m. absurd (List·Memᴰ·not-nil m)
   run-ranged (next x r) place =
       ranged-append place (place + (itemLines x + runLines r)) (itemSites x place) (sites r (place + itemLines x))
       (ranged-wider _ _ _ _ (itemSites x place) (omega arith) (omega arith) (item-ranged x place))
       (ranged-wider _ _ _ _ (sites r (place + itemLines x)) (omega arith) (omega arith) (run-ranged r (place + itemLines x)))
 
-  item-ranged : (x : Item) (place : ℕ) → Ranged place (place + itemLines x) (itemSites x place)
+  pub item-ranged : (x : Item) (place : ℕ) → Ranged place (place + itemLines x) (itemSites x place)
   item-ranged (statement s) place = λ s m b n.
       absurd (List·Memᴰ·not-nil (subst (λ (x : Site). List·Memᴰ b (x .blocks)) (List·Memᴰ·eq-of-singleton m) n))
   item-ranged (loop r) place =
@@ -132,7 +121,7 @@ arms-plain a b place s m h =
 mutual
   unfolding sites occurrences
 
-  run-plain : {r : Run} (e : Execution r) (place i : ℕ) (s : Site) → List·Memᴰ s (sites r place) → s .blocks ≡ []
+  pub run-plain : {r : Run} (e : Execution r) (place i : ℕ) (s : Site) → List·Memᴰ s (sites r place) → s .blocks ≡ []
       → List·Memᴰ (plain s) (occurrences e i)
   run-plain end place i s m h = absurd (List·Memᴰ·not-nil m)
   run-plain (step {x} {r} y e) place i s m h =

@@ -16,6 +16,7 @@ use borrow.Author.Tests.{eqb-true, eq-eqb, ne-eqb}
 use Rattle.spec_base.specs.Basic.{numbers, numbersFrom, has, meets}
 use Rattle.law_base.specs.BoolLaws.{same-test, and-true, and-of, and-left, and-right, not-of-false}
 use Rattle.law_base.specs.ListLaws.{any-true, any-of}
+use Rattle.law_base.specs.FlatLaws.{flatMap-map, flatMap-same}
 use Rattle.law_base.specs.SetLaws.{has-first, has-later, meets-has-below, has-meets, meets-comm}
 use Rattle.spec_graph.specs.Graph.{Flow}
 use Rattle.spec_graph.specs.Program.{Link}
@@ -208,21 +209,6 @@ back-loose p q firm =
     and-right (eqb (p .relation) (q .relation)) (simp (tests, select))
 
 -- ---- all pairs
-
-module _ {A B C : Type 0} where
-  -- to map and then to gather is to gather what is mapped
-  pub flatMap-map : (f : B → List C) (g : A → B) (l : List A) → flatMap f (map g l) ≡ flatMap (λ x. f (g x)) l
-  unfolding flatMap
-  flatMap-map f g [] = refl
-  flatMap-map f g (x ∷ l) = ap (λ (r : List C). f (g x) ++ r) (flatMap-map f g l)
-
-module _ {A C : Type 0} where
-  -- what agrees on each element gathers the same
-  pub flatMap-same : (f g : A → List C) (l : List A) → ((x : A) → List·Memᴰ x l → f x ≡ g x) → flatMap f l ≡ flatMap g l
-  unfolding flatMap
-  flatMap-same f g [] same = refl
-  flatMap-same f g (x ∷ l) same =
-      ap₂ (λ (a b : List C). a ++ b) (same x (List·Memᴰ·head refl)) (flatMap-same f g l (λ y m. same y (List·Memᴰ·tail m)))
 
 -- a place of a node stands in that node
 placesFrom-node : (m : ℕ) (n : Node) (i : ℕ) (l : List Occurrence) {s : Place} → List·Memᴰ s (placesFrom m n i l) → s .node ≡ n

@@ -15,7 +15,7 @@ use Rattle.spec_graph.specs.Unfolding.{Node, Occurrence}
 use Rattle.spec_graph.specs.Edge.{Place, placesFrom, placesOf}
 use Rattle.spec_report.specs.State.{statementsIn}
 use Rattle.place_row.specs.RowTable.{rowOf, rowsOf, wordsOf, tableOf}
-use Rattle.edge_count.specs.Flattened.{flatMap-append}
+use Rattle.law_base.specs.FlatLaws.{flatMap-append}
 use Rattle.unfold_laws.specs.Seen.{StandsFor, NodeWords, WordsFor}
 use Rattle.place_laws.specs.Placed.{placesFrom-length}
 use Rattle.place_laws.specs.Ids.{on-line-id}

@@ -1,6 +1,6 @@
 -- The programs of a workload as trees, read off its lines. Believed.
 use mathlib.Core.List.{List, [], _∷_, tail}
-use Prim.Native.Nat.{ℕ, zero, suc}
+use Prim.Native.Nat.{ℕ, zero, suc, _+_}
 use lib.ListN.{length}
 use Rattle.spec_text.specs.declared.Line.{Line}
 use Rattle.spec_text.specs.declared.LineKind.the-variants.{Rl, Fk, Pr, St, Lo, Br, El, En, Li}
@@ -31,6 +31,17 @@ mutual
   pub data Run : Type 0 where
     done : Run
     next : Item → Run → Run
+
+-- T8: on how many lines a run and an item stand: a loop has its `lo` and `en`, a branch its `br`, `el` and `en`
+unfoldable mutual
+  pub runLines : Run → ℕ
+  runLines done = 0
+  runLines (next x r) = itemLines x + runLines r
+
+  pub itemLines : Item → ℕ
+  itemLines (statement s) = 1
+  itemLines (loop r) = runLines r + 2
+  itemLines (branch a b) = runLines a + runLines b + 3
 
 pub record Program : Type 0 where
   pub body : Run

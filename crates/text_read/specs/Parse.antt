@@ -3,10 +3,10 @@ use mathlib.Core.List.{List, []}
 use mathlib.Core.Option.{Option, none, some}
 use mathlib.Core.Path.{_≡_}
 use Prim.Native.Nat.{ℕ, _+_, _≤_}
-use lib.ListN.{length, drop, replicate}
+use lib.ListN.{length, drop}
 use Rattle.spec_text.specs.declared.Line.{Line}
 use Rattle.spec_text.specs.declared.Workload.{Workload}
-use Rattle.spec_text.specs.Text.{linesIn, unusedLine}
+use Rattle.spec_text.specs.Text.{linesIn}
 use Rattle.spec_text.specs.Value.{valueOf, noWorkload}
 use Rattle.spec_text.specs.Reading.{Outcome, readLines}
 use Rattle.spec_text.specs.Reading.Outcome.{refused, accepted}
@@ -22,10 +22,6 @@ use Rattle.text_read.specs.declared.Seen.{Seen}
 unfoldable pub parsedAs : Outcome → Parsed
 parsedAs (refused number line) = record { work = noWorkload; number = number; line = line }
 parsedAs (accepted lines) = record { work = valueOf lines; number = 0; line = 0 }
-
--- a count over cells that all hold the unused line
-abbrev pub unusedCells : ℕ → Workload
-unusedCells count = record { count = count; lines = replicate 1616 unusedLine }
 
 -- the number of the fault of a line's bytes after the lines kept, 0 where there is none
 unfoldable pub faultNumber : State → Option Line → ℕ

@@ -1,20 +1,20 @@
 -- The steps of the code that reads a text are those of `Reading`.
 use mathlib.Core.Path.{_≡_, refl, sym, ap, subst, _∙_}
-use mathlib.Core.Bool.{Bool, true, false, cond}
-use mathlib.Core.List.{List, [], _∷_, _++_, append-assoc}
+use mathlib.Core.Bool.{true, false, cond}
+use mathlib.Core.List.{List, [], _∷_, _++_}
 use mathlib.Core.Option.{Option, none, some}
 use Prim.Native.Nat.{ℕ, zero, suc, _+_, _-_, _≤_, _<_}
 use native.Mathlib.Omega.{arith}
 use lib.Dec.{eqb}
-use lib.ListN.{length, set, drop, replicate, length-append}
-use lib.Seq.{set-append-seam}
+use lib.ListN.{length, set, drop, length-append}
 use borrow.Author.Tests.{eq-eqb, ne-eqb}
 use Rattle.spec_text.specs.declared.Line.{Line}
 use Rattle.spec_text.specs.declared.Workload.{Workload}
-use Rattle.spec_text.specs.Text.{linesIn, lineOf, unusedLine}
+use Rattle.spec_text.specs.Text.{linesIn, lineOf}
 use Rattle.spec_text.specs.Reading.{noneOpen, fault, readLines, Outcome}
 use Rattle.spec_text.specs.Reading.Outcome.{refused, accepted}
 use Rattle.spec_text.specs.Value.{valueOf}
+use Rattle.law_text.specs.ValueLaws.{appended-value}
 use Rattle.line_state.specs.Records.{State}
 use Rattle.line_state.specs.StateSteps.{checkOf}
 use Rattle.line_state.specs.StateWords.{stateIn, Taken}
@@ -29,25 +29,10 @@ use Rattle.text_lines.specs.declared.Step.the-variants.{Line as AtLine, End as 
 use Rattle.text_lines.specs.Span.{lineAt}
 use Rattle.text_lines.specs.Going.{bytesOf, goneThrough}
 use Rattle.text_lines.specs.GoingLaws.{came, gone-through}
-use Rattle.text_read.specs.Parse.{parsedAs, unusedCells, faultNumber, Saw, Going}
+use Rattle.text_read.specs.Parse.{parsedAs, faultNumber, Saw, Going}
+use Rattle.value_unused.specs.Unused.{unusedCells}
 
 -- ---- the workload
-
--- one line more
-pub appended-value : (before : List Line) (l : Line) → length before < 1616
-    → _≡_ {A = Workload}
-    (record { count = valueOf before .count + 1; lines = set (valueOf before .lines) (valueOf before .count) l })
-    (valueOf (before ++ (l ∷ [])))
-unfolding valueOf
-appended-value before l h =
-    let counts : length before + 1 ≡ length (before ++ (l ∷ [])) = sym (length-append before (l ∷ [])) in
-    let left : 1616 - length before ≡ suc (1616 - length (before ++ (l ∷ []))) = omega (arith, length-append before (l ∷ [])) in
-    let cells : set (before ++ replicate (1616 - length before) unusedLine) (length before) l
-    ≡ (before ++ (l ∷ [])) ++ replicate (1616 - length (before ++ (l ∷ []))) unusedLine
-    = ap (λ n. set (before ++ replicate n unusedLine) (length before) l) left
-    ∙ set-append-seam before unusedLine (replicate (1616 - length (before ++ (l ∷ []))) unusedLine) l
-    ∙ sym (append-assoc before (l ∷ []) (replicate (1616 - length (before ++ (l ∷ []))) unusedLine)) in
-    λ i. record { count = counts i; lines = cells i }
 
 value-count : (before : List Line) → valueOf before .count ≡ length before
 unfolding valueOf

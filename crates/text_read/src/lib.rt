@@ -5,6 +5,7 @@ use spec_text::Workload;
 use text_fields::LineRead;
 use text_lines::Step;
 use text_whole::Whole;
+use value_unused::unused_cells;
 ghost use mathlib.Core.Path.{_≡_};
 ghost use mathlib.Core.List.{[]};
 ghost use mathlib.Core.Option.{some};
@@ -12,7 +13,7 @@ ghost use lib.ListN.{drop};
 ghost use Rattle.spec_text.specs.Text.{linesIn, lineOf};
 ghost use Rattle.spec_text.specs.Reading.{readLines, read};
 ghost use Rattle.spec_text.specs.Reading.Outcome.{refused as Refused};
-ghost use Rattle.text_read.specs.Parse.{parsedAs, unusedCells, Saw};
+ghost use Rattle.text_read.specs.Parse.{parsedAs, Saw};
 
 // What a text gives: number 0 and its workload value, or a refusal's number and line with a value that no text gives (`noWorkload`).
 pub struct Parsed {
@@ -25,25 +26,6 @@ pub struct Parsed {
 struct Seen {
     number: u8,
     line: Line,
-}
-
-// A count over cells that all hold the unused line: 0 of no lines, one over the cells of what no text gives.
-fn unused_cells(count: usize) -> Workload
-    ensures { λ r. ⌜ r ≡ unusedCells count ⌝ }
-{
-    let e = Line {
-        kind: LineKind::En,
-        id: 0,
-        rel: 0,
-        to: 0,
-        reads: 0,
-        writes: 0,
-        tests: 0,
-    };
-    Workload {
-        count,
-        lines: [e; spec_text::CELLS],
-    }
 }
 
 fn refused(number: u8, line: u64) -> Parsed

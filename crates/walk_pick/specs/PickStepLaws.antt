@@ -17,7 +17,7 @@ use Rattle.spec_graph.specs.Graph as G
 use Rattle.spec_graph.specs.Edge as E
 use Rattle.place_row.specs.declared.Row.{Row}
 use Rattle.place_row.specs.RowTable.{rowAt, rowCount, rowForward, rowBack, rowEdge, rowEdges, tableRows, edgesOfRows}
-use Rattle.place_row.specs.RowTableLaws.{flatMap-map}
+use Rattle.law_base.specs.FlatLaws.{flatMap-map}
 use Rattle.edge_count.specs.Slots.{tableEdges, tableCounts, pairCounts}
 use Rattle.walk_pick.specs.declared.PickedEdges.{PickedEdges}
 use Rattle.walk_pick.specs.Picks.{rowForwardWord, rowBackWord, greatest, standsIn, wordFor, between, wordsBetween, picksOf}

@@ -91,10 +91,8 @@ fn finish(shared: &Shared) {
     let locks = if shared.locks { ", with kl" } else { "" };
     println!("{total} texts compared alike (seed {}{locks}): {compared}", shared.seed);
     if let Some((number, difference)) = &*shared.difference.lock().unwrap() {
-        let path = format!("found/{}-{number}{}.txt", shared.seed, if shared.locks { "-locks" } else { "" });
-        let text = text_number(shared.seed, *number as u64, shared.locks);
-        let saved = std::fs::create_dir_all("found").and_then(|_| std::fs::write(&path, text));
-        let place = saved.map_or_else(|error| format!("not saved: {error}"), |_| path);
+        let name = format!("{}-{number}{}", shared.seed, if shared.locks { "-locks" } else { "" });
+        let place = saved(&name, &text_number(shared.seed, *number as u64, shared.locks));
         println!("DIFFERENT: text {number} ({place}): {difference}");
         std::process::exit(1);
     }

@@ -5,6 +5,7 @@
 use outside::arguments::words_and_locks;
 use outside::edges::*;
 use outside::generator::text_number;
+use outside::outcome::saved;
 use outside::stages::*;
 
 #[cfg(rattle)]
@@ -51,8 +52,8 @@ fn compare(text: &[u8], number: u64, edges: &[Edge], result: u32, room: usize) {
     let front = area[..edges.len()] == *edges;
     let rest = area[edges.len()..].iter().all(|cell| *cell == MARK);
     if other != result || !front || !rest {
-        let _ = std::fs::create_dir_all("found").and_then(|_| std::fs::write(format!("found/records-{number}.txt"), text));
-        println!("DIFFERENT: text {number} (found/records-{number}.txt), room {room}: results {result:x} and {other:x}");
+        let place = saved(&format!("records-{number}"), text);
+        println!("DIFFERENT: text {number} ({place}), room {room}: results {result:x} and {other:x}");
         println!("records alike: {front}, rest untouched: {rest}");
         std::process::exit(1);
     }

@@ -51,8 +51,7 @@ fn check(text: &[u8]) -> Option<bool> {
     assert_eq!((verdict.edges, verdict.back), count(&unfolded.unfoldings, &unfolded.spots), "counts");
     assert!(back.is_none_or(|back| back == verdict.back), "back edges");
     if verdict.edges < 3000 {
-        let mut edges = vec![EMPTY_EDGE; verdict.edges];
-        fill(&unfolded.unfoldings, &unfolded.spots, &mut edges);
+        let edges = list(&unfolded.unfoldings, &unfolded.spots);
         assert_eq!(verdict.steps > 0, literal_danger(&unfolded.unfoldings, &unfolded.spots, &edges), "verdict");
         check_walks(&unfolded.unfoldings, &unfolded.spots, &edges, &walk[..verdict.steps]);
     }

@@ -8,7 +8,6 @@ use outside::generator::any_text;
 use outside::late::late_parents;
 use outside::lines::text_of;
 use outside::random::Random;
-use outside::report::Unfolded;
 use outside::shields::*;
 
 #[derive(Default)]
@@ -54,7 +53,7 @@ fn compare(text: &[u8], tally: &mut Tally) -> Option<(String, String)> {
         tally.refused += 1;
         return None;
     };
-    let (edges_then, edges_now) = (edges_of(&then), edges_of(&now));
+    let (edges_then, edges_now) = (list(&then.unfoldings, &then.spots), list(&now.unfoldings, &now.spots));
     check_vanished(text, &edges_then, &edges_now);
     let back = |edges: &[Edge]| edges.iter().filter(|edge| edge.flow == b'b').count();
     tally.edges += edges_now.len() - back(&edges_now);
@@ -69,12 +68,6 @@ fn compare(text: &[u8], tally: &mut Tally) -> Option<(String, String)> {
     tally.other_walks += (!is_robust(&now) && walk(&now) != walk(&then)) as usize;
     tally.reports += (then != now) as usize;
     if then != now { Some((then, now)) } else { None }
-}
-
-fn edges_of(unfolded: &Unfolded) -> Vec<Edge> {
-    let mut edges = vec![EMPTY_EDGE; count(&unfolded.unfoldings, &unfolded.spots).0];
-    fill(&unfolded.unfoldings, &unfolded.spots, &mut edges).expect("as long as the count");
-    edges
 }
 
 /// What is left out is back by D; the rest stands in the same order.

@@ -1,5 +1,5 @@
 //! `walks SEED COUNT [TEXT...] [--locks]`: the first walk, found fast, against the same found by the definition alone: on COUNT random graphs and
-//! COUNT random workloads, each also on random parts of its nodes, and on parts of its programs read as a text of their own. All lists
+//! COUNT random workloads, each also on random parts of its nodes (`parts` holds those of some programs to their own text). All lists
 //! of steps are tried where they are not too many; longer walks are found by what can still be closed; where both are tried, all
 //! must agree. The same on the texts, of any size. How many walks were of which kind is printed, so that a comparison which meets
 //! none is noticed.
@@ -11,12 +11,10 @@ use outside::graph::*;
 use outside::lines::text_of;
 use outside::plain_walk::*;
 use outside::random::Random;
-use outside::reader::read;
-use outside::report::{unfolded, Unfolded};
+use outside::report::unfolded;
 use outside::special::*;
 use outside::unfolding::{MAX_NODES, MAX_PLACES};
 use outside::verdict::*;
-use outside::workload::*;
 
 const BUDGET: usize = 300_000;
 /// Pairs of edges that may follow each other.
@@ -40,37 +38,35 @@ fn main() {
     let (words, locks) = words_and_locks();
     let number = |at: usize| words.get(at).and_then(|word| word.parse::<u64>().ok()).expect("usage: walks SEED COUNT [TEXT...] [--locks]");
     let (seed, count) = (number(1), number(2));
-    let (mut graphs, mut workloads, mut programs) = (Tally::default(), Tally::default(), (0, 0));
+    let (mut graphs, mut workloads) = (Tally::default(), Tally::default());
     for k in 0..count {
         let mut random = Random::numbered(seed, k).with_locks(locks);
         let drawn = Drawn::draw(&mut random);
         let graph = Graph::of(&drawn, drawn.lengths.iter().copied());
         compare(&mut random, &graph, MOST_PAIRS, &mut graphs, &|| format!("random graph {k}"));
         let text = draw_text(&mut random);
-        compare_text(&mut random, &text, MOST_PAIRS, &mut workloads, &mut programs);
+        compare_text(&mut random, &text, MOST_PAIRS, &mut workloads);
     }
     show("graphs", &graphs);
     show("workloads", &workloads);
     let mut texts = Tally::default();
     for path in words.iter().skip(3) {
         let text = std::fs::read(path).unwrap_or_else(|error| panic!("{path}: {error}"));
-        compare_text(&mut Random::new(seed), &text, usize::MAX, &mut texts, &mut programs);
+        compare_text(&mut Random::new(seed), &text, usize::MAX, &mut texts);
     }
     if words.len() > 3 {
         show("texts", &texts);
     }
-    println!("parts of programs: {} robust, {} danger, as the texts of these programs alone give it", programs.0, programs.1);
 }
 
 // ---- comparing
 
 /// A text's graph, unless it is refused.
-fn compare_text(random: &mut Random, text: &[u8], most_pairs: usize, tally: &mut Tally, programs: &mut (usize, usize)) {
+fn compare_text(random: &mut Random, text: &[u8], most_pairs: usize, tally: &mut Tally) {
     let Ok(unfolded) = unfolded(text) else { return };
     let places = QuickPlaces::of(&unfolded.spots);
     let graph = Graph::of(&places, unfolded.unfoldings.all().iter().map(|node| node.length as usize));
     compare(random, &graph, most_pairs, tally, &|| String::from_utf8_lossy(text).into_owned());
-    compare_programs(random, &graph, &unfolded, programs);
 }
 
 /// The whole graph, and three parts of it.
@@ -113,39 +109,6 @@ fn compare_part<P: Places>(graph: &Graph<P>, edges: &[PlainEdge], counted: u64, 
         Some(walk) => tally.take(&walk),
         None => tally.robust += 1,
     }
-}
-
-/// The nodes of some programs, against the text of these programs alone with its nodes' numbers turned into the whole's. How many
-/// were robust and how many danger is counted.
-fn compare_programs<P: Places>(random: &mut Random, graph: &Graph<P>, whole: &Unfolded, tally: &mut (usize, usize)) {
-    let chosen = random.word();
-    let nodes: Vec<usize> = (0..graph.nodes).filter(|&node| chosen >> whole.unfoldings.node[node].program & 1 == 1).collect();
-    let mut walk = [EMPTY_STEP; MAX_STEPS];
-    let steps = first_walk(graph, nodes.iter().fold(0, |word, node| word | 1 << node), &mut walk);
-    let mut alone = [EMPTY_STEP; MAX_STEPS];
-    let lines = programs_alone(whole.workload.taken(), chosen);
-    let verdict = judge(&read(&text_of(&lines)).expect("a part is accepted"), &mut alone).expect("a part is not too large");
-    alone[..verdict.steps].iter_mut().for_each(|step| step.node = nodes[step.node as usize] as u8);
-    let text = text_of(whole.workload.taken());
-    assert_eq!(walk[..steps], alone[..verdict.steps], "programs {chosen:x} of\n{}", String::from_utf8_lossy(&text));
-    *if steps > 0 { &mut tally.1 } else { &mut tally.0 } += 1;
-}
-
-/// The lines of some programs, numbered anew, after those of relations and keys.
-fn programs_alone(lines: &[Line], chosen: u64) -> Vec<Line> {
-    let (mut kept, mut taken, mut next) = (Vec::new(), true, 0);
-    for line in lines {
-        let mut line = *line;
-        if line.kind == PR {
-            taken = chosen >> line.id & 1 == 1;
-            line.id = next;
-            next += taken as u8;
-        }
-        if taken {
-            kept.push(line);
-        }
-    }
-    kept
 }
 
 fn plain_edges<P: Places>(graph: &Graph<P>) -> Vec<PlainEdge> {

@@ -6,7 +6,7 @@ use Rattle.text_read.proofs.refused.Statement.{statement}
 use Rattle.text_read.proofs.refused.Tie as tie
 use Rattle.text_read.proofs.refused.Reads as reads
 use Rattle.text_read.proofs.refused.Lts as lts
-use Rattle.text_read.proofs.unused_cells.Reads as unused-cells-reads
+use Rattle.value_unused.proofs.unused_cells.Reads as unused-cells-reads
 
 add-unused-cells : tie.Need-add-unused-cells
 add-unused-cells c = search needs

@@ -1,0 +1,176 @@
+-- Part of a robust station is robust (document 02, Req 06): the part of a workload that some text gives, for any choice of its programs. Its graph is
+-- the part of the whole's graph on the nodes of the chosen programs, so that the laws of PartWalks say exactly which walks it has.
+use mathlib.Core.Bool.{Bool, true, false, _&&_, false≢true}
+use mathlib.Core.List.{List, [], _∷_, map}
+use mathlib.Core.List.List·Memᴰ.{List·Memᴰ·head}
+use mathlib.Core.Logic.{_↔_}
+use mathlib.Core.Option.{Option, none, some}
+use mathlib.Core.Path.{_≡_, refl, sym, ap, subst, _∙_}
+use Prim.Native.Nat.{ℕ, _<_}
+use native.Mathlib.Omega.{arith}
+use lib.ListN.{getElem?}
+use Rattle.spec_base.specs.Basic.{any, keep, count, has, within}
+use Rattle.law_base.specs.BoolLaws.{true-false, or-false}
+use Rattle.law_base.specs.SetLaws.{within-has}
+use Rattle.spec_text.specs.declared.Line.{Line}
+use Rattle.spec_text.specs.declared.Workload.{Workload}
+use Rattle.spec_text.specs.Reading.{isProgram}
+use Rattle.spec_text.specs.Value.{Given, linesOf}
+use Rattle.law_text.specs.ReadingLaws.{read-taken, read-closed}
+use Rattle.law_text.specs.ValueLaws.{given-read}
+use Rattle.spec_graph.specs.Program.{Program, programsOf}
+use Rattle.spec_graph.specs.Unfolding.{Node, nodesFrom, nodesOf}
+use Rattle.spec_graph.specs.Edge.{edgesOf, graphOf}
+use Rattle.spec_graph.specs.Walk.{Step, isDangerous, DangerousWalk, FirstWalk}
+use Rattle.law_walk.specs.AllNodes.{walk-nodes}
+use Rattle.law_walk.specs.Parts.{Below, renumbered, only}
+use Rattle.law_walk.specs.Reach.{regular}
+use Rattle.spec_schedule.specs.Schedule.{Schedule}
+use Rattle.spec_schedule.specs.Serial.{Serialisable}
+use Rattle.soundness.specs.Theorem.{demand-3}
+use Rattle.spec_report.specs.State.{summaryGraph, tooMany, Danger, Robust}
+use Rattle.node_laws.specs.LineCases.{program-kind, programs-later}
+use Rattle.spec_part.specs.Group.{chosenFrom, untilProgram, partLines, partOf}
+use Rattle.law_part.specs.PartWalks.{PartOf, part-danger, part-robust, part-first, first-back, part-fewer}
+use Rattle.law_part.specs.KeptNodes.{keptNumber, isKept, kept-part}
+use Rattle.law_part.specs.PartEdges.{renumberedEdge, kept-edges}
+use Rattle.law_part.specs.PartPrograms.{part-programs}
+use Rattle.law_part.specs.PartNodes as Nodes
+use Rattle.law_part.specs.PartNodes.{nodeInPart}
+use Rattle.law_part.specs.PartLines.{until-none, part-none}
+use Rattle.law_part.specs.PartGiven.{part-lines, part-given}
+
+-- the node is one of a chosen program
+abbrev pub ofGroup : ℕ → Node → Bool
+ofGroup group n = has group (n .program)
+
+-- the node with this number in the whole is one of a chosen program
+abbrev pub inGroup : ℕ → List Line → ℕ → Bool
+inGroup group lines m = isKept (ofGroup group) (nodesOf lines) m
+
+-- the number in the whole of the node with this number in the part
+abbrev pub inWhole : ℕ → List Line → ℕ → ℕ
+inWhole group lines k = keptNumber (ofGroup group) (nodesOf lines) k
+
+-- a list mapped to itself
+map-itself : {A : Type 0} (l : List A) → map (λ x. x) l ≡ l
+map-itself [] = refl
+map-itself {A} (x ∷ l) = ap {B = List A} (λ r. x ∷ r) (map-itself l)
+
+-- Req 06: the chosen programs of a given workload
+pub given-programs : (group : ℕ) {w : Workload} → Given w → programsOf (partLines group (linesOf w)) ≡ chosenFrom group 0 (programsOf (linesOf w))
+given-programs group {w} g =
+    part-programs group (linesOf w) (read-taken (g .text) (linesOf w) (given-read g)) (read-closed (g .text) (linesOf w) (given-read g))
+
+module _ (group : ℕ) {w : Workload} (g : Given w) where
+  -- the lines of the whole and of the part
+  abbrev whole : List Line
+  whole = linesOf w
+
+  abbrev part : List Line
+  part = partLines group whole
+
+  -- the part's nodes are the chosen ones, in order, renumbered
+  pub group-nodes : nodesOf part ≡ map (nodeInPart group) (keep (ofGroup group) (nodesOf whole))
+  group-nodes = Nodes.part-nodes group whole (given-programs group g)
+
+  -- the graph of the part is the part of the graph on the nodes of the chosen programs, renumbered in order
+  pub group-part : PartOf (summaryGraph part) (summaryGraph whole) (inGroup group whole) (inWhole group whole)
+  unfolding summaryGraph nodeInPart
+  group-part =
+      let nodes = nodesOf whole in
+      let chosen = map (nodeInPart group) (keep (ofGroup group) nodes) in
+      let kept = kept-part (ofGroup group) (λ n. n) (nodeInPart group) (λ n. (refl, refl)) nodes in
+      subst (λ (p : List Node). PartOf (graphOf p) (graphOf nodes) (inGroup group whole) (inWhole group whole)) (sym group-nodes)
+      (subst (λ (l : List Node). PartOf (graphOf chosen) (graphOf l) (inGroup group whole) (inWhole group whole)) (map-itself nodes) kept)
+
+  -- the part's edge records, renumbered, are the whole's between nodes of chosen programs
+  pub group-edges : map (renumberedEdge (inWhole group whole)) (edgesOf (nodesOf part))
+      ≡ keep (λ e. inGroup group whole (e .node) && inGroup group whole (e .into)) (edgesOf (nodesOf whole))
+  unfolding nodeInPart
+  group-edges =
+      let nodes = nodesOf whole in
+      ap (λ (p : List Node). map (renumberedEdge (inWhole group whole)) (edgesOf p)) group-nodes
+      ∙ kept-edges (ofGroup group) (λ n. n) (nodeInPart group) (λ n. (refl, refl)) nodes
+      ∙ ap (λ (l : List Node). keep (λ e. inGroup group whole (e .node) && inGroup group whole (e .into)) (edgesOf l)) (map-itself nodes)
+
+  -- Req 07, Req 13: the part has a dangerous walk exactly if the whole has one that stays in the group's programs, so one graph answers for all
+  -- groups
+  pub group-danger : Danger part ↔ DangerousWalk (only (inGroup group whole) (summaryGraph whole))
+  unfolding summaryGraph
+  group-danger = part-danger group-part (regular (nodesOf whole))
+
+  -- Req 09: the first walk of the part is, in the whole's numbers, the first of the whole that stays in the group's programs
+  pub group-first : (walk : List Step) → Below (summaryGraph part .size) walk
+      → FirstWalk (summaryGraph part) walk ↔ FirstWalk (only (inGroup group whole) (summaryGraph whole)) (renumbered (inWhole group whole) walk)
+  unfolding summaryGraph
+  group-first = part-first group-part (regular (nodesOf whole))
+
+  -- and each first walk of the whole that stays there is one of these
+  pub first-in-group : (walk : List Step) → FirstWalk (only (inGroup group whole) (summaryGraph whole)) walk
+      → (inPart : List Step) × (renumbered (inWhole group whole) inPart ≡ walk) × FirstWalk (summaryGraph part) inPart
+  unfolding summaryGraph
+  first-in-group = first-back group-part (regular (nodesOf whole))
+
+  -- Req 06 on lines: robust in the whole gives robust in the part
+  pub group-robust : Robust whole → Robust part
+  group-robust = part-robust group-part
+
+-- Req 06: what the value of a part is: one that some text gives, with no more unfoldings and statements than are allowed, whose nodes are the chosen
+-- ones, in order, their programs renumbered; and robust where the whole is
+pub record RobustPart (group : ℕ) (w : Workload) : Type 0 where
+  pub given : Given (partOf group w)
+  pub few : tooMany (linesOf (partOf group w)) ≡ false
+  pub nodes : nodesOf (linesOf (partOf group w)) ≡ map (nodeInPart group) (keep (ofGroup group) (nodesOf (linesOf w)))
+  pub robust : Robust (linesOf w) → Robust (linesOf (partOf group w))
+
+-- Req 06: so it is for every value that some text gives with at most 64 unfoldings and 512 statements, and every choice of programs
+pub robust-part : (group : ℕ) {w : Workload} → Given w → tooMany (linesOf w) ≡ false → RobustPart group w
+robust-part group {w} g few =
+    let lines = part-lines group w in
+    record {
+      given = part-given group g;
+      few = ap tooMany lines ∙ Nodes.part-few group (linesOf w) (given-programs group g) few;
+      nodes = ap nodesOf lines ∙ group-nodes group g;
+      robust = λ r. subst Robust (sym lines) (group-robust group g r);
+    }
+
+-- demand 3 for a part: every schedule of some programs of a robust station has its serial order
+pub part-serial : (group : ℕ) {w : Workload} → Given w → Robust (linesOf w) → (s : Schedule (linesOf (partOf group w))) → Serialisable s
+part-serial group {w} g robust =
+    demand-3 (partOf group w) (part-given group g) (subst Robust (sym (part-lines group w)) (group-robust group g robust))
+
+-- a node of a smaller group is one of a larger
+group-wider : (g h : ℕ) (lines : List Line) → within g h ≡ true → (m : ℕ) → inGroup g lines m ≡ true → inGroup h lines m ≡ true
+group-wider g h lines inside m = go (getElem? (nodesOf lines) m)
+  where
+    go : (o : Option Node) → elim o [ none ↦ false | some n ↦ ofGroup g n ] ≡ true → elim o [ none ↦ false | some n ↦ ofGroup h n ] ≡ true
+    go none e = e
+    go (some n) e = within-has g h (n .program) inside e
+
+-- Req 07, Req 09: a smaller group of a robust group is robust
+pub fewer-robust : (g h : ℕ) {w : Workload} → Given w → within g h ≡ true → Robust (partLines h (linesOf w)) → Robust (partLines g (linesOf w))
+fewer-robust g h {w} given inside =
+    part-fewer (group-part h given) (group-part g given) (λ m below. group-wider g h (linesOf w) inside m)
+
+-- lines without a `pr` have no program
+no-programs : (lines : List Line) → any isProgram lines ≡ false → programsOf lines ≡ []
+unfolding programsOf
+no-programs [] h = refl
+no-programs (l ∷ lines) h =
+    let both = or-false (isProgram l) (any isProgram lines) h in
+    programs-later l lines (λ e. true-false (program-kind l e) (both .0)) ∙ no-programs lines (both .1)
+
+-- a graph without nodes has no dangerous walk, for such a walk has a step
+no-walk : DangerousWalk (graphOf []) → ⊥
+unfolding graphOf isDangerous
+no-walk ([], d) = false≢true d
+no-walk (s ∷ walk, d) = let below : s .node < 0 = walk-nodes (regular []) (s ∷ walk) d s (List·Memᴰ·head refl) in omega arith
+
+-- Req 06: the group of no program is robust, for its part has no node
+pub empty-robust : (group : ℕ) (lines : List Line) → ((k : ℕ) → k < count isProgram lines → has group k ≡ false) → Robust (partLines group lines)
+unfolding summaryGraph nodesOf nodesFrom
+empty-robust group lines nobody walk =
+    let programs : programsOf (partLines group lines) ≡ [] =
+    ap programsOf (part-none group lines nobody) ∙ no-programs (untilProgram lines) (until-none lines) in
+    no-walk (subst (λ (p : List Program). DangerousWalk (graphOf (nodesFrom 0 p))) programs walk)

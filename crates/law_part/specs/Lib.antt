@@ -1,0 +1,11 @@
+pub mod PartWalks
+pub mod KeptNodes
+pub mod PartEdges
+pub mod PartLines
+pub mod PartSound
+pub mod PartGiven
+pub mod PartPrograms
+pub mod PartNodes
+pub mod Groups
+pub mod Arms
+pub mod PartUses

@@ -1,0 +1,4 @@
+pub mod Group
+pub mod GroupExamples
+pub mod Arm
+pub mod ArmExamples
