@@ -90,7 +90,7 @@ whole() { # NAME PROGRAM...
     name="$1"
     shift
     ask --of "$name.txt" ""
-    for near in "a loop left open" "a relation in the cell after the last line" "more lines than cells"; do
+    for near in "a loop after the last line" "a relation in the cell after the last line" "more lines than cells"; do
         echo "$near: 21 same" >> "$made/parts/stdout"
     done
     last=$(((1 << $#) - 1))
@@ -122,7 +122,8 @@ whole auction fb pb
 ask --of station-empty.txt " refused 2"
 ask 0 auction-none.txt " refused 21"
 
-copies="inspect/args inspect/stdout inspect/data verdict/stdin verdict/stdout verdict_twice/stdin verdict_twice/stdout parts/args parts/stdout parts/data"
+copies="inspect/args inspect/stdout inspect/data verdict/stdin verdict/stdout verdict_twice/stdin verdict_twice/stdout"
+copies="$copies parts/args parts/stdout parts/data"
 for file in $copies; do
     if [ "$1" = --copy ]; then
         rm -rf "$root/crates/$file"

@@ -79,7 +79,7 @@ line-fits i k {full} {r} {w} {t} small word f =
 
 -- ---- a text of a relation and one program with the two statements
 
--- a line whose sets fit and which passes the other tests by itself has no fault
+-- a line that passes the five tests has no fault
 fault-free : (before : List Line) (l : Line) → withinBounds before l ≡ true → ordered before l ≡ true → named before l ≡ true
     → setsFit before l ≡ true → linkFits before l ≡ true → fault before l ≡ none
 fault-free before l a b c d e = passes-faultless before l (record { bounds = a; order = b; names = c; sets = d; link = e })

@@ -2,10 +2,10 @@
 -- `kind-listed`. So is a rule over all letters between all pairs of kinds.
 use mathlib.Core.Bool.{Bool, true, false, cond, not, _||_}
 use mathlib.Core.List.{List·Memᴰ}
-use mathlib.Core.Path.{_≡_, refl, sym}
+use mathlib.Core.Path.{_≡_, refl}
 use Rattle.spec_base.specs.Basic.{all}
 use Rattle.law_base.specs.ListLaws.{getElem?-member}
-use Rattle.law_base.specs.EveryValue.{every-value, value-implies, values-apart}
+use Rattle.law_base.specs.EveryValue.{every-value, value-implies, values-apart, values-agree}
 use Rattle.spec_text.specs.declared.StatementKind.{StatementKind}
 use Rattle.spec_text.specs.declared.StatementKind.the-variants.{Is, Ks, Ps, Ku, Pu, Kd, Pd, Kl}
 use Rattle.spec_graph.specs.Edge.{Letter}
@@ -37,12 +37,7 @@ kinds-apart = values-apart kinds kind-listed
 
 -- two tests that say the same of each listed kind say the same of every kind
 pub kinds-agree : (f g : StatementKind → Bool) → all (λ k. cond (f k) (g k) (not (g k))) kinds ≡ true → (k : StatementKind) → f k ≡ g k
-kinds-agree f g h k = same (f k) (g k) (every-kind (λ k. cond (f k) (g k) (not (g k))) h k)
-  where
-    same : (a b : Bool) → cond a b (not b) ≡ true → a ≡ b
-    same true b e = sym e
-    same false true e = e
-    same false false e = refl
+kinds-agree = values-agree kinds kind-listed
 
 -- a test that all pairs of listed kinds pass, every pair passes
 pub every-pair : (test : StatementKind → StatementKind → Bool) → all (λ k. all (test k) kinds) kinds ≡ true

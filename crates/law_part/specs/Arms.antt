@@ -23,11 +23,13 @@ use Rattle.spec_graph.specs.Unfolding.{nodesOf}
 use Rattle.spec_graph.specs.Unfolding.Execution.{end, step}
 use Rattle.spec_graph.specs.Unfolding.ItemExecution.{perform, turns, arm-one, arm-two}
 use Rattle.spec_graph.specs.Unfolding.Turns.{stop, turn}
+use Rattle.spec_graph.specs.Edge.{edgesOf}
 use Rattle.spec_graph.specs.Walk.{DangerousWalk}
 use Rattle.spec_report.specs.State.{summaryGraph, Robust}
 use Rattle.node_laws.specs.Sites.{Site, within, sites, itemSites, run-ranged, item-ranged, run-plain}
 use Rattle.spec_part.specs.Arm.{takes, itemTakes, turnsTake, Unfolding, nodeOf, unfoldingsFrom, Arm, takesArm, nodesWithout, graphWithout}
 use Rattle.law_part.specs.PartWalks.{PartOf, part-robust}
+use Rattle.law_part.specs.PartEdges.{renumberedEdge, kept-edges}
 use Rattle.law_part.specs.KeptNodes.{isKept, keptNumber, kept-part, kept-robust}
 use Rattle.law_part.specs.PartNodes.{unfoldings-nodes}
 
@@ -85,6 +87,15 @@ unfolding graphWithout nodesWithout summaryGraph nodesOf
 arm-part arms lines =
     rw (← unfoldings-nodes 0 (programsOf lines))
     (kept-part (avoids arms) nodeOf nodeOf (λ u. (refl, refl)) (unfoldingsFrom 0 (programsOf lines)))
+
+-- E5, E6: its edge records, renumbered, are those of the summary graph between these unfoldings, in the same order
+pub arm-edges : (arms : List Arm) (lines : List Line) → let all = unfoldingsFrom 0 (programsOf lines) in
+    map (renumberedEdge (keptNumber (avoids arms) all)) (edgesOf (nodesWithout arms lines))
+    ≡ keep (λ e. isKept (avoids arms) all (e .node) && isKept (avoids arms) all (e .into)) (edgesOf (nodesOf lines))
+unfolding nodesWithout nodesOf
+arm-edges arms lines =
+    rw (← unfoldings-nodes 0 (programsOf lines))
+    (kept-edges (avoids arms) nodeOf nodeOf (λ u. (refl, refl)) (unfoldingsFrom 0 (programsOf lines)))
 
 -- robust before, robust after
 pub arms-robust : (arms : List Arm) (lines : List Line) → Robust lines → DangerousWalk (graphWithout arms lines) → ⊥

@@ -6,6 +6,7 @@ pub mod PartSound
 pub mod PartGiven
 pub mod PartPrograms
 pub mod PartNodes
+pub mod PartsOfParts
 pub mod Groups
 pub mod Arms
 pub mod PartUses

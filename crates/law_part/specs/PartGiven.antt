@@ -87,9 +87,9 @@ joined-fewer group k (own ∷ programs) {n} {m} h = go (decide (has group k)) (�
         rw (chosen-no group k own programs e, joined-written m own programs) (omega (arith, rest n (omega arith)))
 
 -- a part has no more bytes than the whole
-part-fewer : (group : ℕ) (lines : List Line) → SoundLines [] lines → length (written (partLines group lines)) ≤ length (written lines)
+part-shorter : (group : ℕ) (lines : List Line) → SoundLines [] lines → length (written (partLines group lines)) ≤ length (written lines)
 unfolding written partLines namesLine
-part-fewer group lines s =
+part-shorter group lines s =
     omega (
       arith,
       ap (λ (l : List Line). length (linesWritten l)) (sound-parted [] lines s),
@@ -112,7 +112,7 @@ part-given group {w} g =
     let s = given-sound w g in
     let lines = partLines group (linesOf w) in
     let e = part-ending group [] (linesOf w) (s .lines, s .closed) in
-    value-given (written lines) (sound-read lines (e .0) (e .1) (omega (arith, part-fewer group (linesOf w) (s .lines), s .few)))
+    value-given (written lines) (sound-read lines (e .0) (e .1) (omega (arith, part-shorter group (linesOf w) (s .lines), s .few)))
 
 -- a group of all programs is the workload itself
 pub part-whole : (group : ℕ) {w : Workload} → Given w → ((k : ℕ) → k < count isProgram (linesOf w) → has group k ≡ true) → partOf group w ≡ w

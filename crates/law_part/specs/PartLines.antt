@@ -16,16 +16,14 @@ use Rattle.law_base.specs.BoolLaws.{decide, and-true, or-of, not-of-false}
 use Rattle.law_base.specs.ListLaws.{count-append}
 use Rattle.spec_text.specs.declared.Line.{Line}
 use Rattle.spec_text.specs.declared.LineKind.the-variants.{Pr}
-use Rattle.spec_text.specs.declared.Workload.{Workload}
 use Rattle.spec_text.specs.Text.{formsOf, lineWith}
 use Rattle.spec_text.specs.Reading.{sort, isProgram, named}
-use Rattle.spec_text.specs.Value.{Given, linesOf}
 use Rattle.spec_part.specs.Group.{chosenFrom, untilProgram, programLines, joinedFrom, partLines}
 use Rattle.law_text.specs.TextLaws.{fits, allFit, valuesIn, lineFits}
 use Rattle.law_text.specs.ReadingLaws.{fault-none}
 use Rattle.law_text.specs.ReaderStateLaws.{count-more, count-none}
 use Rattle.node_laws.specs.LineCases.{kind-program}
-use Rattle.value_laws.specs.Givens.{SoundLines, given-sound}
+use Rattle.value_laws.specs.Givens.{SoundLines}
 
 -- ---- lines parted at each `pr`
 
@@ -61,12 +59,12 @@ programs-counted (l ∷ lines) = go (decide (isProgram l)) (programs-counted lin
     go (inr e) h = rw (programs-go l lines e, e) (omega arith)
 
 -- a `pr` more is a program more
-pub program-counted : (before : List Line) (l : Line) → isProgram l ≡ true → count isProgram (before ++ (l ∷ [])) ≡ suc (count isProgram before)
-program-counted before l begins = count-more isProgram before l ∙ rw begins (omega arith)
+pub after-program : (before : List Line) (l : Line) → isProgram l ≡ true → count isProgram (before ++ (l ∷ [])) ≡ suc (count isProgram before)
+after-program before l begins = count-more isProgram before l ∙ rw begins (omega arith)
 
 -- any other line is none
-pub other-counted : (before : List Line) (l : Line) → isProgram l ≡ false → count isProgram (before ++ (l ∷ [])) ≡ count isProgram before
-other-counted before l other = count-more isProgram before l ∙ rw other (omega arith)
+pub after-other : (before : List Line) (l : Line) → isProgram l ≡ false → count isProgram (before ++ (l ∷ [])) ≡ count isProgram before
+after-other before l other = count-more isProgram before l ∙ rw other (omega arith)
 
 -- no line up to the next `pr` is one
 pub until-none : (lines : List Line) → any isProgram (untilProgram lines) ≡ false
@@ -218,14 +216,10 @@ sound-parted before (l ∷ lines) s = go (decide (isProgram l)) (sound-parted (b
         let number = program-number before l kind (fault-none before l (s .1) .names) in
         rw (until-ends l lines e, programs-begin l lines e)
         (ap₂ {C = List Line} _∷_ (program-line l n kind (s .0) number)
-        (h ∙ ap (λ m. untilProgram lines ++ joinedFrom m (programLines lines)) (program-counted before l e)))
+        (h ∙ ap (λ m. untilProgram lines ++ joinedFrom m (programLines lines)) (after-program before l e)))
     go (inr e) h =
         rw (until-goes l lines e, programs-go l lines e)
-        (ap {B = List Line} (λ s. l ∷ s) (h ∙ ap (λ m. untilProgram lines ++ joinedFrom m (programLines lines)) (other-counted before l e)))
-
--- T6, T7: the lines of a given value are its relations and keys and then its programs, numbered from 0
-pub lines-parted : {w : Workload} → Given w → linesOf w ≡ untilProgram (linesOf w) ++ joinedFrom 0 (programLines (linesOf w))
-lines-parted {w} g = sound-parted [] (linesOf w) (given-sound w g .lines)
+        (ap {B = List Line} (λ s. l ∷ s) (h ∙ ap (λ m. untilProgram lines ++ joinedFrom m (programLines lines)) (after-other before l e)))
 
 -- a group of all programs leaves the lines as they are
 pub lines-whole : (group : ℕ) (lines : List Line) → SoundLines [] lines → ((k : ℕ) → k < count isProgram lines → has group k ≡ true)

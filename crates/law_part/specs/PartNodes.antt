@@ -80,11 +80,11 @@ numbered-so number p u m =
     ap (λ (v : Unfolding). v .number) (sym (t .2))
 
 -- the chosen ones of the programs from place k on: a chosen program's unfoldings are all kept and get its number in the part, another's are left out
-chosen-from : (group k : ℕ) (programs : List Program)
+unfoldings-chosen : (group k : ℕ) (programs : List Program)
     → unfoldingsFrom (rank group k) (chosenFrom group k programs) ≡ map (inPart group) (keep (chosen group) (unfoldingsFrom k programs))
 unfolding unfoldingsFrom chosenFrom inPart
-chosen-from group k [] = refl
-chosen-from group k (p ∷ programs) = go (chosen-from group (suc k) programs) (has group k) refl
+unfoldings-chosen group k [] = refl
+unfoldings-chosen group k (p ∷ programs) = go (unfoldings-chosen group (suc k) programs) (has group k) refl
   where
     own : List Unfolding
     own = unfoldingsAs k p
@@ -119,7 +119,7 @@ chosen-from group k (p ∷ programs) = go (chosen-from group (suc k) programs) (
 pub chosen-unfoldings : (group : ℕ) (programs : List Program)
     → unfoldingsFrom 0 (chosenFrom group 0 programs) ≡ map (inPart group) (keep (λ u. has group (u .number)) (unfoldingsFrom 0 programs))
 unfolding rank
-chosen-unfoldings group programs = chosen-from group 0 programs
+chosen-unfoldings group programs = unfoldings-chosen group 0 programs
 
 -- ---- nodes
 

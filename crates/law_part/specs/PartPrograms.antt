@@ -396,7 +396,7 @@ chosen-map {A} {B} f group k (x ∷ l) = go (chosen-map f group (suc k) l) (has 
     go again false = again
 
 -- lines up to a `pr`, then lines that are empty or begin with a `pr`: the first are those up to a `pr`
-until-again : (lines after : List Line) → untilProgram after ≡ [] → untilProgram (untilProgram lines ++ after) ≡ untilProgram lines
+pub until-again : (lines after : List Line) → untilProgram after ≡ [] → untilProgram (untilProgram lines ++ after) ≡ untilProgram lines
 unfolding untilProgram
 until-again [] after e = e
 until-again (l ∷ lines) after e = go (until-again lines after e) (isProgram l) refl
@@ -420,7 +420,7 @@ lines-after (l ∷ lines) after = go (lines-after lines after) (isProgram l) ref
     go again false h = programs-go l (untilProgram lines ++ after) h ∙ again
 
 -- joined programs are empty or begin with a `pr`
-until-joined : (n : ℕ) (programs : List (List Line)) → untilProgram (joinedFrom n programs) ≡ []
+pub until-joined : (n : ℕ) (programs : List (List Line)) → untilProgram (joinedFrom n programs) ≡ []
 unfolding joinedFrom untilProgram lineWith
 until-joined n [] = refl
 until-joined n (own ∷ programs) = until-program (lineWith Pr (n ∷ [])) (own ++ joinedFrom (suc n) programs) refl

@@ -24,7 +24,7 @@ use Rattle.law_text.specs.LineCountLaws.{Bounded, bounded-true, program-begins,
 use Rattle.node_laws.specs.LineCases.{kind-program}
 use Rattle.value_laws.specs.Givens.{SoundLines}
 use Rattle.law_part.specs.PartLines.{until-ends, until-goes, programs-begin, programs-go, chosen-yes, chosen-no}
-use Rattle.law_part.specs.PartLines.{program-counted, other-counted, first-program}
+use Rattle.law_part.specs.PartLines.{after-program, after-other, first-program}
 
 -- ---- the bounds and the tests, from their facts
 
@@ -250,7 +250,7 @@ nextProgram part = lineWith Pr (count isProgram part ∷ [])
 
 -- with it there is one program more
 next-counted : (part : List Line) → count isProgram (part ++ (nextProgram part ∷ [])) ≡ suc (count isProgram part)
-next-counted part = program-counted part (nextProgram part) (first-program (count isProgram part))
+next-counted part = after-program part (nextProgram part) (first-program (count isProgram part))
 
 module _ {before part : List Line} (like : Like before part) (closed : noneOpen part ≡ true) (l : Line) (begins : isProgram l ≡ true)
     (bounds : Bounded (before ++ (l ∷ []))) where
@@ -371,7 +371,7 @@ end-inside group l lines inside outside before part k within e = go (decide (isP
     go (inr other) =
         rw (until-goes l lines other, programs-go l lines other)
         (ending-more part l _ (e .0 .0) (inside-passes within l other passes)
-        (rw (other-counted part l other) at
+        (rw (after-other part l other) at
         (inside (before ++ (l ∷ [])) (part ++ (l ∷ [])) k (inside-more within l other) (ending-less before l lines e))))
 
 -- a line of a program that it has not
@@ -417,4 +417,4 @@ part-ending group before (l ∷ lines) e = go (decide (isProgram l)) (part-endin
         (program-closed before l begins (passes .order)) e)
     go (inr other) rest =
         rw (until-goes l lines other, programs-go l lines other)
-        (ending-more before l _ (e .0 .0) passes (rw (other-counted before l other) at rest))
+        (ending-more before l _ (e .0 .0) passes (rw (after-other before l other) at rest))

@@ -1,9 +1,9 @@
--- A part of a graph on any choice of its nodes: its closed walks and its dangerous walks are exactly those of the whole that stay in the chosen
--- nodes, renumbered in order, and its first dangerous walk is the first of those. So part of a graph without dangerous walks has none.
+-- A part of a graph on any choice of its nodes: its walks, its closed walks and its dangerous walks are exactly those of the whole that stay in the
+-- chosen nodes, renumbered in order, and its first dangerous walk is the first of those. So part of a graph without dangerous walks has none.
 use mathlib.Core.Bool.{Bool, true, _&&_}
 use mathlib.Core.List.{List, [], _∷_, flatMap, List·Memᴰ}
 use mathlib.Core.List.List·Memᴰ.{List·Memᴰ·head, List·Memᴰ·tail}
-use mathlib.Core.Logic.{_↔_}
+use mathlib.Core.Logic.{_⊎_, inl, inr, _↔_}
 use mathlib.Core.Path.{_≡_, refl, sym, ap, ap₂, _∙_}
 use Prim.Native.Nat.{ℕ, _≤_, _<_}
 use native.Mathlib.Decide.{decLt}
@@ -11,13 +11,14 @@ use native.Mathlib.Omega.{arith}
 use lib.Dec.{eqb, ltb}
 use lib.ListN.{length-map}
 use borrow.Author.Tests.{ltb-true, lt-ltb, eqb-true, eq-eqb}
-use Rattle.spec_base.specs.Basic.{all, around}
+use Rattle.spec_base.specs.Basic.{all, pairsTo, around}
 use Rattle.law_base.specs.BoolLaws.{same-test, and-true}
-use Rattle.law_base.specs.ListLaws.{all-true, all-of, map-member}
+use Rattle.law_base.specs.ListLaws.{all-true, all-of, all-same, all-map, map-member, pairsTo-member, pairsTo-next}
 use Rattle.spec_graph.specs.Graph.{Flow, Graph}
 use Rattle.spec_graph.specs.Walk.{Step, isEdge, isDangerous, DangerousWalk, stepNumbers, smaller, comesBefore, FirstWalk}
 use Rattle.law_walk.specs.AllNodes.{walk-nodes}
 use Rattle.law_walk.specs.Before.{walkNumbers}
+use Rattle.law_walk.specs.ClosedWalks.{pairsTo-map}
 use Rattle.law_walk.specs.Parts.{renumber, renumbered, Embedding, Below, Stays, embedding-keeps, none-carried, only, only-walks}
 use Rattle.law_walk.specs.Parts.{steps-back, edges-same, edges-below, walk-same, walk-below, part-walks, walk-back, renumbered-apart}
 use Rattle.law_walk.specs.Reach.{Regular}
@@ -37,7 +38,11 @@ pub record PartOf (g h : Graph) (chosen : ℕ → Bool) (f : ℕ → ℕ) : Type
   -- and each of them
   pub chosenAll : (n : ℕ) → n < h .size → chosen n ≡ true → (m : ℕ) × (m < g .size) × (f m ≡ n)
 
--- a closed walk: each step is an edge into the node of the next, and the last into the node of the first
+-- a walk: each step is an edge into the node of the next, and the last into the node of `end`
+abbrev pub isWalk : Graph → Step → List Step → Bool
+isWalk g end walk = all (isEdge g) (pairsTo end walk)
+
+-- a closed walk: the last step is an edge into the node of the first
 abbrev pub isClosedWalk : Graph → List Step → Bool
 isClosedWalk g walk = all (isEdge g) (around walk)
 
@@ -90,6 +95,41 @@ module _ {g h : Graph} {chosen : ℕ → Bool} {f : ℕ → ℕ} (part : PartOf 
   -- so two walks of the part are two in the whole
   pub part-unique : (v w : List Step) → Below (g .size) v → Below (g .size) w → renumbered f v ≡ renumbered f w → v ≡ w
   part-unique v w bv bw e = renumbered-apart f (g .size) nodes-apart v w bv bw e
+
+  -- the walks of the part to a node of it are the walks on its nodes that are walks of the whole
+  pub part-walk : (end : Step) (walk : List Step) → end .node < g .size
+      → (isWalk g end walk ≡ true) ↔ (Below (g .size) walk × (isWalk h (renumber f end) (renumbered f walk) ≡ true))
+  unfolding isEdge renumber
+  part-walk end walk last = (λ w. let below = over w in (below, same below ∙ w), λ t. sym (same (t .0)) ∙ t .1)
+    where
+      over : isWalk g end walk ≡ true → Below (g .size) walk
+      over w s m =
+          let n = pairsTo-next end walk m in
+          part .embedded .inNodes (s .node) (s .leaves) (n .0 .node) (s .enters) (s .flow) (all-true (isEdge g) w (n .1)) .0
+
+      ends : Below (g .size) walk → {q : Step} → List·Memᴰ q walk ⊎ (q ≡ end) → q .node < g .size
+      ends below {q} (inl m) = below q m
+      ends below (inr e) = rw e last
+
+      same : Below (g .size) walk → isWalk h (renumber f end) (renumbered f walk) ≡ isWalk g end walk
+      same below =
+          ap (all (isEdge h)) (pairsTo-map (renumber f) end walk)
+          ∙ all-map (isEdge h) (λ q. (renumber f (q .0), renumber f (q .1))) (pairsTo end walk)
+          ∙ all-same _ (isEdge g) (pairsTo end walk)
+          (λ q m.
+          let b = pairsTo-member end walk m in
+          part .embedded .sameEdges (q .0 .node) (q .0 .leaves) (q .1 .node) (q .0 .enters) (q .0 .flow) (below (q .0) (b .0)) (ends below (b .1)))
+
+  -- and each walk of the whole that stays in the chosen nodes is one of them, renumbered
+  pub walk-in-part : (end : Step) (walk : List Step) → StaysIn h chosen (end ∷ walk) → isWalk h end walk ≡ true
+      → (last : Step) × (inPart : List Step) × (renumber f last ≡ end) × (renumbered f inPart ≡ walk) × (isWalk g last inPart ≡ true)
+  unfolding renumber
+  walk-in-part end walk inside w =
+      let k = stays (end ∷ walk) inside end (List·Memᴰ·head refl) in
+      let t = steps-back (g .size) f walk (stays walk (λ s m. inside s (List·Memᴰ·tail m))) in
+      let last : Step = record { node = k .0; leaves = end .leaves; enters = end .enters; flow = end .flow } in
+      let back : renumber f last ≡ end = ap (λ (n : ℕ). record { node = n; leaves = end .leaves; enters = end .enters; flow = end .flow }) (k .2) in
+      (last, t .0, back, t .1, part-walk last (t .0) (k .1) .1 (t .2, ap₂ (isWalk h) back (t .1) ∙ w))
 
   -- the closed walks of the part are the walks on its nodes that are closed in the whole
   pub part-closed : (walk : List Step)
@@ -210,6 +250,18 @@ module _ {g h : Graph} {chosen : ℕ → Bool} {f : ℕ → ℕ} (part : PartOf 
     first-back walk t =
         let b = only-back walk (t .dangerous) in
         (b .0, b .1, part-first (b .0) (walk-below (part .embedded) (b .0) (b .2)) .1 (rw (b .1) t))
+
+-- a choice that agrees on the nodes of the whole makes the same part
+pub part-agree : {g h : Graph} {chosen other : ℕ → Bool} {f : ℕ → ℕ} → PartOf g h chosen f → ((n : ℕ) → n < h .size → other n ≡ chosen n)
+    → PartOf g h other f
+part-agree {f = f} part agree =
+    record {
+      embedded = part .embedded;
+      samePlaces = part .samePlaces;
+      rising = part .rising;
+      chosenOnly = λ m h. let b = part .chosenOnly m h in (b .0, agree (f m) (b .0) ∙ b .1);
+      chosenAll = λ n h c. part .chosenAll n h (sym (agree n h) ∙ c);
+    }
 
 -- of two parts of one graph, where each node chosen for the second is chosen for the first, and the first has no dangerous walk, the second has none
 pub part-fewer : {g g′ h : Graph} {chosen chosen′ : ℕ → Bool} {f f′ : ℕ → ℕ} → PartOf g h chosen f → PartOf g′ h chosen′ f′

@@ -1,3 +1,4 @@
+pub mod EveryLineKind
 pub mod TextLaws
 pub mod Written
 pub mod WrittenLaws

@@ -14,10 +14,9 @@ use Rattle.law_base.specs.BoolLaws.{and-true, and-of}
 use Rattle.law_base.specs.ListLaws.{some-injective}
 use Rattle.spec_text.specs.declared.Line.{Line}
 use Rattle.spec_text.specs.declared.LineKind.{LineKind}
-use Rattle.spec_text.specs.declared.LineKind.the-variants.{Rl, Fk, Pr, St, Lo, Br, El, En, Li}
-use Rattle.spec_text.specs.declared.StatementKind.the-variants.{Is, Ks, Ps, Ku, Pu, Kd, Pd, Kl}
 use Rattle.spec_text.specs.Text.{dash, isDecimal, isHexadecimal, same, fieldsIn, digitsForm, digitValue, valueAfter, numberOf, setOf}
-use Rattle.spec_text.specs.Text.{dashOf, wordOf, kindOf, Form, formsOf, fieldOf, valuesOf, lineWith, lineOf}
+use Rattle.law_text.specs.EveryLineKind.{every-line-kind}
+use Rattle.spec_text.specs.Text.{dashOf, wordOf, kinds, kindOf, Form, formsOf, fieldOf, valuesOf, lineWith, lineOf}
 use Rattle.spec_text.specs.Text.Form.{number, set, nothing}
 
 -- a value fits the form of its field
@@ -164,23 +163,8 @@ fit-length (form ∷ forms) (n ∷ values) h = ap suc (fit-length forms values (
 
 -- T1: each kind has six forms
 pub forms-six : (k : LineKind) → length (formsOf k) ≡ 6
-unfolding formsOf
-forms-six Rl = refl
-forms-six Fk = refl
-forms-six Pr = refl
-forms-six (St Is) = refl
-forms-six (St Ks) = refl
-forms-six (St Ps) = refl
-forms-six (St Ku) = refl
-forms-six (St Pu) = refl
-forms-six (St Kd) = refl
-forms-six (St Pd) = refl
-forms-six (St Kl) = refl
-forms-six Lo = refl
-forms-six Br = refl
-forms-six El = refl
-forms-six En = refl
-forms-six Li = refl
+unfolding formsOf kinds
+forms-six k = eqb-true (length (formsOf k)) 6 (every-line-kind (λ k. eqb (length (formsOf k)) 6) refl k)
 
 -- the values of a line that is made of six values are those
 pub six-values : (k : LineKind) (values : List ℕ) → length values ≡ 6 → valuesIn (lineWith k values) ≡ values
@@ -249,20 +233,5 @@ line-fits bytes {l} h = let v = value-line bytes l h in values-fit (formsOf (l .
 
 -- each kind has a word of two bytes
 pub word-two : (k : LineKind) → length (wordOf k) ≡ 2
-unfolding wordOf
-word-two Rl = refl
-word-two Fk = refl
-word-two Pr = refl
-word-two (St Is) = refl
-word-two (St Ks) = refl
-word-two (St Ps) = refl
-word-two (St Ku) = refl
-word-two (St Pu) = refl
-word-two (St Kd) = refl
-word-two (St Pd) = refl
-word-two (St Kl) = refl
-word-two Lo = refl
-word-two Br = refl
-word-two El = refl
-word-two En = refl
-word-two Li = refl
+unfolding wordOf kinds
+word-two k = eqb-true (length (wordOf k)) 2 (every-line-kind (λ k. eqb (length (wordOf k)) 2) refl k)

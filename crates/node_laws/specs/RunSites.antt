@@ -1,5 +1,4 @@
 -- The run that is read off a program's lines has the sites of the lines.
-use mathlib.Core.Bool as B
 use mathlib.Core.List.{List, [], _∷_, _++_, map, tail, reverseAux, append-assoc, append-nil, map-append}
 use mathlib.Core.Path.{_≡_, refl, sym, ap, ap₂, subst, _∙_}
 use Prim.Native.Nat.{ℕ, zero, suc, _+_, _≤_}

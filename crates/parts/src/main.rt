@@ -121,20 +121,23 @@ fn with_line(w: Workload, at: usize, kind: LineKind, reads: u64, count: usize) -
     v
 }
 
+// Where a cell is left, a loop that nothing closes and a relation that is not counted stand in it; and one line more than there are cells.
 fn show_all_near(w: Workload) {
     let n = w.count;
-    print(b"a loop left open");
-    show_near(with_line(w, n, LineKind::Lo, 0, n % CELLS + 1));
-    print(b"a relation in the cell after the last line");
-    show_near(with_line(w, n, LineKind::Rl, 3, n));
+    if n < CELLS {
+        print(b"a loop after the last line");
+        show_near(with_line(w, n, LineKind::Lo, 0, n + 1));
+        print(b"a relation in the cell after the last line");
+        show_near(with_line(w, n, LineKind::Rl, 3, n));
+    }
     print(b"more lines than cells");
     show_near(with_line(w, CELLS, LineKind::Rl, 3, CELLS + 1));
 }
 
 // ---- from the arguments to what is printed
 
-// What a file's text is read into. A text that fills the area is over the bound, whatever follows; a file that cannot be read is named on standard
-// error and read as no bytes.
+// What a file's text is read into. A text that fills the area is over the bound, whatever follows; a file that cannot be opened is named on
+// standard error and read as no bytes.
 fn read_file(path: &[u8]) -> Parsed {
     let file = os::open_read(path);
     if file < 0 {
@@ -216,7 +219,11 @@ fn take_arguments(whole: Workload, first: usize, second: usize) -> Workload {
 
 // Before the first whole there is none: a value that no text gives.
 fn main() {
-    let pairs = os::arg_count() / 2;
+    let count = os::arg_count();
+    if count == 0 {
+        return;
+    }
+    let pairs = (count - 1) / 2;
     let mut whole = value_unused::unused_cells(CELLS + 1);
     let mut k: usize = 0;
     while k < pairs {

@@ -11,12 +11,11 @@ use Rattle.spec_base.specs.Basic.{all}
 use Rattle.law_base.specs.BoolLaws.{and-of, or-left, or-right}
 use Rattle.law_base.specs.ListLaws.{all-append}
 use Rattle.spec_text.specs.declared.LineKind.{LineKind}
-use Rattle.spec_text.specs.declared.LineKind.the-variants.{Rl, Fk, Pr, St, Lo, Br, El, En, Li}
-use Rattle.spec_text.specs.declared.StatementKind.the-variants.{Is, Ks, Ps, Ku, Pu, Kd, Pd, Kl}
-use Rattle.spec_text.specs.Text.{Form, newline, space, dash, isDecimal, isLetter, wordOf}
+use Rattle.spec_text.specs.Text.{Form, newline, space, dash, isDecimal, isLetter, wordOf, kinds}
 use Rattle.spec_text.specs.Text.Form.{number, set, nothing}
 use Rattle.spec_text.specs.Reading.{isAllowed}
 use Rattle.spec_text.specs.Text.{digit, digitsOf}
+use Rattle.law_text.specs.EveryLineKind.{every-line-kind}
 use Rattle.law_text.specs.Written.{fieldWritten, fieldsWritten}
 
 -- a byte that may stand inside a line
@@ -72,20 +71,5 @@ fields-printable (form ∷ forms) (n ∷ values) =
     all-both printable (fieldWritten form n) (fieldsWritten forms values) (field-printable form n) (fields-printable forms values)
 
 pub word-printable : (k : LineKind) → all printable (wordOf k) ≡ true
-unfolding wordOf printable isAllowed
-word-printable Rl = refl
-word-printable Fk = refl
-word-printable Pr = refl
-word-printable (St Is) = refl
-word-printable (St Ks) = refl
-word-printable (St Ps) = refl
-word-printable (St Ku) = refl
-word-printable (St Pu) = refl
-word-printable (St Kd) = refl
-word-printable (St Pd) = refl
-word-printable (St Kl) = refl
-word-printable Lo = refl
-word-printable Br = refl
-word-printable El = refl
-word-printable En = refl
-word-printable Li = refl
+unfolding wordOf kinds printable isAllowed
+word-printable = every-line-kind (λ k. all printable (wordOf k)) refl

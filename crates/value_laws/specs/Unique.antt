@@ -15,12 +15,11 @@ use Rattle.law_base.specs.ListLaws.{all-append, all-of, all-true}
 use Rattle.law_base.specs.BoolLaws.{and-true, and-of, or-left, or-right, not-true, not-of-false}
 use Rattle.spec_text.specs.declared.Line.{Line}
 use Rattle.spec_text.specs.declared.LineKind.{LineKind}
-use Rattle.spec_text.specs.declared.LineKind.the-variants.{Rl, Fk, Pr, St, Lo, Br, El, En, Li}
-use Rattle.spec_text.specs.declared.StatementKind.the-variants.{Is, Ks, Ps, Ku, Pu, Kd, Pd, Kl}
-use Rattle.spec_text.specs.Text.{same, onFirst, fieldsIn, Form, formsOf, fieldOf, valuesOf, wordOf, kindOf, lineWith, lineOf}
+use Rattle.spec_text.specs.Text.{same, onFirst, fieldsIn, Form, formsOf, fieldOf, valuesOf, wordOf, kindOf, lineWith, lineOf, kinds}
 use Rattle.spec_text.specs.Text.Form.{number, set, nothing}
 use Rattle.spec_text.specs.Text.{space, dash, newline, isDecimal, isHexadecimal, digitsForm, digitValue, valueAfter, numberOf, setOf, dashOf}
 use Rattle.spec_text.specs.Text.{digit, digitsOf}
+use Rattle.law_text.specs.EveryLineKind.{every-line-kind}
 use Rattle.law_text.specs.Written.{fieldWritten, fieldsWritten, lineWritten}
 use Rattle.law_text.specs.TextLaws.{digit-below, same-equal, forms-six, six-values, fits, allFit, valuesIn, lineFits}
 use Rattle.text_number.specs.DigitLaws.{Digit, digit-view}
@@ -434,24 +433,10 @@ values-read (form ∷ forms) (n ∷ values) e =
       and-of (field-no-space form n (tested .0)) (others .1),
     )
 
+-- no word of a kind has a space
 word-no-space : (k : LineKind) → all notSpace (wordOf k) ≡ true
-unfolding wordOf
-word-no-space Rl = refl
-word-no-space Fk = refl
-word-no-space Pr = refl
-word-no-space (St Is) = refl
-word-no-space (St Ks) = refl
-word-no-space (St Ps) = refl
-word-no-space (St Ku) = refl
-word-no-space (St Pu) = refl
-word-no-space (St Kd) = refl
-word-no-space (St Pd) = refl
-word-no-space (St Kl) = refl
-word-no-space Lo = refl
-word-no-space Br = refl
-word-no-space El = refl
-word-no-space En = refl
-word-no-space Li = refl
+unfolding wordOf kinds
+word-no-space = every-line-kind (λ k. all notSpace (wordOf k)) refl
 
 -- a line whose values fit is read from its text
 pub line-read : (l : Line) → lineFits l ≡ true → lineOf (lineText l) ≡ some l

@@ -13,13 +13,13 @@ use Rattle.spec_base.specs.Basic.{count, has}
 use Rattle.law_base.specs.BoolLaws.{decide}
 use Rattle.spec_text.specs.declared.Line.{Line}
 use Rattle.spec_text.specs.declared.LineKind.{LineKind}
-use Rattle.spec_text.specs.declared.LineKind.the-variants.{Rl, Fk, Pr, St, Lo, Br, El, En, Li}
-use Rattle.spec_text.specs.declared.StatementKind.the-variants.{Is, Ks, Ps, Ku, Pu, Kd, Pd, Kl}
+use Rattle.spec_text.specs.declared.LineKind.the-variants.{Pr}
 use Rattle.spec_text.specs.declared.Workload.{Workload}
-use Rattle.spec_text.specs.Text.{lineWith}
+use Rattle.spec_text.specs.Text.{lineWith, kinds}
 use Rattle.spec_text.specs.Reading.{sort, isProgram, withinBounds}
 use Rattle.spec_text.specs.Value.{linesOf, valueOf, Given}
 use Rattle.law_text.specs.ReadingLaws.{fault-none, Taken, read-taken}
+use Rattle.law_text.specs.EveryLineKind.{line-kinds-agree}
 use Rattle.law_text.specs.LineCountLaws.{bounded-true}
 use Rattle.law_text.specs.ValueLaws.{appended-value, given-read, given-fits, given-cells}
 use Rattle.spec_part.specs.Group.{chosenFrom, untilProgram, programLines, joinedFrom, partLines, partOf}
@@ -29,27 +29,12 @@ use Rattle.value_part.specs.declared.Gone.{Gone}
 use Rattle.value_part.specs.declared.Part.{Part}
 use Rattle.value_part.specs.Parted.{Parted}
 use Rattle.value_part.specs.Parted.Parted.{refused, part}
-use Rattle.value_part.specs.PartSteps.{numberedAs, goneOn, keptFrom, Going}
+use Rattle.value_part.specs.PartSteps.{numberedAs, goneOn, keptLines, Going}
 
 -- of all kinds `pr` alone has an id and nothing else
 pub only-id : (k : LineKind) → eqb (lineFacts k) hasId ≡ eqb (sort k) 2
-unfolding sort
-only-id Rl = refl
-only-id Fk = refl
-only-id Pr = refl
-only-id (St Is) = refl
-only-id (St Ks) = refl
-only-id (St Ps) = refl
-only-id (St Ku) = refl
-only-id (St Pu) = refl
-only-id (St Kd) = refl
-only-id (St Pd) = refl
-only-id (St Kl) = refl
-only-id Lo = refl
-only-id Br = refl
-only-id El = refl
-only-id En = refl
-only-id Li = refl
+unfolding sort kinds
+only-id = line-kinds-agree (λ k. eqb (lineFacts k) hasId) (λ k. eqb (sort k) 2) refl
 
 -- ---- one line further
 
@@ -88,23 +73,23 @@ on-passed group at l h = go (isProgram l) (has group (at .passed))
 
 -- what is kept from a line on: a line that is no `pr` with those before it, a `pr` if its program is chosen
 kept-own : (group : ℕ) (at : Gone) (l : Line) (lines : List Line) → isProgram l ≡ false
-    → keptFrom group at (l ∷ lines) ≡ cond (at .keeping) (l ∷ keptFrom group at lines) (keptFrom group at lines)
-unfolding keptFrom numberedAs
+    → keptLines group at (l ∷ lines) ≡ cond (at .keeping) (l ∷ keptLines group at lines) (keptLines group at lines)
+unfolding keptLines numberedAs
 kept-own group at l lines other = rw (on-own group at l other, other)
 
 kept-chosen : (group : ℕ) (at : Gone) (l : Line) (lines : List Line) → isProgram l ≡ true → has group (at .passed) ≡ true
-    → keptFrom group at (l ∷ lines)
-    ≡ lineWith Pr (at .chosen ∷ []) ∷ keptFrom group (record { passed = at .passed + 1; chosen = at .chosen + 1; keeping = true }) lines
-unfolding keptFrom numberedAs
+    → keptLines group at (l ∷ lines)
+    ≡ lineWith Pr (at .chosen ∷ []) ∷ keptLines group (record { passed = at .passed + 1; chosen = at .chosen + 1; keeping = true }) lines
+unfolding keptLines numberedAs
 kept-chosen group at l lines begins is-in = rw (on-chosen group at l begins is-in, begins)
 
 kept-other : (group : ℕ) (at : Gone) (l : Line) (lines : List Line) → isProgram l ≡ true → has group (at .passed) ≡ false
-    → keptFrom group at (l ∷ lines) ≡ keptFrom group (record { passed = at .passed + 1; chosen = at .chosen; keeping = false }) lines
-unfolding keptFrom
+    → keptLines group at (l ∷ lines) ≡ keptLines group (record { passed = at .passed + 1; chosen = at .chosen; keeping = false }) lines
+unfolding keptLines
 kept-other group at l lines begins is-out = rw (on-other group at l begins is-out)
 
-kept-none : (group : ℕ) (at : Gone) → keptFrom group at [] ≡ []
-unfolding keptFrom
+kept-none : (group : ℕ) (at : Gone) → keptLines group at [] ≡ []
+unfolding keptLines
 kept-none group at = refl
 
 -- nothing, kept or not
@@ -113,13 +98,13 @@ nothing true r = refl
 nothing false r = refl
 
 -- the lines at hand up to the next `pr`, if they are kept, then the chosen ones of the programs that follow
-kept-part : (group : ℕ) (at : Gone) (lines : List Line)
-    → keptFrom group at lines
+kept-chosen-lines : (group : ℕ) (at : Gone) (lines : List Line)
+    → keptLines group at lines
     ≡ cond (at .keeping) (untilProgram lines) [] ++ joinedFrom (at .chosen) (chosenFrom group (at .passed) (programLines lines))
 unfolding untilProgram programLines chosenFrom joinedFrom
-kept-part group at [] = kept-none group at ∙ sym (nothing (at .keeping) [])
-kept-part group at (l ∷ lines) =
-    go (decide (isProgram l)) (decide (has group (at .passed))) (λ next. kept-part group next lines)
+kept-chosen-lines group at [] = kept-none group at ∙ sym (nothing (at .keeping) [])
+kept-chosen-lines group at (l ∷ lines) =
+    go (decide (isProgram l)) (decide (has group (at .passed))) (λ next. kept-chosen-lines group next lines)
   where
     own : (b : Bool) (until others : List Line) {kept : List Line} → kept ≡ cond b until [] ++ others
         → cond b (l ∷ kept) kept ≡ cond b (l ∷ until) [] ++ others
@@ -127,9 +112,9 @@ kept-part group at (l ∷ lines) =
     own false until others e = e
 
     go : (isProgram l ≡ true) ⊎ (isProgram l ≡ false) → (has group (at .passed) ≡ true) ⊎ (has group (at .passed) ≡ false)
-        → ((next : Gone) → keptFrom group next lines
+        → ((next : Gone) → keptLines group next lines
         ≡ cond (next .keeping) (untilProgram lines) [] ++ joinedFrom (next .chosen) (chosenFrom group (next .passed) (programLines lines)))
-        → keptFrom group at (l ∷ lines)
+        → keptLines group at (l ∷ lines)
         ≡ cond (at .keeping) (untilProgram (l ∷ lines)) []
         ++ joinedFrom (at .chosen) (chosenFrom group (at .passed) (programLines (l ∷ lines)))
     go (inl begins) (inl is-in) rest =
@@ -174,7 +159,7 @@ module _ {group : ℕ} {w : Workload} (g : Given w) where
         place = omega arith;
         programs = omega (arith, taken-programs [] (linesOf w) (omega arith) (read-taken (g .text) (linesOf w) (given-read g)));
         chosen = omega arith;
-        whole = kept-part group (record { passed = 0; chosen = 0; keeping = true }) (linesOf w);
+        whole = kept-chosen-lines group (record { passed = 0; chosen = 0; keeping = true }) (linesOf w);
       }
 
   module _ {part : Workload} {at : Gone} {i : ℕ} (s : Going group w part at i) where
@@ -189,11 +174,11 @@ module _ {group : ℕ} {w : Workload} (g : Given w) where
 
     -- past the last line the part is the group's
     pub going-end : w .count ≤ i → part ≡ partOf group w
-    unfolding partOf keptFrom
+    unfolding partOf keptLines
     going-end h =
         let past : length (linesOf w) ≤ i = omega (arith, given-many g) in
         let none : drop i (linesOf w) ≡ [] = drop-of-length-le (linesOf w) past in
-        s .work ∙ ap valueOf (sym (append-nil (s .before)) ∙ ap (λ rest. s .before ++ keptFrom group at rest) (sym none) ∙ s .whole)
+        s .work ∙ ap valueOf (sym (append-nil (s .before)) ∙ ap (λ rest. s .before ++ keptLines group at rest) (sym none) ∙ s .whole)
 
     -- one line further
     module _ {next : Gone} (h : i < w .count) (d : Line) (e : next ≡ goneOn group at (getD (w .lines) i d)) where
@@ -205,10 +190,10 @@ module _ {group : ℕ} {w : Workload} (g : Given w) where
 
       on-whole : (b : Bool) → next .keeping ≡ b
           → s .before
-          ++ cond b (numberedAs (at .chosen) (getD (w .lines) i d) ∷ keptFrom group next (drop (i + 1) (linesOf w)))
-          (keptFrom group next (drop (i + 1) (linesOf w)))
+          ++ cond b (numberedAs (at .chosen) (getD (w .lines) i d) ∷ keptLines group next (drop (i + 1) (linesOf w)))
+          (keptLines group next (drop (i + 1) (linesOf w)))
           ≡ partLines group (linesOf w)
-      unfolding keptFrom
+      unfolding keptLines
       on-whole b k = sym (rw (lines-at g i d h, ← e, k)) ∙ s .whole
 
       -- past a line that is not kept

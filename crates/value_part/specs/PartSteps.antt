@@ -28,11 +28,11 @@ goneOn group at l =
     at
 
 -- the lines that are kept from here on, each `pr` with its number in the part
-unfoldable pub keptFrom : ℕ → Gone → List Line → List Line
-keptFrom group at [] = []
-keptFrom group at (l ∷ lines) =
+unfoldable pub keptLines : ℕ → Gone → List Line → List Line
+keptLines group at [] = []
+keptLines group at (l ∷ lines) =
     let next = goneOn group at l in
-    cond (next .keeping) (numberedAs (at .chosen) l ∷ keptFrom group next lines) (keptFrom group next lines)
+    cond (next .keeping) (numberedAs (at .chosen) l ∷ keptLines group next lines) (keptLines group next lines)
 
 -- between two lines: the part so far holds these lines, and those kept from here on make it the part's; no more than 16 programs are passed
 pub record Going (group : ℕ) (w part : Workload) (at : Gone) (i : ℕ) : Type 0 where
@@ -42,4 +42,4 @@ pub record Going (group : ℕ) (w part : Workload) (at : Gone) (i : ℕ) : Type 
   pub place : i ≤ w .count
   pub programs : at .passed + count isProgram (drop i (linesOf w)) ≤ 16
   pub chosen : at .chosen ≤ at .passed
-  pub whole : before ++ keptFrom group at (drop i (linesOf w)) ≡ partLines group (linesOf w)
+  pub whole : before ++ keptLines group at (drop i (linesOf w)) ≡ partLines group (linesOf w)

@@ -5,10 +5,10 @@ use Rattle.parts.proofs.main.Statement.{statement}
 use Rattle.parts.proofs.main.Tie as tie
 
 abbrev Inv-loop : tie.InvT-loop
-Inv-loop pairs whole₀ k₀ whole k = k ≤ pairs
+Inv-loop count pairs whole₀ k₀ whole k = k ≤ pairs
 
 abbrev μ-loop : tie.MeasureT-loop
-μ-loop pairs whole₀ k₀ whole k = pairs - k
+μ-loop count pairs whole₀ k₀ whole k = pairs - k
 
 pub main-spec : {M : Type 1} → statement M
 main-spec =
@@ -17,6 +17,8 @@ main-spec =
     Inv-loop
     μ-loop
     (λ c κs. search needs)
+    (λ c. search needs)
+    (λ c. search needs)
     (λ c. search needs)
     (λ c κs. search needs)
     (λ c. search needs)
