@@ -5,6 +5,7 @@
 #   crates/inspect/{data,args,stdout}     copies of examples/ and vectors/verdict under --report; for --areas what `outside areas` says
 #   crates/verdict/{stdin,stdout}         an example that is robust
 #   crates/verdict_twice/{stdin,stdout}   an example with danger; its report is followed by that of an empty text
+#   crates/explain/{stdin,stdout}         the worked example, with danger; what should be printed of it is what `outside facts` says
 #   crates/parts/{data,args,stdout}       copies of examples/: all groups of the programs of SmallBank and of Auction, each with the text that is
 #                                         named by these programs; then some pairs that do not agree. What it should print is said here
 # VECTORS is a folder that spread-vectors.sh made, with vectors added to it or changed. No output of the proved program goes in here.
@@ -36,11 +37,12 @@ vectors="${2:-$here/target/vectors}"
 [ -n "${2:-}" ] || "$here/spread-vectors.sh" "$root/crates/inspect" "$vectors"
 robust=contact-robust
 danger=station-predicate-twice
+worked=contact
 empty=station-empty
 areas="base linked unlinked loop predicate-twice names-alone 65-unfoldings empty"
 
 rm -rf "$made"
-mkdir -p "$made/inspect/data" "$made/verdict" "$made/verdict_twice" "$made/parts/data"
+mkdir -p "$made/inspect/data" "$made/verdict" "$made/verdict_twice" "$made/explain" "$made/parts/data"
 : > "$made/inspect/args"
 : > "$made/inspect/stdout"
 : > "$made/parts/args"
@@ -77,6 +79,8 @@ cp "$root/examples/$robust.txt" "$made/verdict/stdin"
 cp "$root/examples/$robust.out" "$made/verdict/stdout"
 cp "$root/examples/$danger.txt" "$made/verdict_twice/stdin"
 cat "$root/examples/$danger.out" "$root/examples/$empty.out" > "$made/verdict_twice/stdout"
+cp "$root/examples/$worked.txt" "$made/explain/stdin"
+"$here/target/outside" facts < "$root/examples/$worked.txt" > "$made/explain/stdout"
 
 # the next two words that parts is run on, the second the name of an example, and what it should say of them
 ask() { # WORD EXAMPLE ANSWER
@@ -123,7 +127,7 @@ ask --of station-empty.txt " refused 2"
 ask 0 auction-none.txt " refused 21"
 
 copies="inspect/args inspect/stdout inspect/data verdict/stdin verdict/stdout verdict_twice/stdin verdict_twice/stdout"
-copies="$copies parts/args parts/stdout parts/data"
+copies="$copies explain/stdin explain/stdout parts/args parts/stdout parts/data"
 for file in $copies; do
     if [ "$1" = --copy ]; then
         rm -rf "$root/crates/$file"

@@ -1,6 +1,7 @@
 #!/bin/sh
-# judge-test.sh: tries ../judge in a copy of the repository's skeleton with a stand-in for rt that "builds" a program which prints the word that
-# crates/verdict/src/main.rt holds. No proof is made; some ten seconds. Ends with status 1 where something is not as judge's header says.
+# judge-test.sh: tries ../judge in a copy of the repository's skeleton with a stand-in for rt that "builds" programs which do what
+# crates/verdict/src/main.rt and crates/explain/src/main.rt hold. No proof is made; some ten seconds. Ends with status 1 where something is not as
+# judge's header says.
 set -u
 here=$(CDPATH='' cd -- "$(dirname -- "$0")" && pwd -P)
 room=$(mktemp -d)
@@ -9,9 +10,10 @@ repo="$room/a repository"
 bin=$room/bin
 failed=0
 tried=0
-mkdir -p "$repo/crates/verdict/src" "$repo/crates/spec_base/src" "$bin" "$room/elsewhere"
+mkdir -p "$repo/crates/verdict/src" "$repo/crates/explain/src" "$repo/crates/spec_base/src" "$repo/show" "$bin" "$room/elsewhere"
 cp "$here/../judge" "$repo/judge"
-printf '# a comment\nspec_base:\nverdict: spec_base libc\nother: spec_base\n' >"$repo/crates.txt"
+cp "$here/../show/explain.awk" "$here/../show/picture.awk" "$repo/show"
+printf '# a comment\nspec_base:\nverdict: spec_base libc\nexplain: spec_base\nother: spec_base\n' >"$repo/crates.txt"
 echo "// spec_base" >"$repo/crates/spec_base/src/lib.rt"
 printf 'a text\n' >"$room/text"
 source=$repo/crates/verdict/src/main.rt
@@ -23,23 +25,24 @@ cat >"$bin/rt" <<EOF
 room='$room'
 case \$1 in
 version) cat "\$room/kit"; exit ;;
-check) [ "\$2" = verdict ] || exit 2 ;;
+check) program=\$2 ;;
 *) exit 2 ;;
 esac
+[ "\$program" = verdict ] || [ "\$program" = explain ] || exit 2
 mkdir "\$room/building" 2>/dev/null || echo overlap >>"\$room/faults"
 echo built >>"\$room/calls"
 : >"\$room/began"
 echo "fn spec_base::f: proved"
 echo "rt: spec_base proved (unchanged since it was last proved)"
 sleep "\$(cat "\$room/slow")"
-word=\$(cat crates/verdict/src/main.rt)
+word=\$(cat "crates/\$program/src/main.rt")
 rmdir "\$room/building"
-[ "\$word" != broken ] || { echo "rt: verdict NOT PROVED (exit 1, 0 s)"; echo "rt: FAILED: verdict"; exit 1; }
+[ "\$word" != broken ] || { echo "rt: \$program NOT PROVED (exit 1, 0 s)"; echo "rt: FAILED: \$program"; exit 1; }
 echo "a line of the prover"
-echo "rt: verdict proved (1 s)"
+echo "rt: \$program proved (1 s)"
 mkdir -p target/bin target/stamp
-{ echo '#!/bin/sh'; echo "cat >/dev/null"; echo "\$word"; } >target/bin/verdict
-chmod +x target/bin/verdict
+{ echo '#!/bin/sh'; echo "cat >/dev/null"; echo "\$word"; } >"target/bin/\$program"
+chmod +x "target/bin/\$program"
 EOF
 chmod +x "$bin/rt"
 echo "kit 1" >"$room/kit"
@@ -74,11 +77,20 @@ says() { # WHAT PATTERN
     sed 's/^/    /' "$room/err"
 }
 
+# the program explain lists these facts
+facts() { printf 'printf "%s"\n' "$1" >"$repo/crates/explain/src/main.rt"; }
+
 word robust
+facts 'verdict robust 0 0 0 0\nend\n'
 
 # the file is looked at first; usage
 run "$repo/judge"; want "no argument" 2 '' 0
 run "$repo/judge" "$room/text" "$room/text"; want "two arguments" 2 '' 0
+run "$repo/judge" --explain; want "--explain of nothing" 2 '' 0
+run "$repo/judge" --picture "$room/text" "$room/text"; want "--picture of two" 2 '' 0
+run "$repo/judge" --explain "$room/none"; want "--explain of no such file" 1 '' 0
+run "$repo/judge" --help; tried=$((tried + 1))
+{ [ "$status" = 0 ] && grep -q -- '--explain FILE' "$room/out" && [ "$(calls)" = 0 ]; } || { failed=1; echo "--help: status $status"; }
 run "$repo/judge" "$room/none"; want "no such file" 1 '' 0
 run "$repo/judge" "$room"; want "a folder" 1 '' 0
 [ -r /etc/shadow ] || { run "$repo/judge" /etc/shadow; want "unreadable" 1 '' 0; }
@@ -198,6 +210,41 @@ mkdir "$room/few"
 for tool in sh dirname readlink find sort sha256sum cut env flock sed awk cat; do ln -s "$(command -v $tool)" "$room/few/$tool"; done
 run env PATH="$room/few" "$repo/judge" text; want "without rt" 1 '' 15
 says "without rt" "rt is not on the path"
+
+# explanations and pictures: of the facts that the program lists, whole ones alone
+first() { sed -n 1p "$room/out"; }
+told() { # WHAT STATUS FIRST-LINE CALLS
+    tried=$((tried + 1))
+    [ "$status" = "$2" ] && [ "$(first)" = "$3" ] && [ "$(calls)" = "$4" ] && return
+    failed=1
+    echo "$1: wanted status $2, first line '$3', $4 builds; got status $status, '$(first)', $(calls) builds"
+    sed 's/^/    /' "$room/err"
+}
+run "$repo/judge" --explain text; told "an explanation" 0 robust 16
+says "the crates of explain" "explain, 2 of 2"
+run "$repo/judge" --explain text; told "an explanation again" 0 robust 16
+run "$repo/judge" --picture text; told "a picture" 0 "digraph workload {" 16
+cp text "a=b"
+run "$repo/judge" --explain a=b; told "a name with an equals sign" 0 robust 16
+cd "$room/elsewhere" || exit 1
+run "$repo/judge" --explain "-a name"; told "a name with a dash and a space" 0 robust 16
+cd "$room" || exit 1
+mkfifo pipe
+cat text >pipe &
+run "$repo/judge" --explain pipe; told "a pipe" 0 robust 16
+wait
+facts 'refused 4 2\nbefore 0 0 0 0 0 0 0 0\nend\n'
+run "$repo/judge" --explain text; told "the explanation of a refusal" 0 "refused: line 2, rule 4" 17
+run "$repo/judge" --picture text; told "the picture of a refused text" 1 '' 17
+says "the picture of a refused text" "refused"
+facts 'verdict robust 0 0 0 0\n'
+run "$repo/judge" --explain text; told "facts that are cut off" 1 '' 18
+facts ''
+run "$repo/judge" --explain text; told "no facts" 1 '' 19
+facts 'verdict robust 0 0 0 0\nend\n'
+run "$repo/judge" --explain text; told "the first facts again" 0 robust 19
+mv "$repo/show" "$repo/hidden"
+run "$repo/judge" --explain text; told "without the scripts" 1 '' 19
 
 [ ! -e "$room/faults" ] || { failed=1; echo "two builds at once"; }
 [ $failed = 0 ] && echo "judge: $tried cases as they should be" || echo "judge: SOMETHING FAILED, see above"

@@ -1,6 +1,6 @@
 #!/bin/sh
 # kind-lines.sh [values|names|page [FILE]]: prints the constant table of kinds as it stands in its source (crates/kind_table unless one is named), in
-# the lines of document 02, Req 05: by the values of the codes in its grid, which the code reads, or by their names, which people read; or the grid
+# the lines of Req 05: by the values of the codes in its grid, which the code reads, or by their names, which people read; or the grid
 # of the page for reviewers, docs/KINDS.md, whose other table has the digits of each code. What is not as it should be gives a `?`. To hold the
 # printed table to the source:
 #     outside/kind-lines.sh > /tmp/source-table && target/bin/kinds | diff /tmp/source-table - && echo the same

@@ -1,4 +1,4 @@
-//! What lent areas hold afterwards (document 01, "Refused because of the state", "Unfoldings", "Edges"), as `inspect --areas` prints it:
+//! What lent areas hold afterwards (docs/MODEL.md, "Refused because of the state", "Unfoldings", "Edges"), as `inspect --areas` prints it:
 //! edges counted, by number and put into eight records; unfoldings and verdict with and without room; of a text's value and of
 //! values that no text gives.
 

@@ -1,5 +1,5 @@
 //! Texts without an arm, or without a branch, made from the lines alone, with nothing unfolded: their graphs must be what `parts` leaves of the
-//! whole graph (document 02, Req 06). Statements are numbered anew, and a link goes with either of its ends.
+//! whole graph (Req 06). Statements are numbered anew, and a link goes with either of its ends.
 
 use crate::parts::{part_lines, programs_of, Arm};
 use crate::workload::*;

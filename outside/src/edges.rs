@@ -1,4 +1,4 @@
-//! The edges of the summary graph (document 01, "Edges"; the shield as document 02, Req 02, changes it, kl as Req 03 says): the letters A to E
+//! The edges of the summary graph (docs/MODEL.md, "Edges"; the shield as Req 02 changed it, kl as Req 03 says): the letters A to E
 //! literally, and the list of records in order.
 
 use crate::unfolding::*;

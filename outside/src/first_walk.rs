@@ -1,4 +1,4 @@
-//! The first dangerous walk (document 02, Req 01), fast: fewest steps, then the smallest list of node, place left, place entered and
+//! The first dangerous walk (Req 01), fast: fewest steps, then the smallest list of node, place left, place entered and
 //! flow, forward before back; the list may begin anywhere on the walk. `plain_walk` finds it by the definition alone.
 //!
 //! Why it has one back step: take a dangerous pair e, c of any dangerous walk and put the forward twin of every other back step

@@ -1,4 +1,4 @@
-//! Small workloads for the shield of document 02, Req 02: parents before their children or after them, in a loop's turn, in an arm,
+//! Small workloads for the shield of Req 02: parents before their children or after them, in a loop's turn, in an arm,
 //! outside of either; children that are linked to themselves.
 
 use crate::lines::*;

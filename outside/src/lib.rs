@@ -8,6 +8,7 @@ pub mod arguments;
 pub mod cuts;
 pub mod damage;
 pub mod edges;
+pub mod facts;
 pub mod feeding;
 pub mod first_walk;
 pub mod generator;

@@ -132,7 +132,7 @@ pub fn reading(text: &[u8]) -> String {
 }
 
 /// A sum with a line's seven values more, in order. Kinds count from 1 in the order is ks ps ku pu kd pd rl fk pr lo br el en li kl: kl, which
-/// came later (document 02, Req 03), has the last number here, so that the sums of older texts stay.
+/// came later (Req 03), has the last number here, so that the sums of older texts stay.
 fn sum_of(before: u64, line: &Line) -> u64 {
     const PRIME: u64 = 4_294_967_291;
     let small = [summed_kind(line.kind), line.id as u64, line.rel as u64, line.to as u64];

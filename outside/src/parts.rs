@@ -1,4 +1,4 @@
-//! Part of a workload (document 02, Req 06): the programs that a word chooses, as lines and as a text; the nodes without those that take an arm; and
+//! Part of a workload (Req 06): the programs that a word chooses, as lines and as a text; the nodes without those that take an arm; and
 //! what becomes of nodes, edges and walks where nodes are taken out of a graph.
 
 use crate::edges::Edge;

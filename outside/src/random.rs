@@ -15,7 +15,7 @@ impl Random {
         Random::new(seed.wrapping_mul(1_000_003).wrapping_add(number))
     }
 
-    /// For texts: whether kl is drawn too. Without it the texts of a seed are those that they were before document 02, Req 03.
+    /// For texts: whether kl is drawn too. Without it the texts of a seed are those that they were before Req 03.
     pub fn with_locks(self, locks: bool) -> Random {
         Random { locks, ..self }
     }

@@ -1,5 +1,5 @@
-//! The reader: any bytes to a workload, or a refusal's number and line (document 01, "The workload text"
-//! and "Refused because of the input"; the kind kl, by document 02, Req 03, as ks).
+//! The reader: any bytes to a workload, or a refusal's number and line (docs/MODEL.md, "The workload text"
+//! and "Refused because of the input"; the kind kl, by Req 03 as ks).
 
 use crate::workload::*;
 
@@ -82,6 +82,16 @@ pub fn read(text: &[u8]) -> Result<Box<Workload>, Refusal> {
     let mut workload = Box::new(Workload::empty());
     read_into(text, &mut workload)?;
     Ok(workload)
+}
+
+/// The lines that were taken of a text before its fault, or all where it has none: none where the text as a whole is refused (1, 2, 3).
+pub fn taken_before_fault(text: &[u8]) -> Box<Workload> {
+    let mut workload = Box::new(Workload::empty());
+    if whole_text(text).is_ok() {
+        // the fault itself is what `read` tells
+        let _ = lines(text, &mut workload);
+    }
+    workload
 }
 
 fn clear(into: &mut Workload) {

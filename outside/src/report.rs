@@ -1,4 +1,4 @@
-//! The report (document 01, "Report"), and plain listings of unfoldings and edges.
+//! The report (docs/MODEL.md, "Report"), and plain listings of unfoldings and edges.
 
 use crate::edges::*;
 use crate::reader::*;

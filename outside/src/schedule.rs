@@ -1,5 +1,5 @@
-//! Random schedules of a workload that obey document 01's "Schedules": executions with any number of turns, foreign
-//! keys as fixed functions, statements that stand together, multiversion Read Committed; with locks, as document 02, Req 03, has them: a kl
+//! Random schedules of a workload that obey the rules (docs/MODEL.md, "Schedules"): executions with any number of turns, foreign
+//! keys as fixed functions, statements that stand together, multiversion Read Committed; with locks, as Req 03 has them: a kl
 //! is one read with lock of one tuple.
 //!
 //! A schedule is made statement by statement: a transaction is drawn, its next statement takes tuples that every rule

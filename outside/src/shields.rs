@@ -1,4 +1,4 @@
-//! The shield's rule beside two others, to compare it with: document 01's, which it replaced, and one that is wrong.
+//! The shield's rule beside two others, to compare it with: the one before Req 02, which it replaced, and one that is wrong.
 
 use crate::edges::*;
 use crate::reader::*;

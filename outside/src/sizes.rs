@@ -41,7 +41,7 @@ fn small() -> Vec<Line> {
     ]
 }
 
-/// Auction(8) of source 000.
+/// Auction(8) of the published work.
 fn middle() -> Vec<Line> {
     let items = 8;
     let mut lines = vec![relation(0, 3)];

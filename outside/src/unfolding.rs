@@ -1,4 +1,4 @@
-//! Unfoldings, the nodes of the graph (document 01, "Unfoldings"): counted first, then written one after the other.
+//! Unfoldings, the nodes of the graph (docs/MODEL.md, "Unfoldings"): counted first, then written one after the other.
 //!
 //! How many unfoldings a run has from a line on is kept for each line; number k of a run is then found by
 //! division, leftmost choice first, so that nothing is listed twice and nothing is allocated.
@@ -101,6 +101,26 @@ pub fn unfold(workload: &Workload, out: &mut Unfoldings) -> bool {
         }
     }
     true
+}
+
+/// A program's pr among the lines, how many unfoldings it has and how many statements stand in them, both stopped at 2^31.
+pub struct ProgramCounts {
+    pub begins: usize,
+    pub unfoldings: u64,
+    pub statements: u64,
+}
+
+/// The counts of each program, also where they are too many to be unfolded.
+pub fn counts_by_program(workload: &Workload) -> Vec<ProgramCounts> {
+    let mut shape = Shape { rest: [ONE; MAX_LINES + 1], partner: [0; MAX_LINES] };
+    measure(workload.taken(), &mut shape);
+    let begins = (0..workload.count).filter(|&at| workload.lines[at].kind == PR);
+    begins
+        .map(|begins| {
+            let Count { unfoldings, statements } = shape.rest[begins + 1];
+            ProgramCounts { begins, unfoldings, statements }
+        })
+        .collect()
 }
 
 /// Counts from the last line to the first, each program's blocks from the inside out.

@@ -1,5 +1,5 @@
-//! The verdict (document 01, "The dangerous walk"): counts, robust or danger, and for danger the first dangerous walk (document 02,
-//! Req 01).
+//! The verdict (docs/MODEL.md, "The dangerous walk"): counts, robust or danger, and for danger the first dangerous walk
+//! (Req 01).
 
 use crate::edges::*;
 use crate::first_walk::first_walk;

@@ -19,7 +19,7 @@ pub const KU: u8 = 3;
 pub const PU: u8 = 4;
 pub const KD: u8 = 5;
 pub const PD: u8 = 6;
-/// Key select with lock (document 02, Req 03).
+/// Key select with lock (Req 03).
 pub const KL: u8 = 7;
 pub const RL: u8 = 8;
 pub const FK: u8 = 9;
@@ -76,7 +76,7 @@ impl Workload {
     }
 }
 
-/// Which of a kind's six fields carry a value; the others are written `-` (document 01's list of kinds; kl as ks).
+/// Which of a kind's six fields carry a value; the others are written `-` (docs/FORMAT.md, "Which fields each kind has").
 #[derive(Clone, Copy)]
 pub struct Fields {
     pub id: bool,

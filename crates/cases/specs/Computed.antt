@@ -44,7 +44,7 @@ expectedBytes (isRefused number line) = refusalReport number line
 expectedBytes (isRobust p n e b) = robustReport (counted p n e b)
 expectedBytes (isDanger p n e b walk) = dangerReport (counted p n e b) walk
 
--- the case holds by document 01: these bytes are the report of the text
+-- the case holds by the rules: these bytes are the report of the text
 abbrev pub HoldsFor : List ℕ → Expected → Type 0
 HoldsFor text e = Report text (expectedBytes e)
 

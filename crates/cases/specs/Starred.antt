@@ -1,4 +1,4 @@
--- G1 to G9: the starred cases of document 01, in one table with one statement over its rows.
+-- G1 to G9: the starred cases, in one table with one statement over its rows.
 use mathlib.Core.Bool.{true}
 use mathlib.Core.List.{List, [], _∷_, _++_, List·Memᴰ}
 use mathlib.Core.Path.{_≡_, refl}
@@ -43,7 +43,7 @@ abbrev pub table : List Case
 table =
     -- G1: the base text
     case (station ++ ("ps 0 1 - 2 - 2" ∷ [])) (isRobust 2 2 5 1)
-    -- G2: ps twice; document 01's walk `0 0 1 1 f`, `1 1 0 1 b` is the first
+    -- G2: ps twice; the walk `0 0 1 1 f`, `1 1 0 1 b` is the first
     ∷ case (station ++ ("ps 0 1 - 2 - 2" ∷ "ps 1 1 - 2 - 2" ∷ [])) (isDanger 2 2 8 2 (step 0 1 1 Flow.forward ∷ step 1 0 1 Flow.back ∷ []))
     -- G3: ku on panel, ks on contact, linked
     ∷ case (station ++ ("ku 0 0 - 2 2 -" ∷ "ks 1 1 - 2 - -" ∷ "li 0 1 0 - - -" ∷ [])) (isRobust 2 2 7 0)

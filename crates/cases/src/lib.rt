@@ -1,1 +1,1 @@
-// The starred cases of document 01 as theorems of the rules: everything is in specs/.
+// The starred cases as theorems of the rules: everything is in specs/.

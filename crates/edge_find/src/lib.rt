@@ -28,7 +28,7 @@ pub struct EdgeStep {
 }
 
 // What the two sets of a letter share.
-fn shared_by(letter: u8, p: Row, q: Row) -> u64
+pub fn shared_by(letter: u8, p: Row, q: Row) -> u64
     ensures { λ r. ⌜ r ≡ sharedBy letter p q ⌝ }
 {
     match letter {

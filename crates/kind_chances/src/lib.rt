@@ -224,7 +224,7 @@ fn chance_e(k: StatementKind, l: StatementKind) -> Chance
     chance_c(l, k)
 }
 
-// The letters between two kinds, over all sets that document 01 allows them on one relation.
+// The letters between two kinds, over all sets that the rules allow them on one relation.
 pub fn entry_of(k: StatementKind, l: StatementKind) -> Entry
     ensures { λ r. ⌜ EntryMeans k l r ⌝ }
 {

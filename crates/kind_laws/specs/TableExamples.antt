@@ -77,7 +77,7 @@ table =
     ∷ "kl kl 0 0 0 0 0"
     ∷ []
 
--- document 02, Req 05
+-- Req 05
 table-told : KindTable (text table)
 unfolding table text bytes tableText tableLine tableNames columns flatMap wordOf digit chanceOf
 table-told = chances-table refl

@@ -10,7 +10,7 @@ use edge_kinds::kind_number;
 // How many kinds there are: so many rows, and so many codes in each.
 pub const KINDS: usize = 8;
 
-// A code tells of each of the letters A to E whether it can hold between two statements over one relation, whatever sets document 01 allows them:
+// A code tells of each of the letters A to E whether it can hold between two statements over one relation, whatever sets the rules allow them:
 // two bits to each letter, A's first; 00 impossible, 01 certain, 10 hanging on a meeting of its two sets. The same stands in its name, a place to
 // each letter: `_` impossible, a capital certain, a small letter hanging.
 const abcde: u32 = 0b10_10_10_10_10;

@@ -1,4 +1,4 @@
-// Prints the table of kinds on standard output: which letters can hold between two kinds of statement (document 02, Req 05). The gate runs it and
+// Prints the table of kinds on standard output: which letters can hold between two kinds of statement (Req 05). The gate runs it and
 // compares what it prints with the file `stdout`.
 //
 // Proved: whatever `show` is called with is the table. Seen in these lines, and by the gate's run: that it is called, once, that it writes what it

@@ -1,4 +1,4 @@
--- The graph without arms (document 02, Req 06): it is part of the summary graph, so it is robust where that is, whatever arms are taken out one
+-- The graph without arms (Req 06): it is part of the summary graph, so it is robust where that is, whatever arms are taken out one
 -- after the other. And what an arm is to statements: who does not take it performs none of its statements, who takes it performs its own.
 use mathlib.Core.Bool.{Bool, true, false, not, _&&_, _||_, false≢true}
 use mathlib.Core.List.{List, [], _∷_, _++_, map, headD, tail, List·Memᴰ, Memᴰ·map, Memᴰ·append-left, Memᴰ·append-right}

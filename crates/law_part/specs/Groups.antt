@@ -1,4 +1,4 @@
--- Part of a robust station is robust (document 02, Req 06): the part of a workload that some text gives, for any choice of its programs. Its graph is
+-- Part of a robust station is robust (Req 06): the part of a workload that some text gives, for any choice of its programs. Its graph is
 -- the part of the whole's graph on the nodes of the chosen programs, so that the laws of PartWalks say exactly which walks it has.
 use mathlib.Core.Bool.{Bool, true, false, _&&_, false≢true}
 use mathlib.Core.List.{List, [], _∷_, map, map-id, List·Memᴰ}

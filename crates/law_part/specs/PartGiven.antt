@@ -1,4 +1,4 @@
--- The part of a workload value that some text gives is one that some text gives (document 02, Req 06).
+-- The part of a workload value that some text gives is one that some text gives (Req 06).
 use mathlib.Core.Bool.{Bool, true, false}
 use mathlib.Core.List.{List, [], _∷_, _++_}
 use mathlib.Core.Logic.{_⊎_, inl, inr}

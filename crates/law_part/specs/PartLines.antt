@@ -1,4 +1,4 @@
--- Lines parted at each `pr`, and the lines of a part (document 02, Req 06): which bits of a group count, what is chosen by all and by none of them,
+-- Lines parted at each `pr`, and the lines of a part (Req 06): which bits of a group count, what is chosen by all and by none of them,
 -- and how many programs a part has.
 use mathlib.Core.Bool.{Bool, true, false, cond}
 use mathlib.Core.List.{List, [], _∷_, _++_, append-nil}

@@ -1,4 +1,4 @@
--- The lines of a part of a text are sound (document 02, Req 06): each line of a program looks at the lines before it only through the relations, the
+-- The lines of a part of a text are sound (Req 06): each line of a program looks at the lines before it only through the relations, the
 -- keys and the lines of its own program, and the part has those of the whole.
 use mathlib.Core.Bool.{true, false}
 use mathlib.Core.List.{List, [], _∷_, _++_, append-assoc, append-nil}

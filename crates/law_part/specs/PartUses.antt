@@ -1,5 +1,6 @@
--- The laws of parts on document 01's station: every part of a robust text is robust, as the laws say and as is computed; a danger of two programs is
--- one of no smaller group; and it goes with the arm that it stands in. The main laws are used here, so that a premise which nobody meets is noticed.
+-- The laws of parts on the station of the examples: every part of a robust text is robust, as the laws say and as is computed; a danger of two
+-- programs is one of no smaller group; and it goes with the arm that it stands in. The main laws are used here, so that a premise which
+-- nobody meets is noticed.
 use mathlib.Core.Bool.{Bool, true, false, _&&_}
 use mathlib.Core.List.{List, [], _∷_, map, List·Memᴰ, List·Memᴰ·not-nil, List·Memᴰ·cases-cons}
 use mathlib.Core.Logic.{_⊎_, inl, inr}
@@ -44,7 +45,7 @@ use Rattle.law_part.specs.PartsOfParts.{part-of-part}
 use Rattle.law_part.specs.Groups.{group-part, robust-part, part-reported, part-serial, fewer-robust, empty-robust}
 use Rattle.law_part.specs.Arms.{avoids, without-after, arm-edges, arms-robust, arm-robust}
 
--- document 01's base text
+-- the base text of the examples
 abbrev baseText : List String
 baseText =
     "kind id rel to reads writes tests"

@@ -1,4 +1,4 @@
--- A text written out from lines, with the digits of document 01's numbers and sets.
+-- A text written out from lines, with the digits of the rules' numbers and sets.
 use mathlib.Core.List.{List, [], _∷_, _++_}
 use mathlib.Core.Path.{_≡_, refl}
 use Prim.Native.Nat.{ℕ}

@@ -44,7 +44,7 @@ fn innermost(words: &[u64], part: u64) -> bool
     (depth != 0) & (innermost == part)
 }
 
-// The number of the first test that fails, in the order of document 01, 0 where none does; what a kind does not ask is true.
+// The number of the first test that fails, in the order of the rules, 0 where none does; what a kind does not ask is true.
 fn first_fault(room: bool, ordered: bool, named: bool, sets: bool, fits: bool) -> u8
     ensures { λ r. ⌜ r ≡ checkBy room ordered named sets true fits ⌝ }
 {

@@ -1,4 +1,4 @@
-// What document 01 says of the kinds, as one table: which fields a line has, what the sets of a statement must be, which statement may be a
+// What the rules say of the kinds, as one table: which fields a line has, what the sets of a statement must be, which statement may be a
 // link's parent. Code that reads lines asks a kind nothing else, so that a new kind of statement is a line here.
 use spec_text::LineKind;
 use spec_text::StatementKind;

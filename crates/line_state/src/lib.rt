@@ -60,7 +60,7 @@ pub const FIRST_ARM: u64 = 1;
 
 pub const SECOND_ARM: u64 = 2;
 
-// The bounds of document 01: of the text so many relations, keys and programs;
+// The bounds of the rules: of the text so many relations, keys and programs;
 pub const MOST_RELATIONS: u64 = 32;
 
 pub const MOST_KEYS: u64 = 32;

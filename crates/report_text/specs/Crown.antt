@@ -5,8 +5,8 @@
 -- an order in which the same transactions, run one after the other, read the same and leave the same after. The second line of no other
 -- report begins with that word: that of a refusal begins with a digit, that of a danger with a d.
 --
--- The statement is the type of `crown`; all words in it are those of document 01: `Report` (spec_report/Report), `read` (spec_text/Reading),
--- `Schedule` (spec_schedule/Schedule), `Serialisable` (spec_schedule/Serial).
+-- The statement is the type of `crown`; all words in it are those of the believed definitions: `Report` (spec_report/Report), `read`
+-- (spec_text/Reading), `Schedule` (spec_schedule/Schedule), `Serialisable` (spec_schedule/Serial).
 use mathlib.Core.Bool.{Bool, true, false, cond}
 use mathlib.Core.List.{List, [], _∷_, _++_, append-assoc}
 use mathlib.Core.Path.{_≡_, refl, sym, ap, subst}

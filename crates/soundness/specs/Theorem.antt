@@ -11,7 +11,7 @@ use Rattle.spec_schedule.specs.Serial.{Serialisable}
 use Rattle.soundness.specs.StatementSets.{schedule-sets}
 use Rattle.soundness.specs.Schedules.{serialisable-or-dangerous}
 
--- the statement: nothing but document 01's definitions
+-- the statement: nothing but the believed definitions
 abbrev pub Demand3 : Type 0
 Demand3 = (w : Workload) → Given w → Robust (linesOf w) → (s : Schedule (linesOf w)) → Serialisable s
 

@@ -1,4 +1,4 @@
--- Edges of the summary graph (document 01, "Edges"). Believed.
+-- Edges of the summary graph (docs/MODEL.md, "Edges"). Believed.
 use mathlib.Core.Bool.{Bool, true, false, cond, not, _&&_, _||_}
 use mathlib.Core.List.{List, [], _∷_, _++_, flatMap}
 use mathlib.Core.Option.{Option, none, some}

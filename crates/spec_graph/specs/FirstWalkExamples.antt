@@ -1,4 +1,4 @@
--- Small walks that pin the order in which the first dangerous walk is first (document 02, Req 01).
+-- Small walks that pin the order in which the first dangerous walk is first (Req 01).
 use mathlib.Core.Bool.{Bool, true, false, true≢false, false≢true}
 use mathlib.Core.List.{List, [], _∷_, flatMap}
 use mathlib.Core.Path.{_≡_, refl, sym, ap, _∙_}
@@ -42,7 +42,7 @@ Req01-steps : (order (step 0 0 0 forward ∷ step 9 9 9 back ∷ []) (step 0 0 0
 unfolding order
 Req01-steps = (refl, refl)
 
--- Req 01: in document 01's example with `ps` twice the same walk may begin at either node: the lower comes first
+-- Req 01: in the example with `ps` twice the same walk may begin at either node: the lower comes first
 Req01-begin : order (step 0 1 1 forward ∷ step 1 0 1 back ∷ []) (step 1 0 1 back ∷ step 0 1 1 forward ∷ []) ≡ (true, false)
 unfolding order
 Req01-begin = refl

@@ -202,7 +202,7 @@ N2-place = refl
 
 -- ---- W: the dangerous walk
 
--- W1, W2, W4: document 01's walk for `ps` twice, c leaving at an earlier place than e enters
+-- W1, W2, W4: the walk for `ps` twice, c leaving at an earlier place than e enters
 W4-earlier : dangerous twice (step 0 1 1 Flow.forward ∷ step 1 0 1 Flow.back ∷ []) ≡ true
 unfolding dangerous
 W4-earlier = refl

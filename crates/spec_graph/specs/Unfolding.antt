@@ -1,4 +1,4 @@
--- Unfoldings (document 01, "Unfoldings"). Believed.
+-- Unfoldings (docs/MODEL.md, "Unfoldings"). Believed.
 use mathlib.Core.List.{List, [], _∷_, _++_, map, flatMap}
 use Prim.Native.Nat.{ℕ, suc}
 use Rattle.spec_graph.specs.Program.{Statement, Link, Item, Run, Program, programsOf}

@@ -1,4 +1,4 @@
--- The dangerous walk (document 01, "The dangerous walk") and the first of them (document 02, Req 01), over any graph. Believed.
+-- The dangerous walk (docs/MODEL.md, "The dangerous walk") and the first of them (Req 01), over any graph. Believed.
 use mathlib.Core.Bool.{Bool, true, false, not, _&&_, _||_}
 use mathlib.Core.List.{List, [], _∷_, flatMap}
 use mathlib.Core.Path.{_≡_}

@@ -1,1 +1,1 @@
-// Unfoldings, edges and walks of a workload, as document 01 defines them: everything is in specs/.
+// Unfoldings, edges and walks of a workload, as docs/MODEL.md tells them: everything is in specs/.

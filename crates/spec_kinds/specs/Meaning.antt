@@ -1,4 +1,4 @@
--- What is said of a letter between two kinds of statement (document 02, Req 04): whether it holds, over all sets that document 01 allows the two on
+-- What is said of a letter between two kinds of statement (Req 04): whether it holds, over all sets that the rules allow the two on
 -- one relation. Believed.
 use mathlib.Core.Bool.{Bool, true, false, not}
 use mathlib.Core.Path.{_≡_}

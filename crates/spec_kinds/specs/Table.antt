@@ -1,4 +1,4 @@
--- The table of kinds as bytes (document 02, Req 05). Believed.
+-- The table of kinds as bytes (Req 05). Believed.
 use mathlib.Core.List.{List, [], _∷_, _++_, map, flatMap}
 use mathlib.Core.Path.{_≡_}
 use Prim.Native.Nat.{ℕ}

@@ -1,4 +1,4 @@
--- A graph without an arm: every unfolding that takes it is taken out (document 02, Req 06). Believed.
+-- A graph without an arm: every unfolding that takes it is taken out (Req 06). Believed.
 use mathlib.Core.Bool.{Bool, false, not, _&&_, _||_}
 use mathlib.Core.List.{List, [], _∷_, _++_, map}
 use Prim.Native.Nat.{ℕ, suc, _+_}

@@ -1,4 +1,4 @@
--- Small workloads that pin what is taken out with an arm (document 02, Req 06).
+-- Small workloads that pin what is taken out with an arm (Req 06).
 use mathlib.Core.Bool.{true, false}
 use mathlib.Core.List.{List, [], _∷_, _++_, map, flatMap}
 use mathlib.Core.Path.{_≡_, refl}
@@ -259,7 +259,7 @@ Req06-node = refl
 abbrev twice-in-arm : List Line
 twice-in-arm = station (br ∷ ps 0 1 2 2 ∷ ps 1 1 2 2 ∷ el ∷ ps 2 1 2 2 ∷ en ∷ [])
 
--- without the first arm the graph has the two other nodes, and document 01's walk for `ps` twice is none of it; without the second arm it stays
+-- without the first arm the graph has the two other nodes, and the walk for `ps` twice is none of it; without the second arm it stays
 Req06-graph : let walk = step 0 1 1 Flow.forward ∷ step 1 0 1 Flow.back ∷ [] in
     let without : ℕ → ℕ × List ℕ = λ part. let g = graphWithout (armAt part 1 0 ∷ []) twice-in-arm in (g .size, map (g .places) (0 ∷ 1 ∷ 2 ∷ [])) in
     (without firstArm ≡ (2, 2 ∷ 1 ∷ 0 ∷ []))

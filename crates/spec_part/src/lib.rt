@@ -1,1 +1,1 @@
-// Parts of a workload by its programs, and graphs without an arm, as document 02's Req 06 has them: everything is in specs/.
+// Parts of a workload by its programs, and graphs without an arm, as Req 06 has them: everything is in specs/.

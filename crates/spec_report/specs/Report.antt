@@ -1,4 +1,4 @@
--- The report of a text, as bytes (document 01, "Report"; document 02, Req 01). Believed.
+-- The report of a text, as bytes (docs/MODEL.md, "Report"; Req 01). Believed.
 use mathlib.Core.Bool.{true, false}
 use mathlib.Core.List.{List, [], _∷_, _++_}
 use mathlib.Core.Path.{_≡_}

@@ -1,4 +1,4 @@
--- Refusals because of the state, and the verdict (document 01, "Refused because of the state", "The dangerous walk"). Believed.
+-- Refusals because of the state, and the verdict (docs/MODEL.md, "Refused because of the state", "The dangerous walk"). Believed.
 use mathlib.Core.Bool.{Bool, true, false, _||_}
 use mathlib.Core.List.{List, [], _∷_}
 use mathlib.Core.Option.{Option, none, some}

@@ -1,1 +1,1 @@
-// The outcome of a workload and the report of a text, as document 01 defines them: everything is in specs/.
+// The outcome of a workload and the report of a text, as docs/MODEL.md tells them: everything is in specs/.

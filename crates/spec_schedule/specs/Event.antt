@@ -1,4 +1,4 @@
--- Lists of events: versions, what a read sees, Read Committed (document 01, "Schedules"). Believed.
+-- Lists of events: versions, what a read sees, Read Committed (docs/MODEL.md, "Schedules"). Believed.
 -- The list of all events is in the order of time; `past` and a tuple's writes are lists with the latest first.
 use mathlib.Core.Bool.{Bool, true, false, cond, not, _&&_, _||_}
 use mathlib.Core.List.{List, [], _∷_, reverse}

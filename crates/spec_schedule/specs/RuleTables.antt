@@ -154,7 +154,7 @@ claims-written r t (w ∷ past) h =
     (claim-write (w .action) (not-true (isLock (w .action)) (u .0)))
     (claims-written r t past (u .1))
 
--- H11: where nothing is locked, document 01's ban: no transaction writes a tuple between another's write of it and that one's commit
+-- H11: where nothing is locked, the ban on writes: no transaction writes a tuple between another's write of it and that one's commit
 waits-as-before : (past : List Event) (e : Event) → isLock (e .action) ≡ false → all (λ w. not (isLock (w .action))) past ≡ true
     → waits past e
     ≡ (not (isWrite (e .action))

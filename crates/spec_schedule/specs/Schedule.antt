@@ -1,4 +1,4 @@
--- Executions, transactions and schedules of a workload (document 01, "Schedules"). Believed.
+-- Executions, transactions and schedules of a workload (docs/MODEL.md, "Schedules"). Believed.
 use mathlib.Core.Bool.{Bool, true, cond, not, _&&_, _||_}
 use mathlib.Core.List.{List, [], _∷_, _++_, flatMap, List·Memᴰ}
 use mathlib.Core.Option.{some}

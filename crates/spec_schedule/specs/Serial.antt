@@ -1,4 +1,4 @@
--- The serial run and demand 3's conclusion (document 01, "The serial run"). Believed.
+-- The serial run and demand 3's conclusion (docs/MODEL.md, "The serial run"). Believed.
 use mathlib.Core.Bool.{true, cond}
 use mathlib.Core.List.{List, flatMap}
 use mathlib.Core.Option.{some}

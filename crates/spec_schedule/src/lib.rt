@@ -1,1 +1,1 @@
-// Schedules, Read Committed and the serial run, as document 01 defines them: everything is in specs/.
+// Schedules, Read Committed and the serial run, as docs/MODEL.md tells them: everything is in specs/.

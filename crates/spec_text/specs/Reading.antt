@@ -1,5 +1,5 @@
--- Reading a text line by line: order, ids, sets, links, bounds (document 01, "The workload text") and the refusals of the input
--- (document 01, "Refused because of the input"). Believed. `before` are the lines taken so far, in the order of the text.
+-- Reading a text line by line: order, ids, sets, links, bounds (docs/MODEL.md, "The workload text") and the refusals of the input
+-- (docs/MODEL.md, "Refused because of the input"). Believed. `before` are the lines taken so far, in the order of the text.
 use mathlib.Core.Bool.{Bool, true, false, cond, not, _&&_, _||_}
 use mathlib.Core.List.{List, [], _∷_, _++_, tail, headD}
 use mathlib.Core.Option.{Option, none, some}

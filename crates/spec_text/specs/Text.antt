@@ -1,4 +1,4 @@
--- The form of the workload text (document 01, "The workload text"). Believed. A text is the list of its bytes.
+-- The form of the workload text (docs/MODEL.md, "The workload text"). Believed. A text is the list of its bytes.
 use mathlib.Core.Bool.{Bool, true, false, cond, not, _&&_, _||_}
 use mathlib.Core.List.{List, [], _∷_, _++_}
 use mathlib.Core.Option.{Option, none, some}

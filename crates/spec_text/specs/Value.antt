@@ -1,4 +1,4 @@
--- The workload value (document 01, "Refused because of the state", 21). Believed.
+-- The workload value (docs/MODEL.md, "Refused because of the state", 21). Believed.
 use mathlib.Core.List.{List, _++_}
 use mathlib.Core.Path.{_≡_}
 use Prim.Native.Nat.{ℕ, _-_}

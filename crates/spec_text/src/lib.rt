@@ -1,6 +1,6 @@
 // The workload value: what a text is read into, as the values of its lines. Believed.
 
-// The eight kinds of statement; Kl is document 02's, Req 03.
+// The eight kinds of statement; Kl is Req 03's.
 pub enum StatementKind {
     Is,
     Ks,
@@ -36,7 +36,7 @@ pub struct Line {
     pub tests: u64,
 }
 
-// The bounds of document 01: a text has at most so many bytes, and after its names line at most so many lines.
+// The bounds of the rules: a text has at most so many bytes, and after its names line at most so many lines.
 pub const TEXT_BYTES: usize = 32768;
 
 pub const CELLS: usize = 1616;

@@ -1,4 +1,4 @@
--- What the answer of `line_of` stands for: document 01's number and values for every case. Believed.
+-- What the answer of `line_of` stands for: the rules' number and values for every case. Believed.
 use mathlib.Core.Option.{Option, none, some}
 use Prim.Native.Nat.{ℕ}
 use Rattle.spec_text.specs.declared.Line.{Line}

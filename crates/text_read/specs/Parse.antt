@@ -1,4 +1,5 @@
--- What reading a text answers, and the steps of the code that reads it. Believed: `parsedAs`.
+-- What reading a text answers, and the steps of the code that reads it. Believed: `parsedAs`;
+-- by callers of `see_bytes` also `Saw` with `faultNumber` and `seenLine`.
 use mathlib.Core.List.{List, []}
 use mathlib.Core.Option.{Option, none, some}
 use mathlib.Core.Path.{_≡_}
@@ -6,7 +7,7 @@ use Prim.Native.Nat.{ℕ, _+_, _≤_}
 use lib.ListN.{length, drop}
 use Rattle.spec_text.specs.declared.Line.{Line}
 use Rattle.spec_text.specs.declared.Workload.{Workload}
-use Rattle.spec_text.specs.Text.{linesIn}
+use Rattle.spec_text.specs.Text.{linesIn, unusedLine}
 use Rattle.spec_text.specs.Value.{valueOf, noWorkload}
 use Rattle.spec_text.specs.Reading.{Outcome, readLines}
 use Rattle.spec_text.specs.Reading.Outcome.{refused, accepted}
@@ -28,11 +29,18 @@ unfoldable pub faultNumber : State → Option Line → ℕ
 faultNumber s none = 4
 faultNumber s (some l) = checkOf s l
 
--- what is seen of a line's bytes: a fault's number, or 0 and the line, which is then taken
+-- the line that a line's bytes give; where they give none, the line that stands where there is none
+unfoldable pub seenLine : Option Line → Line
+seenLine none = unusedLine
+seenLine (some l) = l
+
+-- what is seen of a line's bytes: a fault's number, or 0 and the line, which is then taken; with a fault the words stay as they are
 pub record Saw (before : List ℕ) (o : Option Line) (after : List ℕ) (r : Seen) : Type 0 where
   pub number : r .number ≡ faultNumber (stateIn before) o
+  pub line : r .line ≡ seenLine o
   pub value : r .number ≡ 0 → o ≡ some (r .line)
   pub taken : r .number ≡ 0 → Taken before (r .line) after
+  pub kept : (r .number ≡ 0 → ⊥) → after ≡ before
 
 -- between two lines: these were taken, the value and the words hold them, and what is read is what the lines that the reader still comes to,
 -- in steps that are enough for the bytes left, give after them

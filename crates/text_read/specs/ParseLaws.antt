@@ -10,7 +10,7 @@ use lib.ListN.{length, set, drop, length-append}
 use borrow.Author.Tests.{eq-eqb, ne-eqb}
 use Rattle.spec_text.specs.declared.Line.{Line}
 use Rattle.spec_text.specs.declared.Workload.{Workload}
-use Rattle.spec_text.specs.Text.{linesIn, lineOf}
+use Rattle.spec_text.specs.Text.{linesIn, lineOf, unusedLine}
 use Rattle.spec_text.specs.Reading.{noneOpen, fault, readLines, Outcome}
 use Rattle.spec_text.specs.Reading.Outcome.{refused, accepted}
 use Rattle.spec_text.specs.Value.{valueOf}
@@ -29,7 +29,7 @@ use Rattle.text_lines.specs.declared.Step.the-variants.{Line as AtLine, End as 
 use Rattle.text_lines.specs.Span.{lineAt}
 use Rattle.text_lines.specs.Going.{bytesOf, goneThrough}
 use Rattle.text_lines.specs.GoingLaws.{came, gone-through}
-use Rattle.text_read.specs.Parse.{parsedAs, faultNumber, Saw, Going}
+use Rattle.text_read.specs.Parse.{parsedAs, faultNumber, seenLine, Saw, Going}
 use Rattle.value_unused.specs.Unused.{unusedCells}
 
 -- ---- the workload
@@ -40,33 +40,60 @@ value-count before = refl
 
 -- ---- a line's bytes
 
-pub saw-wrong : (words : List ℕ) {r : Seen} → r .number ≡ 4 → Saw words none words r
-unfolding faultNumber
-saw-wrong words e = record { number = e; value = λ z. absurd (omega arith); taken = λ z. absurd (omega arith) }
-
-pub saw-fault : (words : List ℕ) (l : Line) {r : Seen} → r .number ≡ checkOf (stateIn words) l → (r .number ≡ 0 → ⊥) → Saw words (some l) words r
-unfolding faultNumber
-saw-fault words l e n = record { number = e; value = λ z. absurd (n z); taken = λ z. absurd (n z) }
-
-pub saw-line : (words : List ℕ) (l : Line) {after : List ℕ} {r : Seen} → r .number ≡ checkOf (stateIn words) l → r .line ≡ l
-    → Taken words l after → Saw words (some l) after r
-unfolding faultNumber
-saw-line words l {after} e f t =
+pub saw-wrong : (words : List ℕ) {r : Seen} → r .number ≡ 4 → r .line ≡ unusedLine → Saw words none words r
+unfolding faultNumber seenLine
+saw-wrong words e f =
     record {
       number = e;
+      line = f;
+      value = λ z. absurd (omega arith);
+      taken = λ z. absurd (omega arith);
+      kept = λ n. refl;
+    }
+
+pub saw-fault : (words : List ℕ) (l : Line) {r : Seen} → r .number ≡ checkOf (stateIn words) l → r .line ≡ l → (r .number ≡ 0 → ⊥)
+    → Saw words (some l) words r
+unfolding faultNumber seenLine
+saw-fault words l e f n = record { number = e; line = f; value = λ z. absurd (n z); taken = λ z. absurd (n z); kept = λ m. refl }
+
+pub saw-line : (words : List ℕ) (l : Line) {after : List ℕ} {r : Seen} → r .number ≡ checkOf (stateIn words) l → r .line ≡ l
+    → r .number ≡ 0 → Taken words l after → Saw words (some l) after r
+unfolding faultNumber seenLine
+saw-line words l {after} e f n t =
+    record {
+      number = e;
+      line = f;
       value = λ z. ap some (sym f);
       taken = λ z. subst (λ x. Taken words x after) (sym f) t;
+      kept = λ m. absurd (m n);
     }
+
+-- the number of a line that does not pass its tests is its fault's
+line-fault : (before : List Line) (s : State) (l : Line) (n : ℕ) → Holds s before → n ≡ checkOf s l → (n ≡ 0 → ⊥) → fault before l ≡ some n
+unfolding faultOf
+line-fault before s l n h e z =
+    sym (holds-check s before l h) ∙ ap faultOf (sym e) ∙ ap (λ t. cond t none (some n)) (ne-eqb n 0 z)
+
+-- a line that is seen with a number has this fault
+pub saw-stops : {words after : List ℕ} {r : Seen} (before : List Line) (l : Line) → HoldsWords words before → Saw words (some l) after r
+    → (r .number ≡ 0 → ⊥) → fault before l ≡ some (r .number)
+unfolding faultNumber
+saw-stops {words} {r = r} before l h saw z = line-fault before (stateIn words) l (r .number) (h .state) (saw .number) z
+
+-- one that is seen without a number has none
+pub saw-passes : {words after : List ℕ} {r : Seen} {o : Option Line} (before : List Line) → HoldsWords words before → Saw words o after r
+    → r .number ≡ 0 → fault before (r .line) ≡ none
+unfolding faultNumber faultOf
+saw-passes {words} {r = r} before h saw z =
+    sym (holds-check (stateIn words) before (r .line) (h .state))
+    ∙ ap faultOf (sym (saw .number ∙ ap (faultNumber (stateIn words)) (saw .value z)) ∙ z)
 
 -- a fault ends reading
 pub line-refused : (before : List Line) (s : State) (n : ℕ) (bytes : List ℕ) (rest : List (List ℕ)) → Holds s before
     → n ≡ faultNumber s (lineOf bytes) → (n ≡ 0 → ⊥) → readLines before (bytes ∷ rest) ≡ refused n (length before + 2)
-unfolding readLines faultNumber faultOf
+unfolding readLines faultNumber
 line-refused before s n bytes rest h e z = go (lineOf bytes) e
   where
-    one : (l : Line) → n ≡ checkOf s l → fault before l ≡ some n
-    one l q = sym (holds-check s before l h) ∙ ap faultOf (sym q) ∙ ap (λ t. cond t none (some n)) (ne-eqb n 0 z)
-
     go : (o : Option Line) → n ≡ faultNumber s o
         → _≡_ {A = Outcome} (elim o [
           | none ↦ refused 4 (length before + 2)
@@ -79,12 +106,8 @@ line-refused before s n bytes rest h e z = go (lineOf bytes) e
         (refused n (length before + 2))
     go none q = ap (λ m. refused m (length before + 2)) (sym q)
     go (some l) q =
-        ap {B = Outcome} (λ f. elim f [ some number ↦ refused number (length before + 2) | none ↦ readLines (before ++ (l ∷ [])) rest ]) (one l q)
-
--- a line without a fault
-line-passes : (before : List Line) (s : State) (l : Line) → Holds s before → checkOf s l ≡ 0 → fault before l ≡ none
-unfolding faultOf
-line-passes before s l h e = sym (holds-check s before l h) ∙ ap faultOf e
+        ap {B = Outcome} (λ f. elim f [ some number ↦ refused number (length before + 2) | none ↦ readLines (before ++ (l ∷ [])) rest ])
+        (line-fault before s l n h q z)
 
 -- reading goes on after it
 pub line-taken : (before : List Line) (l : Line) (bytes : List ℕ) (rest : List (List ℕ)) → lineOf bytes ≡ some l → fault before l ≡ none
@@ -154,17 +177,11 @@ going-refused {text} {words} {at = at} {line = line} {r = r} {span = span} g her
     ∙ ap (readLines (g .before)) (sym (gone-line (g .steps) text at line here (g .enough)))
     ∙ g .reads
 
--- the line taken
-passes : {text words after : List ℕ} {start at line : ℕ} {w : Workload} {r : Seen} {o : Option Line} (g : Going text start w words at line)
-    → Saw words o after r → r .number ≡ 0 → fault (g .before) (r .line) ≡ none
-unfolding faultNumber
-passes {words = words} {r = r} g saw z =
-    line-passes (g .before) (stateIn words) (r .line) (g .holds .state) (sym (saw .number ∙ ap (faultNumber (stateIn words)) (saw .value z)) ∙ z)
-
+-- a line taken has room, and reading goes on after it
 pub going-room : {text words after : List ℕ} {start at line : ℕ} {w : Workload} {r : Seen} {o : Option Line} → Going text start w words at line
     → Saw words o after r → r .number ≡ 0 → w .count < 1616
 going-room {words = words} {after = after} {r = r} g saw z =
-    let held = words-take (saw .taken z) (g .before) (g .holds) (passes g saw z) in
+    let held = words-take (saw .taken z) (g .before) (g .holds) (saw-passes (g .before) (g .holds) saw z) in
     let few = holds-few (stateIn after) (g .before ++ (r .line ∷ [])) (held .state) in
     let same = ap (λ (x : Workload). x .count) (g .work) ∙ value-count (g .before) in
     omega (arith, few, same, length-append (g .before) (r .line ∷ []))
@@ -183,7 +200,7 @@ going-next {text} {at = at} {line = line} {w = w} {r = r} {span = span} g here s
       work =
           ap {B = Workload} (λ (x : Workload). record { count = x .count + 1; lines = set (x .lines) (x .count) (r .line) }) (g .work)
           ∙ appended-value (g .before) (r .line) (omega arith);
-      holds = words-take (saw .taken z) (g .before) (g .holds) (passes g saw z);
+      holds = words-take (saw .taken z) (g .before) (g .holds) (saw-passes (g .before) (g .holds) saw z);
       number =
           there .number (omega (arith, few .0, few .1))
           ∙ ap (λ m. m + 1) (g .number)
@@ -193,7 +210,7 @@ going-next {text} {at = at} {line = line} {w = w} {r = r} {span = span} g here s
       reads =
           sym
           (line-taken (g .before) (r .line) (bytesOf text span) (goneThrough (g .steps - 1) text (span .next) (span .after)) (saw .value z)
-          (passes g saw z))
+          (saw-passes (g .before) (g .holds) saw z))
           ∙ ap (readLines (g .before)) (sym (gone-line (g .steps) text at line here (g .enough)))
           ∙ g .reads;
     }

@@ -22,10 +22,10 @@ pub struct Parsed {
     pub line: u64,
 }
 
-// What the bytes of a line give: number 0 and the line, or a fault's number.
-struct Seen {
-    number: u8,
-    line: Line,
+// What the bytes of a line give: number 0, or a fault's number, and the line; where they are none, the line that stands where there is none.
+pub struct Seen {
+    pub number: u8,
+    pub line: Line,
 }
 
 fn refused(number: u8, line: u64) -> Parsed
@@ -50,8 +50,8 @@ fn see_value(words: &mut [u64], l: Line) -> Seen
     Seen { number, line: l }
 }
 
-// Takes the bytes of a line into the words, if they are a value line that passes its tests.
-fn see_bytes(words: &mut [u64], bytes: &[u8]) -> Seen
+// Takes the bytes of a line into the words, if they are a value line that passes its tests; else the words stay as they are.
+pub fn see_bytes(words: &mut [u64], bytes: &[u8]) -> Seen
     ensures { λ r. ⌜ Saw (now (words .entry)) (lineOf (now (bytes .entry))) (now (words .exit)) r ⌝ }
 {
     let r = text_fields::line_of(bytes);

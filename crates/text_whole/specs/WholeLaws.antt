@@ -193,34 +193,37 @@ module _ (text : List ℕ) (few : length text ≤ 32768) (allowed : otherByte 1 
       let same-span : spanAt text 0 1 ≡ span = cc in
       whole-line true (first-line e true n) ∙ ap (λ (s : Span). Whole.Lines (s .next)) same-span
 
--- what the tests settle is what reading gives
-pub whole-read : (text : List ℕ) → wholeGives text (wholeOf text) ≡ read text
+-- what holds of a refusal with 1, 2 or 3, and of what the lines after the names line give, holds of what the tests settle with what reading gives
+pub whole-cases : (text : List ℕ) (P : Whole → Outcome → Type 0)
+    → ((number line : ℕ) → number ≤ 3 → P (Whole.Refused number line) (refused number line))
+    → ((place : ℕ) → linesIn (drop place text) ≡ tail (linesIn text) → P (Whole.Lines place) (readLines [] (tail (linesIn text))))
+    → P (wholeOf text) (read text)
 unfolding wholeOf read
-whole-read text = size (leb (length text) 32768) refl
+whole-cases text P early late = size (leb (length text) 32768) refl
   where
     names : (t : Bool) → endsLine text ≡ true
-        → wholeGives text (elim t [ true ↦ Whole.Lines (spanAt text 0 1 .next) | false ↦ Whole.Refused 3 1 ])
-        ≡ elim t [ true ↦ readLines [] (tail (linesIn text)) | false ↦ refused 3 1 ]
-    names false h = refl
+        → P (elim t [ true ↦ Whole.Lines (spanAt text 0 1 .next) | false ↦ Whole.Refused 3 1 ])
+        (elim t [ true ↦ readLines [] (tail (linesIn text)) | false ↦ refused 3 1 ])
+    names false h = early 3 1 (omega arith)
     names true h =
         let lines = came text 0 1 (line-found text 0 1 (endsLine-some text h) refl) .lines in
-        sym (ap (λ (l : List (List ℕ)). readLines [] (tail l)) lines)
+        late (spanAt text 0 1 .next) (sym (ap (λ (l : List (List ℕ)). tail l) lines))
 
     last : (t : Bool) → endsLine text ≡ t
-        → wholeGives text
+        → P
         (elim t [
           | false ↦ Whole.Refused 2 0
           | true ↦ elim (same (headD (linesIn text) []) namesLine) [ true ↦ Whole.Lines (spanAt text 0 1 .next) | false ↦ Whole.Refused 3 1 ]
         ])
-        ≡ elim t [
+        (elim t [
           | false ↦ refused 2 0
           | true ↦ elim (same (headD (linesIn text) []) namesLine) [ true ↦ readLines [] (tail (linesIn text)) | false ↦ refused 3 1 ]
-        ]
-    last false h = refl
+        ])
+    last false h = early 2 0 (omega arith)
     last true h = names (same (headD (linesIn text) []) namesLine) h
 
     other : (o : Option ℕ)
-        → wholeGives text
+        → P
         (elim o [
           | some line ↦ Whole.Refused 2 line
           | none ↦
@@ -229,17 +232,21 @@ whole-read text = size (leb (length text) 32768) refl
                 | true ↦ elim (same (headD (linesIn text) []) namesLine) [ true ↦ Whole.Lines (spanAt text 0 1 .next) | false ↦ Whole.Refused 3 1 ]
               ]
         ])
-        ≡ elim o [
+        (elim o [
           | some line ↦ refused 2 line
           | none ↦
               elim (endsLine text) [
                 | false ↦ refused 2 0
                 | true ↦ elim (same (headD (linesIn text) []) namesLine) [ true ↦ readLines [] (tail (linesIn text)) | false ↦ refused 3 1 ]
               ]
-        ]
-    other (some line) = refl
+        ])
+    other (some line) = early 2 line (omega arith)
     other none = last (endsLine text) refl
 
-    size : (t : Bool) → leb (length text) 32768 ≡ t → wholeGives text (wholeOf text) ≡ read text
-    size false e = rw (e, wholeOf, read)
+    size : (t : Bool) → leb (length text) 32768 ≡ t → P (wholeOf text) (read text)
+    size false e = rw (e, wholeOf, read) (early 1 0 (omega arith))
     size true e = rw (e, wholeOf, read) (other (otherByte 1 text))
+
+-- what the tests settle is what reading gives
+pub whole-read : (text : List ℕ) → wholeGives text (wholeOf text) ≡ read text
+whole-read text = whole-cases text (λ w o. wholeGives text w ≡ o) (λ number line h. refl) (λ place e. ap (readLines []) e)

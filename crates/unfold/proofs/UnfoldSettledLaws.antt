@@ -94,7 +94,7 @@ module _ (Word : ℕ → Statement → ℕ → Type 0) (mark : Statement → ℕ
 
 -- the lines count as many nodes and statements as they have
 module _ (lines : List Line) where
-  over-nodes : overMany (codesOf lines) ≡ tooMany lines
+  pub over-nodes : overMany (codesOf lines) ≡ tooMany lines
   unfolding overMany tooMany
   over-nodes =
       rw (length-codes lines, over-alike _ _ 64 (omega arith) (total-count lines), over-alike _ _ 512 (omega arith) (total-statements lines))
@@ -206,7 +206,7 @@ module _ (w : Workload) (g : Given w) where
   unfolding linesOf
   lines-length = omega (arith, length-take (w .count) (w .lines), given-fits g, given-cells g)
 
-  part-codes : (codes : List ℕ) → codes ≡ codesOf (w .lines) → take (w .count) codes ≡ codesOf (linesOf w)
+  pub part-codes : (codes : List ℕ) → codes ≡ codesOf (w .lines) → take (w .count) codes ≡ codesOf (linesOf w)
   unfolding codesOf linesOf
   part-codes codes e = rw e (take-map (λ l. codeOf (l .kind)) (w .count) (w .lines))
 

@@ -30,7 +30,7 @@ use Rattle.unfold_laws.specs.WritingLaws.{line-there}
 -- ---- T7: the first line of a program, and the statements before one with its id
 
 -- a `pr` line has the number 3
-program-code : (l : Line) → isProgram l ≡ eqb (codeOf (l .kind)) 3
+pub program-code : (l : Line) → isProgram l ≡ eqb (codeOf (l .kind)) 3
 unfolding isProgram sort codeOf
 program-code l = go (l .kind)
   where
@@ -46,7 +46,7 @@ program-code l = go (l .kind)
     go Li = refl
 
 -- the programs before a line, counted from the first line on
-programs-first : (c : ℕ) (codes : List ℕ) (i : ℕ) → programsBefore (c ∷ codes) (suc i) ≡ cond (eqb c 3) 1 0 + programsBefore codes i
+pub programs-first : (c : ℕ) (codes : List ℕ) (i : ℕ) → programsBefore (c ∷ codes) (suc i) ≡ cond (eqb c 3) 1 0 + programsBefore codes i
 unfolding programsBefore linePrograms
 programs-first c codes zero = go (eqb c 3)
   where
@@ -60,7 +60,7 @@ programs-first c codes (suc i) =
     go true m n = omega arith
     go false m n = refl
 
-first-there : (lines : List Line) (i : ℕ) → getD (codesOf lines) i 0 ≡ 3 → firstLine (programsBefore (codesOf lines) i) lines ≡ i + 1
+pub first-there : (lines : List Line) (i : ℕ) → getD (codesOf lines) i 0 ≡ 3 → firstLine (programsBefore (codesOf lines) i) lines ≡ i + 1
 unfolding codesOf firstLine programsBefore
 first-there [] i e = let z : _≡_ {A = ℕ} 0 3 = e in absurd (omega arith)
 first-there (l ∷ lines) zero e = rw (program-code l ∙ eq-eqb (codeOf (l .kind)) 3 e) refl
@@ -110,7 +110,7 @@ own-here lines i begins passed l rest k joined below e at m d there =
 
 module _ (text : List ℕ) (lines : List Line) (taken : read text ≡ accepted lines) where
   -- the lines after a `pr` line
-  body-there : (i : ℕ) → getD (codesOf lines) i 0 ≡ 3 → Body [] 0 (drop (i + 1) lines)
+  pub body-there : (i : ℕ) → getD (codesOf lines) i 0 ≡ 3 → Body [] 0 (drop (i + 1) lines)
   body-there i begins = there (leb (length lines) i) refl
     where
       there : (b : Bool) → leb (length lines) i ≡ b → Body [] 0 (drop (i + 1) lines)

@@ -23,7 +23,7 @@ flat-append [] qs = refl
 flat-append (p ∷ ps) qs = ap (λ (l : List ℕ). p .words ++ l) (flat-append ps qs) ∙ (sym (append-assoc (p .words) (flat ps) (flat qs)))
 
 -- a cell more is taken
-cell-set : (l : List ℕ) (x n : ℕ) → length l ≡ n → n < 64 → set (cells l) n x ≡ cells (l ++ (x ∷ []))
+pub cell-set : (l : List ℕ) (x n : ℕ) → length l ≡ n → n < 64 → set (cells l) n x ≡ cells (l ++ (x ∷ []))
 unfolding cells
 cell-set l x n e h =
     let one : 64 - length l ≡ suc (63 - n) = omega arith in

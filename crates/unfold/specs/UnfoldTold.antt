@@ -1,4 +1,4 @@
--- What the unfolding of a workload tells and writes (document 01, "Unfoldings"): each node's statement ids into the lent area, one node after
+-- What the unfolding of a workload tells and writes (docs/MODEL.md, "Unfoldings"): each node's statement ids into the lent area, one node after
 -- the other (U5), and each node's program, start and length; past what is written the area keeps its contents (U6, `Settled`). Believed.
 use mathlib.Core.List.{List, [], _∷_, _++_, map}
 use Prim.Native.Nat.{ℕ, _+_, _-_}

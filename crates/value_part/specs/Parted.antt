@@ -1,4 +1,4 @@
--- What a value and a group give (document 02, Req 06; S21). Believed.
+-- What a value and a group give (Req 06; S21). Believed.
 use Prim.Native.Nat.{ℕ}
 use Rattle.spec_text.specs.declared.Workload.{Workload}
 use Rattle.spec_text.specs.Value.{Given}

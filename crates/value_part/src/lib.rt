@@ -1,4 +1,4 @@
-// Part of a workload: the value that a group of a value's programs gives (document 02, Req 06).
+// Part of a workload: the value that a group of a value's programs gives (Req 06).
 use spec_text::Line;
 use spec_text::LineKind;
 use spec_text::Workload;

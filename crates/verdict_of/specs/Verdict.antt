@@ -1,5 +1,5 @@
--- What the verdict promises for every workload value and every lent area (document 01, "Refused because of the state", "The dangerous walk";
--- document 02, Req 01; demands 2 and 3). Believed.
+-- What the verdict promises for every workload value and every lent area (docs/MODEL.md, "Refused because of the state", "The dangerous walk";
+-- Req 01; demands 2 and 3). Believed.
 use mathlib.Core.List.{List}
 use mathlib.Core.Option.{none, some}
 use Prim.Native.Nat.{ℕ, _/_}

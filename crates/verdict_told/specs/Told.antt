@@ -1,16 +1,16 @@
--- What an answer of the verdict tells (document 01, "Refused because of the state", "The dangerous walk"). Believed.
+-- What an answer of the verdict tells (docs/MODEL.md, "Refused because of the state", "The dangerous walk"). Believed.
 use Prim.Native.Nat.{ℕ}
 use Rattle.spec_report.specs.State.{Counts, counted}
 use Rattle.verdict_told.specs.declared.Totals.{Totals}
 use Rattle.verdict_told.specs.declared.Verdict.{Verdict}
 
--- document 01's answers: a refusal gives its number alone; a word comes with the counts (P1), and danger with how many steps are shown
+-- the answers of the rules: a refusal gives its number alone; a word comes with the counts (P1), and danger with how many steps are shown
 pub data Told : Type 0 where
   refused : ℕ → Told
   robust : Counts → Told
   danger : Counts → ℕ → Told
 
--- N3: document 01's number and values for every case of the answer
+-- N3: the rules' number and values for every case of the answer
 abbrev pub countsIn : Totals → Counts
 countsIn c = counted (c .programs) (c .nodes) (c .edges) (c .back)
 

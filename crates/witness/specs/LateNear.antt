@@ -1,5 +1,5 @@
 -- Req 02 gives no more than it may: a schedule without any serial order, of a workload in which the near program writes the parent late. The shield
--- as it is finds danger in it: it is document 01's example with ks before ku, its two programs in the other order. Were the parent let stand
+-- as it is finds danger in it: it is the example with ks before ku, its two programs in the other order. Were the parent let stand
 -- anywhere in the near program too, the workload would be called robust. So the near side's "before" is needed.
 use mathlib.Core.Bool.{false}
 use mathlib.Core.List.{List, [], _∷_}

@@ -90,7 +90,7 @@ tested = refl
 pub robust : Robust lines
 robust = robust-of lines tested
 
--- with document 01's shield it is dangerous: the logger's write is read by the second select (forward), and the first, which stands earlier,
+-- with the shield before Req 02 it is dangerous: the logger's write is read by the second select (forward), and the first, which stands earlier,
 -- reads before that write (back)
 pub before-dangerous : DangerousWalk (graphBy bothNear (nodesOf lines))
 unfolding openShields

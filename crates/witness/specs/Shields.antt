@@ -20,7 +20,7 @@ use Rattle.cases.specs.Computed.{allPass}
 
 -- ---- the shields
 
--- document 01's, before Req 02: on both sides the parent stands before the child
+-- the shield before Req 02: on both sides the parent stands before the child
 unfoldable pub bothNear : Place → Place → Bool
 bothNear s t = any (λ l. guardedNear (l .key) s && guardedNear (l .key) t) (s .node .links)
 

@@ -1,13 +1,13 @@
 //! `brute SEED COUNT [TEXT|--late|--loosened|--weakened] [--locks]`: brute force against demand 3, independent of any proof. COUNT robust and COUNT
-//! dangerous random small workloads (or the workload of a text file, COUNT schedules); for each, random schedules that obey document 01; for
+//! dangerous random small workloads (or the workload of a text file, COUNT schedules); for each, random schedules that obey the rules; for
 //! each schedule all orders of its transactions are tried in the serial run. Robust ones must never fail; how often dangerous
 //! ones do is printed, so that a check which cannot fail is noticed.
 //!
-//! `--late`: COUNT workloads that are robust and were dangerous by document 01's shield (document 02, Req 02). None of their schedules may
+//! `--late`: COUNT workloads that are robust and were dangerous by the shield before Req 02 (Req 02). None of their schedules may
 //! fail; beside it, how often schedules of the same texts without their links do. `--loosened`: COUNT workloads that only a wrong shield
 //! calls robust, with the near parent anywhere too. Some of their schedules must fail.
 //!
-//! `--locks`: the same with kl in every workload (document 02, Req 03). `--weakened`: COUNT workloads that are robust by their kl and dangerous
+//! `--locks`: the same with kl in every workload (Req 03). `--weakened`: COUNT workloads that are robust by their kl and dangerous
 //! with ks there, under the whole ban on writing or locking and under weaker ones, each of which lets something through that the ban forbids.
 //! Under the whole ban no schedule may fail, under each of the weaker ones some must.
 
@@ -111,7 +111,7 @@ fn try_late(random: &mut Random, count: usize) {
         let without = without_links(&text);
         try_schedules(random, &without, &read(&without).expect("as before"), SCHEDULES, false, Ban::Whole, &mut unlinked);
     }
-    println!("robust, and danger by document 01's shield; {loops} with a loop, {branches} with a branch, {own} with a link to itself");
+    println!("robust, and danger by the shield before Req 02; {loops} with a loop, {branches} with a branch, {own} with a link to itself");
     show("robust now", &late);
     show("the same without their links", &unlinked);
     end(late.failed);

@@ -2,7 +2,9 @@
 //! MODE report: the whole report is compared, also with the one that this implementation gives; the walk is judged by the checker too.
 //! MODE reader: PROGRAM prints reports; a refusal's number and line are compared, or that the text is accepted.
 //! MODE same: the whole output is compared (listings of unfoldings and edges).
+//! MODE facts: the whole output is compared with the facts that this implementation lists; no output needs to be kept.
 
+use outside::facts::facts;
 use outside::outcome::*;
 use outside::reader::read;
 use outside::report::*;
@@ -11,7 +13,7 @@ use std::path::{Path, PathBuf};
 fn main() {
     let words: Vec<String> = std::env::args().collect();
     let [_, mode, program, folder] = &words[..] else {
-        eprintln!("usage: check report|reader|same PROGRAM FOLDER");
+        eprintln!("usage: check report|reader|same|facts PROGRAM FOLDER");
         std::process::exit(2);
     };
     let (mut passed, mut failed) = (0, 0);
@@ -40,8 +42,11 @@ fn texts(folder: &Path) -> Vec<PathBuf> {
 
 fn judged(mode: &str, program: &str, path: &Path) -> Result<(), String> {
     let text = std::fs::read(path).map_err(|error| error.to_string())?;
-    let expected = std::fs::read_to_string(path.with_extension("out")).map_err(|error| format!("no expected output: {error}"))?;
     let ran = run(program, &text).map_err(|error| format!("cannot run: {error}"))?;
+    if mode == "facts" {
+        return check_same(&facts(&text), &ran);
+    }
+    let expected = std::fs::read_to_string(path.with_extension("out")).map_err(|error| format!("no expected output: {error}"))?;
     match mode {
         "report" => as_report(&text, &expected, &ran),
         "reader" => as_reading(&text, &expected, &ran),

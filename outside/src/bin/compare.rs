@@ -1,8 +1,9 @@
-//! `compare PROGRAM SEED COUNT [report|edges|unfoldings] [--locks]`: runs a program on COUNT generated texts, standard input to
+//! `compare PROGRAM SEED COUNT [report|facts|edges|unfoldings] [--locks]`: runs a program on COUNT generated texts, standard input to
 //! standard output, and compares with this implementation. PROGRAM may have arguments ("target/outside report").
 //! The first difference is printed, its text saved under found/; then the histogram and the count of checks. `--locks`: the texts have kl.
 
 use outside::arguments::words_and_locks;
+use outside::facts::facts;
 use outside::generator::text_number;
 use outside::outcome::*;
 use outside::report::*;
@@ -27,7 +28,7 @@ fn main() {
     let (Some(program), Some(Ok(seed)), Some(Ok(count))) =
         (words.get(1), words.get(2).map(|w| w.parse()), words.get(3).map(|w| w.parse()))
     else {
-        eprintln!("usage: compare PROGRAM SEED COUNT [report|edges|unfoldings] [--locks]");
+        eprintln!("usage: compare PROGRAM SEED COUNT [report|facts|edges|unfoldings] [--locks]");
         std::process::exit(2);
     };
     let shared = Shared {
@@ -71,13 +72,24 @@ fn work(shared: &Shared) {
 fn judged(shared: &Shared, text: &[u8]) -> Result<String, String> {
     let ran = run(&shared.program, text).map_err(|error| format!("cannot run: {error}"))?;
     let expected = match shared.mode.as_str() {
+        "facts" => facts(text),
         "edges" => list_edges(text),
         "unfoldings" => list_unfoldings(text),
         _ => return check_report(text, &ran),
     };
     check_same(&expected, &ran)?;
-    let refused = expected.strip_prefix(REFUSED_NAMES).and_then(|rest| rest.split(' ').next());
-    Ok(refused.map_or("listed".to_string(), |number| format!("refused {number}")))
+    Ok(if shared.mode == "facts" { told_by_facts(&expected) } else { told_by_listing(&expected) })
+}
+
+/// `refused N`, `robust` or `danger`: the first line of facts is `refused N LINE` or `verdict WORD ...`.
+fn told_by_facts(facts: &str) -> String {
+    let words: Vec<&str> = facts.split([' ', '\n']).take(2).collect();
+    if words[0] == "refused" { words.join(" ") } else { words[1].to_string() }
+}
+
+fn told_by_listing(listing: &str) -> String {
+    let refused = listing.strip_prefix(REFUSED_NAMES).and_then(|rest| rest.split(' ').next());
+    refused.map_or("listed".to_string(), |number| format!("refused {number}"))
 }
 
 fn finish(shared: &Shared) {

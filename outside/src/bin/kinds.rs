@@ -1,5 +1,5 @@
-//! `kinds [--one]`: the table of kinds (document 02, Req 04), worked out by brute force and printed as Req 05 asks. For each kind left, kind entered
-//! and letter: 0 where the letter holds for none of the sets that document 01 allows two statements on one relation, 1 where for all, 2 where for
+//! `kinds [--one]`: the table of kinds (Req 04), worked out by brute force and printed as Req 05 asks. For each kind left, kind entered
+//! and letter: 0 where the letter holds for none of the sets that the rules allow two statements on one relation, 1 where for all, 2 where for
 //! some. The reader says which sets are allowed, edges.rs which letters hold. Tried are all relations within three attributes.
 //! A letter asks no more of sets than whether two of them meet; so where it is 2 it must hold exactly where its two sets meet, and two attributes
 //! must show both. `--one` tells on standard error what relations of one attribute alone would make of the table.

@@ -1,7 +1,8 @@
-//! `outside report|edges|unfoldings|read|areas < text`: the independent program on one text. `--shield-01` after `report` or `edges`: by
-//! document 01's shield, which document 02, Req 02, changed.
+//! `outside report|facts|edges|unfoldings|read|areas < text`: the independent program on one text. `--shield-01` after `report` or `edges`: by
+//! the shield before Req 02.
 
 use outside::areas::areas;
+use outside::facts::facts;
 use outside::outcome::reading;
 use outside::report::*;
 use outside::shields::*;
@@ -17,6 +18,7 @@ fn main() {
     let words: Vec<String> = std::env::args().skip(1).collect();
     let out = match words.iter().map(String::as_str).collect::<Vec<_>>()[..] {
         ["report"] | [] => report(&text),
+        ["facts"] => facts(&text),
         ["edges"] => list_edges(&text),
         ["report", "--shield-01"] => report_by(Shield::Before, &text),
         ["edges", "--shield-01"] => list_edges_by(Shield::Before, &text),
@@ -24,7 +26,7 @@ fn main() {
         ["read"] => reading(&text),
         ["areas"] => areas(&text),
         _ => {
-            eprintln!("usage: outside report|edges|unfoldings|read|areas [--shield-01] < text, not {}", words.join(" "));
+            eprintln!("usage: outside report|facts|edges|unfoldings|read|areas [--shield-01] < text, not {}", words.join(" "));
             exit(2);
         }
     };

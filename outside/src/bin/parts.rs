@@ -1,4 +1,4 @@
-//! `parts SEED COUNT [TEXT...] [--locks]`: part of a workload (document 02, Req 06), on COUNT texts as `compare` draws them that are not too large,
+//! `parts SEED COUNT [TEXT...] [--locks]`: part of a workload (Req 06), on COUNT texts as `compare` draws them that are not too large,
 //! on COUNT small ones with late parents, on COUNT with blocks in blocks, and on the texts, of any size.
 //! For each word of programs (at most 64 drawn ones): its part is a text that is accepted, whose nodes, edge records and first walk are the whole's
 //! on the nodes of these programs; it is robust where the whole is, or where a group with one program more is. For each arm: the nodes that do not

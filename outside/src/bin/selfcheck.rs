@@ -1,7 +1,7 @@
 //! `selfcheck SEED COUNT [TPCC] [--locks]`: the fast parts of this implementation against slow literal ones, on generated texts:
 //! unfoldings by plain lists, the parents that shield by plain lists and by what the links alone say, counts by the letters, the verdict
-//! by a search over walks with a mark for "some forward edge", the walk checker by the list of edges on damaged walks. With the text of TPC-C: the published figures of source
-//! 000 with its own insert sets.
+//! by a search over walks with a mark for "some forward edge", the walk checker by the list of edges on damaged walks.
+//! With the text of TPC-C: the published figures, with the insert sets of the published work.
 
 use outside::arguments::words_and_locks;
 use outside::edges::*;
@@ -119,7 +119,7 @@ fn in_a_row(first: &[Unfolding], then: &[Unfolding]) -> Option<Vec<Unfolding>> {
     Some(first.iter().flat_map(|a| then.iter().map(move |b| [a.clone(), b.clone()].concat())).collect())
 }
 
-// ---- the shield by lists (document 02, Req 02)
+// ---- the shield by lists (Req 02)
 
 /// Each place's keys against the lists; how many back edges the lists give, unless there are many pairs of places.
 fn check_shields(lines: &[Line], nodes: &[Unfolding], spots: &[Spot]) -> Option<usize> {
@@ -281,7 +281,7 @@ fn listed(unfoldings: &Unfoldings, spots: &[Spot], edges: &[Edge], walk: &[Step]
 
 // ---- published figures
 
-/// TPC-C with the insert sets of source 000, which leave out o_carrier_id and ol_delivery_d: 13 nodes, 396 edges, 83 back.
+/// TPC-C with the insert sets of the published work, which leave out o_carrier_id and ol_delivery_d: 13 nodes, 396 edges, 83 back.
 fn published_tpcc(text: &[u8]) {
     let mut workload = read(text).expect("TPC-C is accepted");
     for line in workload.lines.iter_mut().filter(|line| line.kind == IS) {

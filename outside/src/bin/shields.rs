@@ -1,4 +1,4 @@
-//! `shields SEED COUNT [TEXT...] [--locks]`: what document 02, Req 02, changed: reports and edges by the shield and by document 01's, on COUNT
+//! `shields SEED COUNT [TEXT...] [--locks]`: what Req 02 changed: reports and edges by the shield and by the one before Req 02, on COUNT
 //! texts as `compare` draws them, on COUNT small ones with late parents, and on the texts. Back edges may only vanish, every other record must stay,
 //! and no robust verdict may turn into danger. How many reports changed is printed; of the texts, which.
 
@@ -46,7 +46,7 @@ fn main() {
     }
 }
 
-/// The reports by document 01's shield and now, where they differ.
+/// The reports by the shield before Req 02 and now, where they differ.
 fn compare(text: &[u8], tally: &mut Tally) -> Option<(String, String)> {
     tally.texts += 1;
     let (Ok(then), Ok(now)) = (unfolded_by(Shield::Before, text), unfolded_by(Shield::Now, text)) else {

@@ -1,7 +1,7 @@
 -- Bytes that are a line are seen as `see_value` sees that line; bytes that are none have fault 4 (saw-wrong).
 use Rattle.text_read.specs.ParseLaws.{saw-wrong}
 use mathlib.Core.Path.{refl, sym, ap, _∙_}
-use Rattle.spec_text.specs.Text.{lineOf}
+use Rattle.spec_text.specs.Text.{lineOf, unusedLine}
 use Rattle.text_fields.specs.Answer.{lineAnswer}
 use Rattle.text_fields.specs.AnswerLaws.{answered-value, answered-refusal}
 use borrow.Author.Needs.{needs}
@@ -34,10 +34,11 @@ returns c =
     rw line (c .before .before .see-value .ensures)
 
 returns-2 : tie.Need-returns-2
+unfolding unusedLine
 returns-2 c =
     let none-read = answered-refusal {o = lineOf (c .before .before .before .before .before .args .bytes .now)}
     (ap lineAnswer (sym (c .enum-told .given .1)) ∙ c .before .before .line-of .ensures) in
-    rw none-read (saw-wrong _ refl)
+    rw none-read (saw-wrong _ refl refl)
 
 pub see-bytes-spec : {M : Type 1} → statement M
 see-bytes-spec =

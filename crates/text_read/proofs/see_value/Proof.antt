@@ -14,7 +14,7 @@ same-length : tie.Need-same-length
 same-length c = search needs
 
 returns : tie.Need-returns
-returns c = saw-fault _ (c .before .before .before .before .args .l) (c .before .check .ensures .0) (c .if1 .taken)
+returns c = saw-fault _ (c .before .before .before .before .args .l) (c .before .check .ensures .0) refl (c .if1 .taken)
 
 take-requires : tie.Need-take-requires
 take-requires c κs = search needs
@@ -24,7 +24,8 @@ same-length-2 c = search needs
 
 returns-2 : tie.Need-returns-2
 returns-2 c = saw-line _ (c .before .before .before .before .before .before .before .before .args .l)
-    (c .before .before .before .before .before .check .ensures .0) refl (c .before .before .take .ensures .0)
+    (c .before .before .before .before .before .check .ensures .0) refl
+    (c .before .before .before .before .if1 .left) (c .before .before .take .ensures .0)
 
 pub see-value-spec : {M : Type 1} → statement M
 see-value-spec =

@@ -1,0 +1,4 @@
+pub mod Between
+pub mod Rows
+pub mod RowLaws
+pub mod BetweenExamples

@@ -1,0 +1,54 @@
+-- It is safe and ends: i is below the length where a number is read, and the measure is what is left of it.
+use borrow.Author.Needs.{needs}
+use Prim.Native.Nat.{_-_, _≤_}
+use lib.ListN.{length}
+use Rattle.explain.proofs.print_numbers.Statement.{statement}
+use Rattle.explain.proofs.print_numbers.Tie as tie
+
+-- It is safe and ends: i is below the length where a number is read, and the measure is what is left of it.
+
+abbrev Inv-loop : tie.InvT-loop
+Inv-loop numbers i₀ i = i ≤ length numbers
+
+abbrev μ-loop : tie.MeasureT-loop
+μ-loop numbers i₀ i = length numbers - i
+
+pub print-numbers-spec : {M : Type 1} → statement M
+print-numbers-spec =
+    tie.close
+    (tie.spec
+    Inv-loop
+    μ-loop
+    (λ
+    c.
+    search
+    needs)
+    (λ
+    c.
+    search
+    needs)
+    (λ
+    c.
+    search
+    needs)
+    (λ
+    c
+    κs.
+    search
+    needs)
+    (λ
+    c.
+    search
+    needs)
+    (λ
+    c.
+    search
+    needs)
+    (λ
+    c.
+    search
+    needs)
+    (λ
+    c.
+    search
+    needs))

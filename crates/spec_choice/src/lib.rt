@@ -1,0 +1,1 @@
+// Which turns and arms an execution takes: everything is in specs/.

@@ -1,0 +1,4 @@
+pub mod Before
+pub mod BeforeExamples
+pub mod BeforeLaws
+pub mod TakenLaws

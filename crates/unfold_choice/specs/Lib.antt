@@ -1,0 +1,12 @@
+pub mod ChoiceWord
+pub mod ChoicesSettled
+pub mod ToldExamples
+pub mod Telling
+pub mod TellingLaws
+pub mod LinesTold
+pub mod ChoiceTable
+pub mod ChoiceTableLaws
+pub mod NodeLaws
+pub mod ChoiceSteps
+pub mod ChoicesTell
+pub mod WordsBack

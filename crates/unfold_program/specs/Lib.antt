@@ -1,0 +1,5 @@
+pub mod ProgramSettled
+pub mod ProgramSteps
+pub mod ProgramLaws
+pub mod GivenCodes
+pub mod ProgramExamples

@@ -1,0 +1,93 @@
+// One program of a workload: where its `pr` stands, how many unfoldings it has, and how many statements stand in them.
+
+use spec_text::Workload;
+use unfold_count::count_run;
+use unfold_laws::PROGRAM;
+use value_given::is_given;
+use value_tables::write_tables;
+ghost use mathlib.Core.Path.{_≡_};
+ghost use Prim.Native.Nat.{_≤_, _<_};
+ghost use lib.ListN.{length};
+ghost use Rattle.unfold_laws.specs.Pieces.{linePrograms};
+ghost use Rattle.unfold_program.specs.ProgramSettled.{ProgramSettled, noProgram};
+ghost use Rattle.unfold_program.specs.ProgramSteps.{ProgramLine, ProgramOver};
+
+// What is told of a program: the number of the refusal, or 0 and whether there is a program with this number; the number of its `pr` line,
+// its unfoldings and the statements in them, each stopped at 513.
+pub struct ProgramUnfoldings {
+    pub refusal: u8,
+    pub found: bool,
+    pub line: u64,
+    pub count: u64,
+    pub statements: u64,
+}
+
+// The programs that begin before the next line, where so many begin before this one.
+fn programs_past(codes: &[u8], i: usize, before: u64) -> u64
+    requires { ⌜ (i < length (now codes)) × (before ≤ i) ⌝ }
+    ensures { λ r. ⌜ r ≡ linePrograms (now (codes .entry)) i before ⌝ }
+{
+    if codes[i] == PROGRAM {
+        return before + 1;
+    }
+    before
+}
+
+// The number of the `pr` line of program k; where there is none, the number of lines.
+pub fn program_line(codes: &[u8], k: u64) -> usize
+    ensures { λ r. ⌜ ProgramLine (now (codes .entry)) k r ⌝ }
+{
+    let mut before: u64 = 0;
+    let mut i: usize = 0;
+    while i < codes.len() {
+        before = programs_past(codes, i, before);
+        if k < before {
+            return i;
+        }
+        i += 1;
+    }
+    i
+}
+
+fn no_program(refusal: u8) -> ProgramUnfoldings
+    ensures { λ r. ⌜ r ≡ noProgram refusal ⌝ }
+{
+    ProgramUnfoldings {
+        refusal: refusal,
+        found: false,
+        line: 0,
+        count: 0,
+        statements: 0,
+    }
+}
+
+// The same over the codes of the lines.
+fn program_over(codes: &[u8], k: u64) -> ProgramUnfoldings
+    ensures { λ r. ⌜ ProgramOver (now (codes .entry)) k r ⌝ }
+{
+    let i = program_line(codes, k);
+    if codes.len() <= i {
+        return no_program(0);
+    }
+    let c = count_run(codes, i + 1, codes.len() - (i + 1));
+    ProgramUnfoldings {
+        refusal: 0,
+        found: true,
+        line: i as u64,
+        count: c.count,
+        statements: c.statements,
+    }
+}
+
+// Program k of a workload value: where it stands, its unfoldings and the statements in them, or refuses 21.
+pub fn program_unfoldings(w: Workload, k: u64) -> ProgramUnfoldings
+    ensures { λ r. ⌜ ProgramSettled w k r ⌝ }
+{
+    if !is_given(w) {
+        return no_program(21);
+    }
+    let n = w.count;
+    let t = write_tables(w);
+    let codes = t.codes;
+    program_over(&codes[..n], k)
+}

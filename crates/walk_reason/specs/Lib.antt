@@ -1,0 +1,3 @@
+pub mod Reason
+pub mod ReasonLaws
+pub mod ReasonExamples
