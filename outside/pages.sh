@@ -1,8 +1,9 @@
 #!/bin/sh
-# pages.sh [PROGRAM [EXPLAIN [PICTURE]]]: runs every example on the pages that people read and compares, and looks where their links lead.
-# PROGRAM reads a text on standard input and prints its report (target/bin/verdict of the repository where none is named). EXPLAIN and PICTURE are
-# commands that take a file as their last word and are run in the repository's folder (./judge --explain and ./judge --picture); they are asked only
-# where a page has such an example, and PICTURE of the texts in docs/pictures. Each page's examples are counted. Ends with status 1 where something differs, and names the page and the line.
+# pages.sh [PROGRAM [EXPLAIN [PICTURE]]]: runs every example on the pages that people read and compares, and looks where their links lead. PROGRAM
+# reads a text on standard input and prints its report (target/bin/verdict of the repository where none is named). EXPLAIN and PICTURE are commands
+# that take a file as their last word and are run in the repository's folder (./judge --explain and ./judge --picture); they are asked only where a
+# page has such an example, and PICTURE of the texts in docs/pictures. Each page's examples are counted. Ends with status 1 where something differs,
+# and names the page and the line.
 #
 # An example is a fenced block; the first word after the fence says what it holds, and other words may follow. FILE is relative to the page.
 #   workload           a text, each line ended; no line at all: the empty text. Unless it is a file's, one of those below must follow it.

@@ -1,12 +1,12 @@
 #!/bin/sh
 # run.sh PROGRAM [SEED [INSPECT]]: everything but the timings, some five minutes (with RATTLE_LIB also the exports, by `records`): builds, checks
 # this implementation against itself, its shield against the one before Req 02, its first walks against the definition, its facts against the other
-# listings and the graphs of parts against those of their wholes, then the program on all examples and vectors and on 40,000 generated texts, every report,
-# edge record and unfolding of 4,000 of them by the program inspect (beside PROGRAM unless named) and all facts of 4,000 by the program explain beside
-# PROGRAM, then brute force against demand 3; texts that arrive in pieces and inputs and outputs that fail; the script judge, with a stand-in for
-# rt; and every example on the pages that people read. Half of the texts and workloads are drawn without kl, as before Req 03, the other half with it. The table of kinds is held to the
-# rules as it stands in the source, whatever PROGRAM was built from, and as the program kinds beside PROGRAM prints it, or its recorded output where
-# there is none. The program parts beside PROGRAM is asked which texts are parts of which.
+# listings and the graphs of parts against those of their wholes, then the program on all examples and vectors and on 40,000 generated texts, every
+# report, edge record and unfolding of 4,000 of them by the program inspect (beside PROGRAM unless named) and all facts of 4,000 by the program
+# explain beside PROGRAM, then brute force against demand 3; texts that arrive in pieces and inputs and outputs that fail; the script judge, with a
+# stand-in for rt; and every example on the pages that people read. Half of the texts and workloads are drawn without kl, as before Req 03, the
+# other half with it. The table of kinds is held to the rules as it stands in the source, whatever PROGRAM was built from, and as the program kinds
+# beside PROGRAM prints it, or its recorded output where there is none. The program parts beside PROGRAM is asked which texts are parts of which.
 here="$(CDPATH= cd -- "$(dirname -- "$0")" && pwd)"
 program="${1:?usage: run.sh PROGRAM [SEED [INSPECT]]}"
 seed="${2:-1}"

@@ -1,5 +1,6 @@
-# explain.awk: puts the facts that the program explain lists of a text, and the text after them, into words. Nothing is worked out here: numbers are
-# those of the facts, lines are looked up in the text. Run with LC_ALL=C, so that a character is a byte.
+# explain.awk: puts the facts that the program explain lists of a text, and the text after them, into words. What is told of programs, nodes, edges
+# and the walk are the facts; lines, their kinds and sets are looked up in the text, and of a refused line is told which field or condition is
+# amiss. Run with LC_ALL=C, so that a character is a byte.
 
 function plural(n, one, many) { return n " " (n == 1 ? one : many) }
 
@@ -42,7 +43,7 @@ function shown(line,    i, out, b) {
     out = ""
     for (i = 1; i <= length(line); i++) {
         b = substr(line, i, 1)
-        out = out (b ~ /[ -~]/ ? b : "\\x" (b in code ? code[b] : "??"))
+        out = out (b ~ /[ -~]/ ? b : "\\x" (b in code ? code[b] : "00"))
     }
     return out
 }
@@ -85,7 +86,7 @@ function which_time(m, i, line,    list, n, k, before, all) {
     before = 0
     all = 0
     for (k = 1; k <= n; k++) if (list[k] == line) { all++; if (k <= i + 1) before++ }
-    return all < 2 ? "" : ", time " before " of " all " that the node comes by"
+    return all < 2 ? "" : " (visit " before " of " all " in this node)"
 }
 
 function statement(m, i, line) {
@@ -103,16 +104,27 @@ function attributes(s,    list, n, i, words) {
     return words
 }
 
-function letter_says(s,    l, a, b, what) {
+# what a statement does to a row
+function does(line) { return kind[line] == "is" ? "inserts" : kind[line] == "kd" || kind[line] == "pd" ? "deletes" : "writes" }
+
+# what it does it to: the attributes that were named, or the row
+function object(s, line) { return does(line) != "writes" ? "the row" : shared[s] == 1 ? "it" : "them" }
+
+# what a predicate sees of a statement: a row that is inserted or deleted, or attributes that are written
+function seen_by_predicate(s, line) {
+    if (does(line) == "writes") return "what line " line " writes: " attributes(s)
+    return "a row that line " line " " does(line) (shared[s] == 0 ? "" : "; it tests " attributes(s))
+}
+
+function letter_says(s,    l, a, b) {
     l = letter[s]
     a = "line " left_line[s]
     b = "line " entered_line[s]
-    what = shared[s] == 0 ? "" : " " attributes(s)
-    if (l == "A") return a " and " b " both write" what "; " a " does so first"
-    if (l == "B") return b " reads" what " as " a " wrote it"
-    if (l == "C") return "the predicate of " b " sees " (what == "" ? "a row that " a " inserts or deletes" : "what " a " writes:" what)
-    if (l == "D") return a " reads" what " before " b " writes it"
-    return "the predicate of " a " does not yet see " (what == "" ? "a row that " b " inserts or deletes" : "what " b " writes:" what)
+    if (l == "A") return "both write " attributes(s) ": " a " " does(left_line[s]) " first, " b " " does(entered_line[s]) " after it"
+    if (l == "B") return b " reads " attributes(s) " after " a " " does(left_line[s]) " " object(s, left_line[s])
+    if (l == "C") return "the predicate of " b " sees " seen_by_predicate(s, left_line[s])
+    if (l == "D") return a " reads " attributes(s) " before " b " " does(entered_line[s]) " " object(s, entered_line[s])
+    return "the predicate of " a " does not yet see " seen_by_predicate(s, entered_line[s])
 }
 
 function flow_says(s) {
@@ -125,7 +137,7 @@ function tell_step(s) {
     print "step " s ", " flow_says(s)
     say("  leaves  ", "          ", node(left[s]))
     say("          ", "          ", statement(left[s], left_place[s], left_line[s]))
-    say("  enters  ", "          ", node(entered[s]))
+    say("  enters  ", "          ", node(entered[s]) (left[s] == entered[s] ? "; this is another run of it" : ""))
     say("          ", "          ", statement(entered[s], entered_place[s], entered_line[s]))
     say("  why     ", "          ", "letter " letter[s] ", on relation " relation[left_line[s]] ": " letter_says(s))
     say("  edge    ", "          ", "number " edge[s] " in the list of edges (from 0); the two sets of letter " letter[s] " share " \
@@ -135,7 +147,7 @@ function tell_step(s) {
 # ---- the three answers
 
 function counts_say() {
-    return plural(counts[1], "program", "programs") ", " plural(counts[2], "unfolding", "unfoldings") " (nodes), " \
+    return plural(counts[1], "program", "programs") ", " plural(counts[2], "unfolding (node)", "unfoldings (nodes)") ", " \
         plural(counts[3], "edge", "edges") ", " counts[4] " of them back"
 }
 
@@ -160,16 +172,16 @@ function reasons(    words) {
     if (pair_earlier) words = words (words == "" ? "" : ", and ") "step " pair_second " leaves at place " left_place[pair_second] \
         ", which is earlier than place " entered_place[pair_first] ", where step " pair_first " enters"
     if (pair_loose) words = words (words == "" ? "" : ", and ") "step " pair_first " leaves " named[kind[left_line[pair_first]]] " (" \
-        kind[left_line[pair_first]] "), so that its transaction may still be open when the statement that it enters runs"
+        kind[left_line[pair_first]] "): an edge that leaves a ks, ps, pu or pd makes the pair dangerous wherever it enters"
     return words
 }
 
 function tell_danger(    s) {
     print "danger"
     print ""
-    say("", "", "Under Read Committed these programs may do what no serial order of them gives: there is a dangerous walk among " counts_say() \
-        ". A walk goes from edge to edge and ends where it began. Each edge says: the transaction that it leaves has to come before the one that " \
-        "it enters.")
+    say("", "", "These programs are not shown to be safe under Read Committed: there is a dangerous walk among " counts_say() \
+        ". A walk goes from edge to edge and ends where it began. Each time that it comes to a node stands for a transaction, and each edge " \
+        "says: the transaction that it leaves has to come before the one that it enters. So a schedule along the walk may have no serial order.")
     print ""
     say("", "", "The first dangerous walk has " plural(steps, "step", "steps") ".")
     for (s = 0; s < steps; s++) tell_step(s)
@@ -196,21 +208,36 @@ function form(k) {
     return ""
 }
 
-function right_form(k, n,    f, fields) {
+# what is amiss with a field, against the word that stands for it in the form of its kind
+function amiss(name, wanted, got) {
+    if (wanted == "-") return got == "-" ? "" : name " is `-` in such a line"
+    if (got == "-") return name " has a value in such a line"
+    if (wanted ~ /^(ATTRIBUTES|READS|WRITES|TESTS)$/)
+        return got ~ /^(0|[1-9a-f][0-9a-f]*)$/ && length(got) <= 16 ? "" \
+            : name " is a set, 1 to 16 of the digits 0 to 9 and a to f, without leading zeros"
+    return got ~ /^(0|[1-9][0-9]*)$/ && length(got) <= 3 && got + 0 <= 255 ? "" : name " is a number from 0 to 255, without leading zeros"
+}
+
+function right_form(k, n,    f, count, wanted, got, i, words, one) {
     f = form(k)
-    fields = split(text[n], fields_of, / /)
-    if (fields != 7) return plural(fields, "field stands", "fields stand") " here, parted by one space each; seven belong here" \
-        (f == "" ? "" : ": `" f "`")
-    if (f == "") return "the first field is one of rl, fk, pr, is, ks, ps, ku, pu, kd, pd, kl, lo, br, el, en and li, and six more fields follow"
-    return "`" f "`, seven fields parted by one space each, where a capital word stands for a value: a number from 0 to 255 without leading zeros" \
-        ", or a set of attributes in 1 to 16 hexadecimal digits (0 to 9, a to f) without leading zeros"
+    count = split(bytes[n], got, / /)
+    if (count != 7) return "seven fields, parted by one space each" (f == "" ? "" : ": `" f "`") "; here " plural(count, "stands", "stand") \
+        (bytes[n] ~ /  |^ | $/ ? ", an empty one counted where a space is too much" : "")
+    if (f == "") return "a kind of line in front: rl, fk, pr, is, ks, ps, ku, pu, kd, pd, kl, lo, br, el, en or li"
+    split(f, wanted, " ")
+    words = ""
+    for (i = 2; i <= 7; i++) {
+        one = amiss(field_name[i], wanted[i], got[i])
+        if (one != "") words = words (words == "" ? "" : "; ") one
+    }
+    return "`" f "`" (words == "" ? "" : ", so " words)
 }
 
 function right_order(k) {
     if (k == "rl") return "all rl lines stand first"
     if (k == "fk") return "all fk lines stand after the rl lines and before the first pr line"
     if (k == "pr" || k == "li" && programs_before > 0) return "before this line each loop and branch is closed; " \
-        plural(depth, "block is", "blocks are") " open here, and an en line closes one"
+        plural(depth, "block is", "blocks are") " open here. Each lo needs its en, each br its el and then its en"
     if (k == "li") return "a link stands in a program, and no program has begun: a pr line begins one"
     if (programs_before == 0) return "a program begins before its statements: a pr line begins one"
     if (links_before > 0) return "the statements, loops and branches of a program stand before its first li line"
@@ -284,27 +311,30 @@ function line_of_statement(s, n,    i) {
     return 0
 }
 
-function right_link(n,    f, c, p) {
+function right_link(n,    f, c, p, words) {
     f = relations_before + id[n] + 2
     c = line_of_statement(relation[n], n)
     p = line_of_statement(target[n], n)
-    return "key " id[n] " leads from relation " relation[f] " to relation " target[f] " (line " f ", `" text[f] "`), so the child is a statement of " \
-        "relation " relation[f] " and the parent one of relation " target[f] "; the parent is of kind is, ks, ku, kd or kl; and each loop and " \
-        "each arm around the parent is around the child too. Here the child is line " c ", `" text[c] "`, and the parent line " p ", `" text[p] "`"
+    words = ""
+    if (relation[c] != relation[f]) words = words "; a child of relation " relation[f] ", as key " id[n] " says (line " f ", `" text[f] "`)"
+    if (relation[p] != target[f]) words = words "; a parent of relation " target[f] ", as key " id[n] " says (line " f ", `" text[f] "`)"
+    if (kind[p] !~ /^(is|ks|ku|kd|kl)$/) words = words "; a parent of kind is, ks, ku, kd or kl"
+    if (words == "") words = "; a parent that stands in no loop and in no arm that the child does not stand in; else leave the link out"
+    return substr(words, 3) ". Here the child is line " c ", `" text[c] "`, and the parent line " p ", `" text[p] "`"
 }
 
 # the first byte of a line that no text may have
 function odd_byte(n,    at, b) {
     at = match(bytes[n], /[^ a-z0-9-]/)
-    if (at == 0) return "a byte that no text may have stands here"
+    if (at == 0) return "another byte here"
     b = substr(bytes[n], at, 1)
-    if (b == "\r") return "the line ends with a carriage return: the file has the line ends of Windows. Save it with line feeds alone, or run " \
-        "`tr -d '\\r' < FILE > NEW`"
-    if (b == "\t") return "a tab stands at column " at ": fields are parted by one space"
-    if (b ~ /[A-Z]/) return "a capital letter, " b ", stands at column " at ": kinds and hexadecimal digits are small letters"
-    if (b ~ /[!-~]/) return "the character " b " stands at column " at ", and a text has no comments and no punctuation"
-    if (n == 1 && at == 1) return "the first byte is none of these: perhaps the file begins with a byte order mark, which an editor can leave out"
-    return "a byte that is no plain letter, digit, dash or space stands at column " at
+    if (b == "\r" && at == length(bytes[n])) return "line feeds alone. The line ends with a carriage return, as editors on Windows write it: save " \
+        "the file with line feeds, or run `tr -d '\\r' < FILE > NEW`"
+    if (b == "\t") return "one space between fields; a tab stands at column " at
+    if (b ~ /[A-Z]/) return "small letters; the capital " b " stands at column " at
+    if (b ~ /[!-~]/) return "no such character; " b " stands at column " at ", and a text has no comments and no punctuation"
+    if (n == 1 && substr(bytes[n], 1, 3) == "\357\273\277") return "no byte order mark: the file begins with one, which an editor can leave out"
+    return "no such byte; \\x" (b in code ? code[b] : "00") " (hexadecimal) stands at column " at
 }
 
 function rule(number) {
@@ -324,20 +354,23 @@ function rule(number) {
 function at_end() { return refusal == 7 && at_line == lines_before + 1 }
 
 function right(number, n) {
-    if (number == 1) return "a shorter text. Programs that are parted over several texts are judged text by text, so that is no way out; " \
-        "columns that no statement needs apart can share an attribute"
+    if (number == 1) return "a shorter text. Columns that no statement needs apart can share an attribute. Programs that are parted over several " \
+        "texts are judged text by text: the answer is then for these programs alone"
     if (number == 2 && n > 0) return odd_byte(n)
-    if (number == 2) return lines == 0 ? "the file is empty: the names line alone is the shortest text" : "put a line end after the last line, `" text[lines] "`"
+    if (number == 2 && lines == 0) return "the names line at least: the file is empty"
+    if (number == 2) return "a line end after the last line, `" text[lines] "`"
     if (number == 3) return "`kind id rel to reads writes tests`"
     if (number == 4) return text[n] == "" ? "leave the empty line out" : right_form(kind[n], n)
     if (number == 9) return right_bound(kind[n])
-    if (at_end()) return "the text ends here while " plural(depth, "block is", "blocks are") " open; an en line closes one"
+    if (at_end()) return "the text ends here while " plural(depth, "block is", "blocks are") " open. Each lo needs its en, each br its el and " \
+        "then its en"
     if (number == 7) return right_order(kind[n])
     if (number == 6) return right_ids(kind[n])
     if (number == 5) return right_sets(kind[n], n)
     if (number == 8) return right_link(n)
-    return "fewer loops and branches, or fewer statements in them: a loop counts with no turn, one turn and two turns, a branch with each arm, " \
-        "and blocks in a row multiply"
+    return "fewer ways through the programs: a loop counts with no turn, one turn and two turns, a branch with each arm, and blocks in a row " \
+        "multiply. To take a loop or a branch out changes what is judged. Where both arms of a branch have one statement each, of one kind and " \
+        "relation, write it once, with the columns of both. Or judge fewer programs; the answer is then for these alone"
 }
 
 function stopped(n) { return n == 513 ? "513 or more" : n }
@@ -345,7 +378,7 @@ function stopped(n) { return n == 513 ? "513 or more" : n }
 function tell_refused(    p) {
     print "refused" (at_line > 0 ? ": line " at_line : "") ", rule " refusal
     print ""
-    if (at_line > 0) print "line " at_line ":  " text[at_line]
+    if (at_line > 0) print "line " at_line ":  `" text[at_line] "`"
     say("rule " refusal ":  ", "         ", rule(refusal))
     say("right:   ", "         ", right(refusal, at_line))
     if (refusal == 22) {
@@ -356,6 +389,7 @@ function tell_refused(    p) {
 }
 
 BEGIN {
+    split("kind id rel to reads writes tests", field_name, " ")
     named["is"] = "an insert"
     named["ks"] = "a key select"
     named["ps"] = "a predicate select"

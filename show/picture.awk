@@ -1,8 +1,10 @@
-# picture.awk: the summary graph of a text as a text for Graphviz, from the facts that the program explain lists of it and the text after them. Nothing is worked
-# out here: the numbers are those of the facts, lines are looked up in the text. A box for each program, its unfoldings in it, with the kind and the
-# relation of the statement at each place; the forward edges from one node to another as one solid line with their number, the back edges as one dashed
-# line; the first walk in colour, its steps numbered. Two nodes with forward edges both ways, none of them a step, are joined by one line with two heads
-# and both numbers.
+# picture.awk: the summary graph of a text as a text for Graphviz, from the facts that the program explain lists of it and the text after them. The
+# numbers are those of the facts, lines are looked up in the text. A box for each program, its unfoldings in it, with the kind and the relation of
+# the statement at each place; the forward edges from one node to another as one solid line with their number, the back edges as one dashed line;
+# the first walk in colour, its steps numbered. Two nodes with forward edges both ways, none of them a step, are joined by one line with two heads
+# and both numbers, that of the edges from the lower node first.
+
+function plural(n, what) { return n " " what (n == 1 ? "" : "s") }
 
 function turns(n) { return n == 0 ? "no turn" : n == 1 ? "one turn" : "two turns" }
 
@@ -19,7 +21,7 @@ function chosen(m,    i, list, n, words) {
 function stated(m,    i, list, n, words) {
     n = split(places[m], list, " ")
     words = ""
-    for (i = 1; i <= n; i++) words = words (i % 4 == 1 ? "\\n" : ", ") kind[list[i]] " " relation[list[i]]
+    for (i = 1; i <= n; i++) words = words (i % 4 == 1 ? "\\n" : ", ") kind[list[i]] " on " relation[list[i]]
     return words
 }
 
@@ -34,12 +36,13 @@ function draw(m, n, label, more) { printf "  n%d -> n%d [label=\"%s\"%s];\n", m,
 
 function draw_forward(m, n,    key) {
     key = m " " n " f"
-    draw(m, n, labelled(forward[m, n], key), coloured(key))
+    draw(m, n, labelled(forward[m, n], key), coloured(key) (m == n ? ", tailport=n, headport=n" : ""))
 }
 
 function draw_back(m, n,    key) {
     key = m " " n " b"
-    draw(m, n, labelled(back[m, n], key), ", style=dashed, color=\"#6080b0\", fontcolor=\"#3060a0\"" (key in walk ? "" : ", constraint=false") coloured(key))
+    draw(m, n, labelled(back[m, n], key), (m == n ? ", tailport=s, headport=s" : "") ", style=dashed" \
+        (key in walk ? coloured(key) : ", color=\"#6080b0\", fontcolor=\"#3060a0\", constraint=false"))
 }
 
 # both ways as one line, where no step goes along either
@@ -54,7 +57,8 @@ function draw_node(m) {
 }
 
 function draw_nodes(p,    m) {
-    printf "  subgraph cluster_%d {\n    label=\"program %d (line %d)\";\n    labelloc=b;\n    style=filled;\n    color=\"#eef2f7\";\n    rank=same;\n", p, p, program_line[p]
+    printf "  subgraph cluster_%d {\n    label=\"program %d (line %d)\";\n", p, p, program_line[p]
+    print "    labelloc=b;\n    labeljust=l;\n    style=filled;\n    color=\"#eef2f7\";\n    rank=same;"
     for (m = 0; m < nodes; m++) if (program_of[m] == p) draw_node(m)
     print "  }"
 }
@@ -81,7 +85,7 @@ function rest(from,    i, words) {
 ended { split($0, fields, " "); lines++; kind[lines] = fields[1]; relation[lines] = fields[3]; next }
 $1 == "end" { ended = 1; lines = 0 }
 $1 == "refused" { word = "refused" }
-$1 == "verdict" { word = $2; programs = $3; title = $2 ": " $3 " programs, " $4 " nodes, " $5 " edges, " $6 " back" }
+$1 == "verdict" { word = $2; programs = $3; title = $2 ": " plural($3, "program") ", " plural($4, "node") ", " plural($5, "edge") ", " $6 " back" }
 $1 == "program" { program_line[$2] = $3 }
 $1 == "node" { program_of[$2] = $3; choices[$2] = rest(5); nodes = $2 + 1 }
 $1 == "between" { forward[$2, $3] = $4; back[$2, $3] = $5 }

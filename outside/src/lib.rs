@@ -1,4 +1,4 @@
-//! The independent implementation of documents 01 and 02 in plain Rust: it shares nothing with the Rattle code.
+//! The independent implementation of the rules in plain Rust: it shares nothing with the Rattle code.
 //! Text -> workload -> unfoldings -> edges -> verdict with a walk -> report, a checker for walks,
 //! and a generator of texts. The programs under `bin/` are thin.
 

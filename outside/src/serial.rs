@@ -1,4 +1,4 @@
-//! Document 01's serial run, which takes a lock as a read, and the search for a serial order among all orders.
+//! The serial run (docs/MODEL.md), which takes a lock as a read, and the search for a serial order among all orders.
 
 use crate::schedule::*;
 

@@ -8,9 +8,9 @@ use crate::verdict::*;
 /// Where the parents stand by which two places are shielded.
 #[derive(Clone, Copy, PartialEq, Eq, Debug)]
 pub enum Shield {
-    /// Document 02, Req 02: the near parent before its child, the far one anywhere.
+    /// Since Req 02: the near parent before its child, the far one anywhere.
     Now,
-    /// Document 01: both before their children.
+    /// Before Req 02: both before their children.
     Before,
     /// Wrong: both anywhere.
     Anywhere,

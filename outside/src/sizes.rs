@@ -26,7 +26,7 @@ pub fn timed() -> Vec<Timed> {
     ]
 }
 
-/// Document 01's base text.
+/// The base text of the station.
 fn small() -> Vec<Line> {
     vec![
         relation(0, 3),

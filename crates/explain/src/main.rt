@@ -1,11 +1,10 @@
 // Tells the facts behind a report: of a refused text what was taken before the fault, of the others the programs, unfoldings and edges, and for
 // danger the first walk step by step. It reads a text on standard input and prints a line for each fact; `./judge --explain` puts them into words and
 // `./judge --picture` into a drawing. What is told is computed by functions with their own promises; this program asks them and prints.
-use edge_find::EdgeStep;
 use edge_find::edge_from;
 use edge_find::shared_by;
+use edge_list::EdgeAnswer;
 use edge_record::Edge;
-use edge_record::Found;
 use libc::STDERR_FILENO;
 use libc::STDOUT_FILENO;
 use pick_laws::STEP_WORDS;
@@ -268,27 +267,29 @@ fn step_at(walk: &[u64], steps: u64, k: u64) -> Going {
     }
 }
 
-// The first edge from some slot on, and its number among all edges, from 0.
-struct Numbered {
-    number: usize,
-    step: EdgeStep,
-}
-
-// The first edge that stands in a slot or after it: edges are found one after the other, each from after the slot of the one before. There are no
-// more of them than slots.
-fn edge_in(table: &[u64], slot: usize) -> Numbered {
+// How many edges stand before a slot: edges are found one after the other, each from after the slot of the one before. There are no more of them than
+// slots.
+fn edges_before(table: &[u64], slot: usize) -> u64 {
     let mut number: usize = 0;
     let mut from: usize = 0;
     while number < SLOTS {
         let step = edge_from(table, from);
         if slot <= step.slot {
-            return Numbered { number, step };
+            return number as u64;
         }
         from = step.slot % SLOTS + 1;
         number += 1;
     }
-    let step = edge_from(table, from);
-    Numbered { number, step }
+    number as u64
+}
+
+// Whether an edge is that of a step.
+fn is_edge_of(e: Edge, g: Going) -> bool {
+    let places = (e.node == g.node)
+        & (e.leaves == g.leaves)
+        & (e.into == g.into)
+        & (e.enters == g.enters);
+    places & ((e.flow == b'b') == (g.flow != 0))
 }
 
 // The attributes of a set in rising order.
@@ -313,28 +314,23 @@ fn print_edge(table: &[u64], e: Edge, number: u64, left: usize, entered: usize) 
     print_attributes(shared_by(e.letter, p, q));
 }
 
-// The edge of a step: it stands in the slot of the step's two places and flow.
-fn print_edge_of(table: &[u64], g: Going, left: usize, entered: usize) {
+// The edge of a step, asked for by its number: it stands in the slot of the step's two places and flow.
+fn print_edge_of(w: Workload, table: &[u64], g: Going, left: usize, entered: usize) {
     let slot = left % ROWS * ROW_SLOTS + entered % ROWS * 2 + (g.flow % 2) as usize;
-    let found = edge_in(table, slot);
-    let step = found.step;
-    let number = found.number as u64;
-    if step.slot != slot {
-        print(b" none");
-        return;
-    }
-    let edge = step.found;
-    match edge {
-        Found::There(e) => {
-            print_edge(table, e, number, left, entered);
+    let number = edges_before(table, slot);
+    let answer = edge_list::edge_number(w, number);
+    match answer {
+        EdgeAnswer::There(e) => {
+            if is_edge_of(e, g) {
+                print_edge(table, e, number, left, entered);
+            }
         }
-        Found::Absent => {
-            print(b" none");
-        }
+        EdgeAnswer::Absent => {}
+        EdgeAnswer::Refused(_) => {}
     }
 }
 
-fn tell_step(table: &[u64], starts: &[u64], words: &[u64], k: u64, g: Going) {
+fn tell_step(w: Workload, table: &[u64], starts: &[u64], words: &[u64], k: u64, g: Going) {
     let left = row_of(starts, g.node, g.leaves);
     let entered = row_of(starts, g.into, g.enters);
     print(b"step");
@@ -349,14 +345,14 @@ fn tell_step(table: &[u64], starts: &[u64], words: &[u64], k: u64, g: Going) {
             row_line(words, entered),
         ],
     );
-    print_edge_of(table, g, left, entered);
+    print_edge_of(w, table, g, left, entered);
     print(b"\n");
 }
 
-fn tell_steps(table: &[u64], starts: &[u64], words: &[u64], walk: &[u64], steps: u64) {
+fn tell_steps(w: Workload, table: &[u64], starts: &[u64], words: &[u64], walk: &[u64], steps: u64) {
     let mut k: u64 = 0;
     while k < steps {
-        tell_step(table, starts, words, k, step_at(walk, steps, k));
+        tell_step(w, table, starts, words, k, step_at(walk, steps, k));
         k += 1;
     }
 }
@@ -390,8 +386,8 @@ fn tell_pair(table: &[u64], starts: &[u64], walk: &[u64], steps: u64) {
     }
 }
 
-fn tell_walk(table: &[u64], starts: &[u64], words: &[u64], walk: &[u64], steps: u64) {
-    tell_steps(table, starts, words, walk, steps);
+fn tell_walk(w: Workload, table: &[u64], starts: &[u64], words: &[u64], walk: &[u64], steps: u64) {
+    tell_steps(w, table, starts, words, walk, steps);
     tell_pair(table, starts, walk, steps);
 }
 
@@ -409,7 +405,7 @@ fn tell_all(w: Workload, table: &[u64], programs: u64, walk: &[u64], steps: u64)
     tell_nodes(w, nodes);
     tell_places(&starts, &lengths, &words, nodes);
     tell_edges(table, nodes);
-    tell_walk(table, &starts, &words, walk, steps);
+    tell_walk(w, table, &starts, &words, walk, steps);
 }
 
 fn tell_graph(w: Workload, walk: &[u64], steps: u64) {

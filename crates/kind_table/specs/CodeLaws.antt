@@ -45,7 +45,7 @@ chance-right x k l =
     same Hanging Impossible e = absurd (omega arith)
     same Hanging Certain e = absurd (omega arith)
 
--- Req 04: it says what is so, over all sets that 01 allows
+-- Req 04: it says what is so, over all sets that the rules allow
 pub code-means : (x : Letter) (k l : StatementKind) → Means x k l (chanceIn (codeOf k l) x)
 code-means x k l = subst (Means x k l) (sym (chance-right x k l)) (chance-means x k l)
 

@@ -1,4 +1,4 @@
--- What a chance says of a letter is so: 01's rule over all sets that 01 allows, and sets on two attributes where it hangs on them.
+-- What a chance says of a letter is so: the rule over all sets that the rules allow, and sets on two attributes where it hangs on them.
 use mathlib.Core.Bool.{Bool, true, false, cond, not, _&&_, _||_}
 use mathlib.Core.Path.{_≡_, refl, sym, ap, _∙_}
 use Prim.Native.Nat.{ℕ}

@@ -1,4 +1,4 @@
--- Whether a letter can hold between two kinds of statement, over all sets that 01 allows on one relation (Req 04).
+-- Whether a letter can hold between two kinds of statement, over all sets that the rules allow on one relation (Req 04).
 use mathlib.Core.Bool.{Bool, true, false, cond, _&&_, _||_}
 use Rattle.spec_text.specs.declared.StatementKind.{StatementKind}
 use Rattle.spec_graph.specs.Edge.{hasTests, inserts, deletes, Letter}

@@ -48,8 +48,8 @@ rowShared D p q = bitAnd (p .reads) (q .writes)
 rowShared E p q = bitAnd (p .tests) (q .writes)
 
 -- EA to EE over rows, by the chances of their kinds (Req 04): what is impossible does not hold and what is certain holds, whatever sets a row has;
--- what hangs on sets holds where those of the rows meet. Between the rows of places whose sets 01 allows this is 01's rule (`holds-rows`); a table
--- with other rows is judged by it all the same.
+-- what hangs on sets holds where those of the rows meet. Between the rows of places whose sets the rules allow this is their rule (`holds-rows`); a
+-- table with other rows is judged by it all the same.
 unfoldable pub rowHolds : Letter → Row → Row → Bool
 rowHolds letter p q = told (chanceOf letter (p .kind) (q .kind)) (not (eqb (rowShared letter p q) 0))
 

@@ -123,7 +123,7 @@ shared-rows C s t = refl
 shared-rows D s t = refl
 shared-rows E s t = refl
 
--- a letter between rows is the letter between their statements, where 01 allows their sets over one relation
+-- a letter between rows is the letter between their statements, where the rules allow their sets over one relation
 pub holds-rows : (letter : Letter) {full : ℕ} (s t : Place) → Allowed full (at s) → Allowed full (at t)
     → holds letter (at s) (at t) ≡ rowHolds letter (rowOf s) (rowOf t)
 unfolding rowHolds rowOf
@@ -141,7 +141,7 @@ where-equal a b {x} {y} same = go (eqb a b) refl
 
 -- two places of lawful nodes
 module _ (lines : List Line) (s t : Place) (f : LawfulStatement lines (at s)) (g : LawfulStatement lines (at t)) where
-  -- over one relation both statements have sets that 01 allows over its set
+  -- over one relation both statements have sets that the rules allow over its set
   module _ (over : at s .relation ≡ at t .relation) where
     same-holds : (letter : Letter) → holds letter (at s) (at t) ≡ rowHolds letter (rowOf s) (rowOf t)
     same-holds letter =

@@ -81,6 +81,18 @@ U3-blocks-in-a-row : chosen (next (branch done one) (next (loop one) done))
 unfolding chosen
 U3-blocks-in-a-row = refl
 
+-- a block behind a loop stands after the loop's lines too
+U3-behind-a-loop : chosen (next (loop one) (next (branch done done) done))
+    ≡ (c 3 0 ∷ c 6 1 ∷ [])
+    ∷ (c 3 0 ∷ c 6 2 ∷ [])
+    ∷ (c 3 1 ∷ c 6 1 ∷ [])
+    ∷ (c 3 1 ∷ c 6 2 ∷ [])
+    ∷ (c 3 2 ∷ c 6 1 ∷ [])
+    ∷ (c 3 2 ∷ c 6 2 ∷ [])
+    ∷ []
+unfolding chosen
+U3-behind-a-loop = refl
+
 -- H1: an execution may take more turns than an unfolding
 H1-three-turns : choices {r = next (loop one) done}
     (step (turns (turn (step perform end) (turn (step perform end) (turn (step perform end) stop)))) end) 3 ≡ c 3 3 ∷ []

@@ -131,7 +131,7 @@ unfoldable pub sizes : List Line → ℕ × List ℕ
 unfolding graph
 sizes lines = (graph lines .size, map (graph lines .places) (numbers (graph lines .size)))
 
--- ---- Document 01's examples
+-- ---- The examples of the station
 
 -- the base text up to program 1
 abbrev pub station : List Line → List Line

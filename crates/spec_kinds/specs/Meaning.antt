@@ -34,7 +34,7 @@ setsMeet letter p q = not (eqb (shared letter p q) 0)
 abbrev pub meetsIn : Letter → {k l : StatementKind} → Pair k l → Bool
 meetsIn letter {k} {l} x = setsMeet letter (statementOf k (x .left)) (statementOf l (x .right))
 
--- Req 04: for no sets that 01 allows; for all; exactly where the letter's two sets meet, which some on two attributes do and others do not
+-- Req 04: for no sets that the rules allow; for all; exactly where the letter's two sets meet, which some on two attributes do and others do not
 abbrev pub Means : Letter → StatementKind → StatementKind → Chance → Type 0
 Means letter k l Impossible = (x : Pair k l) → holdsIn letter x ≡ false
 Means letter k l Certain = (x : Pair k l) → holdsIn letter x ≡ true

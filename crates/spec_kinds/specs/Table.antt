@@ -48,7 +48,7 @@ pairs = flatMap (λ k. map (λ l. (k, l)) kinds) kinds
 unfoldable pub tableText : (Letter → StatementKind → StatementKind → Chance) → List ℕ
 tableText entry = tableNames ++ flatMap (λ p. tableLine (p .0) (p .1) (λ x. entry x (p .0) (p .1))) pairs
 
--- Req 05: these bytes are the table: its entries say what is so by the rules, over all sets that 01 allows
+-- Req 05: these bytes are the table: its entries say what is so by the rules, over all sets that the rules allow
 pub record KindTable (bytes : List ℕ) : Type 0 where
   pub entry : Letter → StatementKind → StatementKind → Chance
   pub right : (x : Letter) (k l : StatementKind) → Means x k l (entry x k l)

@@ -1,4 +1,4 @@
--- Part of a workload: some of its programs (Req 06; what Req 07 means by a group). Believed.
+-- Part of a workload: some of its programs (Req 06). Believed.
 use mathlib.Core.Bool.{cond}
 use mathlib.Core.List.{List, [], _∷_, _++_}
 use Prim.Native.Nat.{ℕ, suc}

@@ -1,5 +1,5 @@
 -- What a walk is as numbers in the lent area (docs/MODEL.md, "The dangerous walk", "Refused because of the state"): four to a step, so an area
--- has as many steps as its length divided by four, rounded down. Labels W5, S20; reading (g). Believed.
+-- has as many steps as its length divided by four, rounded down. Labels W5, S20. Believed.
 use mathlib.Core.List.{List, _++_, flatMap}
 use Prim.Native.Nat.{ℕ, _*_}
 use lib.ListN.{length, drop}

@@ -1,6 +1,6 @@
 -- Req 02 gives more: a workload that is robust only because the far program may write the parent late, and a schedule of it with its serial order.
 -- One program shows a contact twice, after it has marked the panel; the other logs the contact first and its panel last, as our installers'
--- programs do. Document 01's shield, which asks for the parent before the child on both sides, finds danger here; the shield as it is finds none.
+-- programs do. The shield before Req 02, which asks for the parent before the child on both sides, finds danger here; the shield as it is finds none.
 use mathlib.Core.Bool.{true, false, cond}
 use mathlib.Core.List.{List, [], _∷_, map}
 use mathlib.Core.Option.{none}

@@ -9,6 +9,8 @@ use Rattle.explain.proofs.print_attributes.Tie as tie
 
 -- It is safe and ends: the measure is the number of attributes left of 64.
 
+-- It is safe and ends: the measure is the number of attributes left of 64.
+
 abbrev Inv-loop : tie.InvT-loop
 Inv-loop set k₀ k = k ≤ 64
 

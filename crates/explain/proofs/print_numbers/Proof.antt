@@ -7,6 +7,8 @@ use Rattle.explain.proofs.print_numbers.Tie as tie
 
 -- It is safe and ends: i is below the length where a number is read, and the measure is what is left of it.
 
+-- It is safe and ends: i is below the length where a number is read, and the measure is what is left of it.
+
 abbrev Inv-loop : tie.InvT-loop
 Inv-loop numbers i₀ i = i ≤ length numbers
 

@@ -11,6 +11,8 @@ use Rattle.explain.proofs.tell_graph.Tie as tie
 
 -- It is safe: the rows of a filled table lie inside it (whole-filled).
 
+-- It is safe: the rows of a filled table lie inside it (whole-filled).
+
 mul-n : tie.Need-mul-n
 mul-n c = let h = whole-filled (c .before .before .before .fill-rows .ensures) (c .before .filled .given .1) .short in record { fits = omega arith }
 

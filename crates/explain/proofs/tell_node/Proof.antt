@@ -6,6 +6,8 @@ use Rattle.explain.proofs.tell_node.Tie as tie
 
 -- It is safe and ends: the measure is the number of choices left.
 
+-- It is safe and ends: the measure is the number of choices left.
+
 abbrev Inv-loop : tie.InvT-loop
 Inv-loop node words n k₀ t9 k = k ≤ n
 

@@ -8,6 +8,8 @@ use Rattle.explain.proofs.tell_nodes.Tie as tie
 
 -- It is safe and ends: the measure is the number of nodes left.
 
+-- It is safe and ends: the measure is the number of nodes left.
+
 abbrev Inv-loop : tie.InvT-loop
 Inv-loop w nodes m₀ m = m ≤ nodes
 

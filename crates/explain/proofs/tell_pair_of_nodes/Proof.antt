@@ -6,6 +6,8 @@ use Rattle.explain.proofs.tell_pair_of_nodes.Tie as tie
 
 -- It is safe: of the edges that are counted some are back (back-within), so the forward ones are the others.
 
+-- It is safe: of the edges that are counted some are back (back-within), so the forward ones are the others.
+
 sub-t16 : tie.Need-sub-t16
 sub-t16 c = back-within _ _ _ _ _ (c .before .before .before .before .count-between .ensures)
 

@@ -4,6 +4,8 @@ use Prim.Native.Nat.{_-_, _≤_}
 use Rattle.explain.proofs.tell_places.Statement.{statement}
 use Rattle.explain.proofs.tell_places.Tie as tie
 
+-- It is safe and ends: the measure is the number of nodes left.
+
 abbrev Inv-loop : tie.InvT-loop
 Inv-loop starts lengths words nodes m₀ m = m ≤ nodes
 
@@ -16,10 +18,33 @@ tell-places-spec =
     (tie.spec
     Inv-loop
     μ-loop
-    (λ c. search needs)
-    (λ c κs. search needs)
-    (λ c κs. search needs)
-    (λ c. search needs)
-    (λ c. search needs)
-    (λ c. search needs)
-    (λ c. search needs))
+    (λ
+    c.
+    search
+    needs)
+    (λ
+    c
+    κs.
+    search
+    needs)
+    (λ
+    c
+    κs.
+    search
+    needs)
+    (λ
+    c.
+    search
+    needs)
+    (λ
+    c.
+    search
+    needs)
+    (λ
+    c.
+    search
+    needs)
+    (λ
+    c.
+    search
+    needs))

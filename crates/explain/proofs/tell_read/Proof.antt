@@ -9,6 +9,8 @@ use Rattle.explain.proofs.tell_read.Tie as tie
 
 -- It is safe: as many bytes are taken of the area as the test says it has.
 
+-- It is safe: as many bytes are taken of the area as the test says it has.
+
 slice-aggregate-tell-text : tie.Need-slice-aggregate-tell-text
 slice-aggregate-tell-text c = sym (length-take-le _ _ (c .before .if1 .taken))
 

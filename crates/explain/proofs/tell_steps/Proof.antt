@@ -5,10 +5,10 @@ use Rattle.explain.proofs.tell_steps.Statement.{statement}
 use Rattle.explain.proofs.tell_steps.Tie as tie
 
 abbrev Inv-loop : tie.InvT-loop
-Inv-loop table starts words walk steps k₀ k = k ≤ steps
+Inv-loop w table starts words walk steps k₀ k = k ≤ steps
 
 abbrev μ-loop : tie.MeasureT-loop
-μ-loop table starts words walk steps k₀ k = steps - k
+μ-loop w table starts words walk steps k₀ k = steps - k
 
 pub tell-steps-spec : {M : Type 1} → statement M
 tell-steps-spec =

@@ -6,6 +6,8 @@ use Rattle.explain.proofs.tell_unfolds.Tie as tie
 
 -- It is safe and ends: the measure is what is left of 16 programs.
 
+-- It is safe and ends: the measure is what is left of 16 programs.
+
 abbrev Inv-loop : tie.InvT-loop
 Inv-loop w p₀ t4 p = p ≤ 16
 
