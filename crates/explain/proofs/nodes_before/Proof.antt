@@ -5,8 +5,6 @@ use lib.ListN.{length}
 use Rattle.explain.proofs.nodes_before.Statement.{statement}
 use Rattle.explain.proofs.nodes_before.Tie as tie
 
--- It is safe and ends: i is below the length where a cell is read, and the measure is what is left of it.
-
 abbrev Inv-loop : tie.InvT-loop
 Inv-loop programs program i₀ i = i ≤ length programs
 
@@ -19,36 +17,11 @@ nodes-before-spec =
     (tie.spec
     Inv-loop
     μ-loop
-    (λ
-    c.
-    search
-    needs)
-    (λ
-    c.
-    search
-    needs)
-    (λ
-    c
-    κs.
-    search
-    needs)
-    (λ
-    c.
-    search
-    needs)
-    (λ
-    c.
-    search
-    needs)
-    (λ
-    c.
-    search
-    needs)
-    (λ
-    c.
-    search
-    needs)
-    (λ
-    c.
-    search
-    needs))
+    (λ c. search needs)
+    (λ c. search needs)
+    (λ c κs. search needs)
+    (λ c. search needs)
+    (λ c. search needs)
+    (λ c. search needs)
+    (λ c. search needs)
+    (λ c. search needs))

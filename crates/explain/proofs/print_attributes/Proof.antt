@@ -5,12 +5,6 @@ use lib.ListN.{set}
 use Rattle.explain.proofs.print_attributes.Statement.{statement}
 use Rattle.explain.proofs.print_attributes.Tie as tie
 
--- It is safe and ends: the measure is the number of attributes left of 64.
-
--- It is safe and ends: the measure is the number of attributes left of 64.
-
--- It is safe and ends: the measure is the number of attributes left of 64.
-
 abbrev Inv-loop : tie.InvT-loop
 Inv-loop set k₀ k = k ≤ 64
 
@@ -23,33 +17,10 @@ print-attributes-spec =
     (tie.spec
     Inv-loop
     μ-loop
-    (λ
-    c.
-    search
-    needs)
-    (λ
-    c
-    κs.
-    search
-    needs)
-    (λ
-    c
-    κs.
-    search
-    needs)
-    (λ
-    c.
-    search
-    needs)
-    (λ
-    c.
-    search
-    needs)
-    (λ
-    c.
-    search
-    needs)
-    (λ
-    c.
-    search
-    needs))
+    (λ c. search needs)
+    (λ c κs. search needs)
+    (λ c κs. search needs)
+    (λ c. search needs)
+    (λ c. search needs)
+    (λ c. search needs)
+    (λ c. search needs))

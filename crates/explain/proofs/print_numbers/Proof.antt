@@ -5,10 +5,6 @@ use lib.ListN.{length}
 use Rattle.explain.proofs.print_numbers.Statement.{statement}
 use Rattle.explain.proofs.print_numbers.Tie as tie
 
--- It is safe and ends: i is below the length where a number is read, and the measure is what is left of it.
-
--- It is safe and ends: i is below the length where a number is read, and the measure is what is left of it.
-
 abbrev Inv-loop : tie.InvT-loop
 Inv-loop numbers i₀ i = i ≤ length numbers
 
@@ -21,36 +17,11 @@ print-numbers-spec =
     (tie.spec
     Inv-loop
     μ-loop
-    (λ
-    c.
-    search
-    needs)
-    (λ
-    c.
-    search
-    needs)
-    (λ
-    c.
-    search
-    needs)
-    (λ
-    c
-    κs.
-    search
-    needs)
-    (λ
-    c.
-    search
-    needs)
-    (λ
-    c.
-    search
-    needs)
-    (λ
-    c.
-    search
-    needs)
-    (λ
-    c.
-    search
-    needs))
+    (λ c. search needs)
+    (λ c. search needs)
+    (λ c. search needs)
+    (λ c κs. search needs)
+    (λ c. search needs)
+    (λ c. search needs)
+    (λ c. search needs)
+    (λ c. search needs))

@@ -7,12 +7,6 @@ use Rattle.place_table.specs.Whole.{whole-filled}
 use Rattle.explain.proofs.tell_graph.Statement.{statement}
 use Rattle.explain.proofs.tell_graph.Tie as tie
 
--- It is safe: the rows of a filled table lie inside it (whole-filled).
-
--- It is safe: the rows of a filled table lie inside it (whole-filled).
-
--- It is safe: the rows of a filled table lie inside it (whole-filled).
-
 mul-n : tie.Need-mul-n
 mul-n c = let h = whole-filled (c .before .before .before .fill-rows .ensures) (c .before .filled .given .1) .short in record { fits = omega arith }
 
@@ -27,32 +21,12 @@ pub tell-graph-spec : {M : Type 1} → statement M
 tell-graph-spec =
     tie.close
     (tie.spec
-    (λ
-    c
-    κs.
-    search
-    needs)
-    (λ
-    c.
-    search
-    needs)
-    (λ
-    c.
-    search
-    needs)
+    (λ c κs. search needs)
+    (λ c. search needs)
+    (λ c. search needs)
     mul-n
     array-share-prefix-table
     slice-aggregate-tell-all
-    (λ
-    c
-    κs.
-    search
-    needs)
-    (λ
-    c.
-    search
-    needs)
-    (λ
-    c.
-    search
-    needs))
+    (λ c κs. search needs)
+    (λ c. search needs)
+    (λ c. search needs))

@@ -4,8 +4,6 @@ use Prim.Native.Nat.{_-_, _≤_}
 use Rattle.explain.proofs.tell_pair.Statement.{statement}
 use Rattle.explain.proofs.tell_pair.Tie as tie
 
--- It is safe and ends: the measure is the number of steps left.
-
 abbrev Inv-loop : tie.InvT-loop
 Inv-loop table starts walk steps k₀ k = k ≤ steps
 
@@ -18,32 +16,10 @@ tell-pair-spec =
     (tie.spec
     Inv-loop
     μ-loop
-    (λ
-    c.
-    search
-    needs)
-    (λ
-    c
-    κs.
-    search
-    needs)
-    (λ
-    c.
-    search
-    needs)
-    (λ
-    c.
-    search
-    needs)
-    (λ
-    c.
-    search
-    needs)
-    (λ
-    c.
-    search
-    needs)
-    (λ
-    c.
-    search
-    needs))
+    (λ c. search needs)
+    (λ c κs. search needs)
+    (λ c. search needs)
+    (λ c. search needs)
+    (λ c. search needs)
+    (λ c. search needs)
+    (λ c. search needs))

@@ -4,8 +4,6 @@ use Prim.Native.Nat.{_-_, _≤_}
 use Rattle.explain.proofs.tell_places.Statement.{statement}
 use Rattle.explain.proofs.tell_places.Tie as tie
 
--- It is safe and ends: the measure is the number of nodes left.
-
 abbrev Inv-loop : tie.InvT-loop
 Inv-loop starts lengths words nodes m₀ m = m ≤ nodes
 
@@ -18,33 +16,10 @@ tell-places-spec =
     (tie.spec
     Inv-loop
     μ-loop
-    (λ
-    c.
-    search
-    needs)
-    (λ
-    c
-    κs.
-    search
-    needs)
-    (λ
-    c
-    κs.
-    search
-    needs)
-    (λ
-    c.
-    search
-    needs)
-    (λ
-    c.
-    search
-    needs)
-    (λ
-    c.
-    search
-    needs)
-    (λ
-    c.
-    search
-    needs))
+    (λ c. search needs)
+    (λ c κs. search needs)
+    (λ c κs. search needs)
+    (λ c. search needs)
+    (λ c. search needs)
+    (λ c. search needs)
+    (λ c. search needs))

@@ -4,8 +4,6 @@ use Prim.Native.Nat.{_-_, _≤_}
 use Rattle.explain.proofs.tell_programs.Statement.{statement}
 use Rattle.explain.proofs.tell_programs.Tie as tie
 
--- It is safe and ends: the measure is the number of programs left.
-
 abbrev Inv-loop : tie.InvT-loop
 Inv-loop w table programs count p₀ p = p ≤ count
 
@@ -18,28 +16,9 @@ tell-programs-spec =
     (tie.spec
     Inv-loop
     μ-loop
-    (λ
-    c.
-    search
-    needs)
-    (λ
-    c
-    κs.
-    search
-    needs)
-    (λ
-    c.
-    search
-    needs)
-    (λ
-    c.
-    search
-    needs)
-    (λ
-    c.
-    search
-    needs)
-    (λ
-    c.
-    search
-    needs))
+    (λ c. search needs)
+    (λ c κs. search needs)
+    (λ c. search needs)
+    (λ c. search needs)
+    (λ c. search needs)
+    (λ c. search needs))
