@@ -5,8 +5,8 @@
 #   crates/inspect/{data,args,stdout}     copies of examples/ and vectors/verdict under --report; for --areas what `outside areas` says
 #   crates/verdict/{stdin,stdout}         an example that is robust
 #   crates/verdict_twice/{stdin,stdout}   an example with danger; its report is followed by that of an empty text
-#   crates/explain/{stdin,stdout}         TPC-C: loops and branches in a row, a walk by D and by E with two shared attributes and two reasons;
-#                                         what should be printed of it is what `outside facts` says
+#   crates/explain/{stdin,stdout}         the longest walk: 16 programs, 64 nodes, blocks in blocks, 65 steps, a pair across the end; what should be
+#                                         printed of it is what `outside facts` says
 #   crates/parts/{data,args,stdout}       copies of examples/: all groups of the programs of SmallBank and of Auction, each with the text that is
 #                                         named by these programs; then some pairs that do not agree. What it should print is said here
 # VECTORS is a folder that spread-vectors.sh made, with vectors added to it or changed. No output of the proved program goes in here.
@@ -80,8 +80,8 @@ cp "$root/examples/$robust.txt" "$made/verdict/stdin"
 cp "$root/examples/$robust.out" "$made/verdict/stdout"
 cp "$root/examples/$danger.txt" "$made/verdict_twice/stdin"
 cat "$root/examples/$danger.out" "$root/examples/$empty.out" > "$made/verdict_twice/stdout"
-cp "$root/examples/tpcc.txt" "$made/explain/stdin"
-"$here/target/outside" facts < "$root/examples/tpcc.txt" > "$made/explain/stdout"
+cp "$root/examples/longest-walk-back.txt" "$made/explain/stdin"
+"$here/target/outside" facts < "$root/examples/longest-walk-back.txt" > "$made/explain/stdout"
 
 # the next two words that parts is run on, the second the name of an example, and what it should say of them
 ask() { # WORD EXAMPLE ANSWER

@@ -19,6 +19,8 @@ use Rattle.place_row.specs.RowTable.{rowAt, rowCount, rowForward, rowBack, rowE
 use Rattle.edge_count.specs.declared.Counts.{Counts}
 use Rattle.edge_count.specs.Slots.{tableEdges, pairCounts, one}
 use Rattle.edge_count.specs.Flattened.{numbersFrom-append}
+-- the closed theorems first, so that a changed definition fails there
+use Rattle.edge_between.specs.BetweenExamples.{two-nodes}
 use Rattle.edge_between.specs.Between.{inRange, goes, countsBetween}
 use Rattle.edge_between.specs.Rows.{nothingCounted, enters, entersBack, goesBack, pairEntering, leaving, rowEntering, rowBetween, Few, sumTo}
 

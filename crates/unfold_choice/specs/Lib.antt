@@ -10,3 +10,4 @@ pub mod NodeLaws
 pub mod ChoiceSteps
 pub mod ChoicesTell
 pub mod WordsBack
+pub mod OneAnswer

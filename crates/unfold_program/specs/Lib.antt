@@ -3,3 +3,4 @@ pub mod ProgramSteps
 pub mod ProgramLaws
 pub mod GivenCodes
 pub mod ProgramExamples
+pub mod OneAnswer

@@ -12,6 +12,8 @@ use Rattle.edge_kinds.specs.Kinds.{kindFacts}
 use Rattle.edge_kinds.specs.KindLaws.{told}
 use Rattle.report_bytes.specs.Bytes.{flowOf}
 use Rattle.walk_reason.specs.declared.Reasons.{Reasons}
+-- the closed theorems first, so that a changed definition fails there
+use Rattle.walk_reason.specs.ReasonExamples.{W4-earlier}
 use Rattle.walk_reason.specs.Reason.{reasonsOf, SaidOf}
 
 -- a flow is back where its word is not 0
