@@ -108,8 +108,8 @@ fn is_before(program: u8, other: u64) -> bool {
     (program as u64) < other
 }
 
-// How many of the first nodes are of programs before one: programs go in order, so these are the nodes before its own. Cells past the last node are of
-// no node, so that they may count.
+// How many of the first nodes are of programs before one: programs go in order, so these are the nodes before its own. Cells past the last node are
+// of no node, so that they may count.
 fn nodes_before(programs: &[u8], program: u64) -> u64 {
     let mut i: usize = 0;
     while i < programs.len() {
