@@ -1,6 +1,6 @@
 #!/bin/sh
 # build.sh [PROGRAM ...]: builds the independent implementation and its programs with rustc alone, into outside/target.
-# RATTLE_LIB=path/libexports.a links the proved code's exports into `bench` and `records` (see src/rattle.rs).
+# RATTLE_LIB=path/libexports_lent.a links the proved code's exports into `bench` and `records` (see src/rattle.rs).
 set -e
 rattle=""
 for library in $RATTLE_LIB; do

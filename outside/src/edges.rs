@@ -1,6 +1,7 @@
 //! The edges of the summary graph (docs/MODEL.md, "Edges"; the shield as Req 02 changed it, kl as Req 03 says): the letters A to E
 //! literally, and the list of records in order.
 
+use crate::groups::Groups;
 use crate::unfolding::*;
 use crate::workload::*;
 
@@ -118,26 +119,29 @@ pub fn back_letter(p: &Spot, q: &Spot) -> u8 {
 // ---- the places with their shields
 
 /// The spots of all places, in the order of the unfoldings.
-pub fn spots(workload: &Workload, unfoldings: &Unfoldings) -> [Spot; MAX_PLACES] {
-    let mut out = [EMPTY_SPOT; MAX_PLACES];
+pub fn spots(workload: &Workload, unfoldings: &Unfoldings) -> Vec<Spot> {
+    let mut out = Vec::new();
+    spots_into(workload, unfoldings, &mut out);
+    out
+}
+
+/// The same into a list that is lent.
+pub fn spots_into(workload: &Workload, unfoldings: &Unfoldings, out: &mut Vec<Spot>) {
+    out.clear();
     let links = Links::of(workload);
-    for node in unfoldings.all() {
-        let places = &unfoldings.place[node.start as usize..][..node.length as usize];
-        for at in 0..places.len() {
-            let line = &workload.lines[places[at].line as usize];
-            let (near, far) = keys_to_parents(workload, &links, node.program as usize, places, at);
-            out[node.start as usize + at] = Spot {
-                kind: line.kind,
-                rel: line.rel,
-                reads: line.reads,
-                writes: line.writes,
-                tests: line.tests,
-                near,
-                far,
-            };
+    let mut twins = Twins { last: [NO_PLACE; MAX_STATEMENTS], before: [NO_PLACE; MAX_PLACES] };
+    for (m, node) in unfoldings.all().iter().enumerate() {
+        let (places, start) = (unfoldings.places_of(m), out.len());
+        out.extend(places.iter().map(|place| {
+            let &Line { kind, rel, reads, writes, tests, .. } = &workload.lines[place.line as usize];
+            Spot { kind, rel, reads, writes, tests, near: 0, far: 0 }
+        }));
+        let links = &workload.lines[links.first[node.program as usize] as usize..links.end[node.program as usize] as usize];
+        if !links.is_empty() {
+            twins.chain(workload, places);
+            links.iter().for_each(|link| shield(link, &twins, places, &mut out[start..]));
         }
     }
-    out
 }
 
 /// Where each program's links and first statements lie among the lines.
@@ -169,25 +173,44 @@ impl Links {
     }
 }
 
-/// The keys by which the place is linked to a writing or locking parent, within the turn of each loop around the parent: to one before it, and to one
-/// anywhere in the node.
-fn keys_to_parents(workload: &Workload, links: &Links, program: usize, places: &[Place], at: usize) -> (u32, u32) {
-    let own = &places[at];
-    let id = workload.lines[own.line as usize].id;
-    let (mut near, mut far) = (0, 0);
-    for link in &workload.lines[links.first[program] as usize..links.end[program] as usize] {
-        if link.rel == id && near & 1 << link.id == 0 {
-            let bound = |place: &Place| {
-                let parent = &workload.lines[place.line as usize];
-                let mask = ((1u16 << place.loops) - 1) as u8;
-                parent.id == link.to && matches!(parent.kind, IS | KU | KD | KL) && own.turns & mask == place.turns
-            };
-            let before = places[..at].iter().any(bound);
-            near |= (before as u32) << link.id;
-            far |= ((before || places[at..].iter().any(bound)) as u32) << link.id;
+const NO_PLACE: u16 = u16::MAX;
+
+/// The places of each statement of a node, which are several in loops: the last one, and for each place the one before it.
+struct Twins {
+    last: [u16; MAX_STATEMENTS],
+    before: [u16; MAX_PLACES],
+}
+
+impl Twins {
+    fn chain(&mut self, workload: &Workload, places: &[Place]) {
+        self.last = [NO_PLACE; MAX_STATEMENTS];
+        for (at, place) in places.iter().enumerate() {
+            let last = &mut self.last[workload.lines[place.line as usize].id as usize];
+            self.before[at] = *last;
+            *last = at as u16;
         }
     }
-    (near, far)
+
+    fn of(&self, id: u8) -> impl Iterator<Item = usize> + '_ {
+        let place = |at: u16| if at == NO_PLACE { None } else { Some(at as usize) };
+        std::iter::successors(place(self.last[id as usize]), move |&at| place(self.before[at]))
+    }
+}
+
+/// A link gives its key to each place of its child with a writing or locking parent, within the turn of each loop around the parent: one before it,
+/// and one anywhere in the node.
+fn shield(link: &Line, twins: &Twins, places: &[Place], spots: &mut [Spot]) {
+    for parent in twins.of(link.to) {
+        if !matches!(spots[parent].kind, IS | KU | KD | KL) {
+            return;
+        }
+        let Place { turns, loops, .. } = places[parent];
+        let mask = ((1u16 << loops) - 1) as u8;
+        for child in twins.of(link.rel).filter(|&child| places[child].turns & mask == turns) {
+            spots[child].near |= ((parent < child) as u32) << link.id;
+            spots[child].far |= 1 << link.id;
+        }
+    }
 }
 
 // ---- the list of records
@@ -208,7 +231,7 @@ pub fn count(unfoldings: &Unfoldings, spots: &[Spot]) -> (usize, usize) {
 
 /// Puts the edges into `out`, ordered by node and place left, node and place entered, forward first; gives their
 /// number, or nothing (and `out` untouched) where `out` is too short.
-pub fn fill(unfoldings: &Unfoldings, spots: &[Spot], out: &mut [Edge]) -> Option<usize> {
+pub fn fill(unfoldings: &Unfoldings, spots: &[Spot], groups: &Groups, out: &mut [Edge]) -> Option<usize> {
     if out.len() < 2 * unfoldings.places * unfoldings.places && out.len() < count(unfoldings, spots).0 {
         return None;
     }
@@ -216,12 +239,11 @@ pub fn fill(unfoldings: &Unfoldings, spots: &[Spot], out: &mut [Edge]) -> Option
     for (m, from) in unfoldings.all().iter().enumerate() {
         for i in 0..from.length {
             let p = &spots[(from.start + i) as usize];
-            for (n, to) in unfoldings.all().iter().enumerate() {
-                for (j, q) in spots[to.start as usize..][..to.length as usize].iter().enumerate() {
-                    if p.rel == q.rel {
-                        let ends = Edge { node: m as u64, leaves: i as u64, into: n as u64, enters: j as u64, ..EMPTY_EDGE };
-                        filled += put(p, q, ends, &mut out[filled..]);
-                    }
+            for run in groups.runs(p.rel as usize) {
+                let start = unfoldings.node[run.node as usize].start;
+                for (q, place) in groups.spots[run.range()].iter().zip(&groups.order[run.range()]) {
+                    let ends = Edge { node: m as u64, leaves: i as u64, into: run.node as u64, enters: (place - start) as u64, ..EMPTY_EDGE };
+                    filled += put(p, q, ends, &mut out[filled..]);
                 }
             }
         }
@@ -232,7 +254,7 @@ pub fn fill(unfoldings: &Unfoldings, spots: &[Spot], out: &mut [Edge]) -> Option
 /// The same as a list of their own.
 pub fn list(unfoldings: &Unfoldings, spots: &[Spot]) -> Vec<Edge> {
     let mut edges = vec![EMPTY_EDGE; count(unfoldings, spots).0];
-    fill(unfoldings, spots, &mut edges).expect("as long as the count");
+    fill(unfoldings, spots, &Groups::of(unfoldings, spots), &mut edges).expect("as long as the count");
     edges
 }
 

@@ -67,13 +67,14 @@ impl Program {
     }
 }
 
-/// Reads a text into `into`. On a refusal nothing is loaded: `into` is left empty.
+/// Reads a text into `into`, which may hold another one from before: lines past its count are not looked at. On a refusal nothing is
+/// loaded: `into` is left empty.
 pub fn read_into(text: &[u8], into: &mut Workload) -> Result<(), Refusal> {
-    clear(into);
+    into.count = 0;
     whole_text(text)?;
     let outcome = lines(text, into);
     if outcome.is_err() {
-        clear(into);
+        into.count = 0;
     }
     outcome
 }
@@ -92,13 +93,6 @@ pub fn taken_before_fault(text: &[u8]) -> Box<Workload> {
         let _ = lines(text, &mut workload);
     }
     workload
-}
-
-fn clear(into: &mut Workload) {
-    for line in &mut into.lines[..into.count] {
-        *line = EMPTY_LINE;
-    }
-    into.count = 0;
 }
 
 fn refusal(number: u8, line: usize) -> Result<(), Refusal> {

@@ -1,6 +1,7 @@
-//! The workloads that are timed: small, middle, largest (64 nodes, 512 statements, every pair of places an edge; robust and danger), kinds mixed, and
-//! texts at their bounds.
+//! The workloads that are timed: small, middle, largest (64 nodes, 512 statements, every pair of places an edge; robust and danger), kinds mixed,
+//! many relations, links, loops and branches, and texts at their bounds.
 
+use crate::growth::*;
 use crate::lines::*;
 use crate::random::Random;
 use crate::workload::*;
@@ -21,6 +22,13 @@ pub fn timed() -> Vec<Timed> {
         of("largest danger, last", &largest(late_danger)),
         of("mixed kinds", &mixed_kinds(1)),
         of("mixed kinds, 4 relations", &mixed_kinds(4)),
+        of("many relations", &over_relations(MAX_RELATIONS)),
+        of("many links", &linked(1, MAX_LINKS)),
+        of("many links, 32 relations", &linked(MAX_RELATIONS, MAX_LINKS)),
+        of("long loops", &loops(5, 1, MAX_STATEMENTS)),
+        of("nested loops", &loops(4, 2, 6)),
+        of("branch chain", &branch_chain()),
+        of("nested branches", &nested_branches()),
         of("most lines", &most_lines()),
         of("most bytes", &most_bytes()),
     ]
@@ -108,6 +116,41 @@ fn selects_and_updates() -> Vec<Line> {
             lines.extend([plain(BR, 0), plain(EL, 0), plain(EN, 0), plain(BR, 0), plain(EL, 0), plain(EN, 0)]);
             lines.push(statement(PS, 0, 0, 3, 0, 3));
         }
+    }
+    lines
+}
+
+/// So many programs, each of loops in one another around so many statements. Two loops around each other have 13 unfoldings, three have 183.
+fn loops(programs: usize, depth: usize, statements: usize) -> Vec<Line> {
+    let mut lines = vec![relation(0, 3)];
+    for program in 0..programs {
+        lines.push(plain(PR, program));
+        lines.extend((0..depth).map(|_| plain(LO, 0)));
+        lines.extend((0..statements).map(|id| select_or_update(id, 0)));
+        lines.extend((0..depth).map(|_| plain(EN, 0)));
+    }
+    lines
+}
+
+/// One program of six branches, one after the other, and two statements: 64 nodes of eight statements.
+fn branch_chain() -> Vec<Line> {
+    let mut lines = vec![relation(0, 3), plain(PR, 0)];
+    for id in (0..12).step_by(2) {
+        lines.extend([plain(BR, 0), select_or_update(id, 0), plain(EL, 0), select_or_update(id + 1, 0), plain(EN, 0)]);
+    }
+    lines.extend((12..14).map(|id| select_or_update(id, 0)));
+    lines
+}
+
+/// Seven programs of branches in each other's first arm, as deep as may be, two statements in each: 63 nodes.
+fn nested_branches() -> Vec<Line> {
+    let mut lines = vec![relation(0, 3)];
+    for program in 0..7 {
+        lines.push(plain(PR, program));
+        for depth in 0..MAX_DEPTH {
+            lines.extend([plain(BR, 0), select_or_update(2 * depth, 0), select_or_update(2 * depth + 1, 0)]);
+        }
+        lines.extend((0..MAX_DEPTH).flat_map(|_| [plain(EL, 0), plain(EN, 0)]));
     }
     lines
 }

@@ -76,18 +76,29 @@ fn one_after_the_other(a: Count, b: Count) -> Count {
     capped(a.unfoldings * b.unfoldings, a.statements * b.unfoldings + b.statements * a.unfoldings)
 }
 
-/// For each line: the count of its run from it on; for a block's opener and for `el`, the line of the partner.
-struct Shape {
+/// For each line: the count of its run from it on; for a block's opener and for `el`, the line of the partner. Only what stands at the lines that
+/// are there is looked at, so that one shape serves many workloads and is never cleared.
+pub struct Shape {
     rest: [Count; MAX_LINES + 1],
     partner: [u16; MAX_LINES],
 }
 
+impl Shape {
+    pub fn empty() -> Shape {
+        Shape { rest: [ONE; MAX_LINES + 1], partner: [0; MAX_LINES] }
+    }
+}
+
 /// The unfoldings, or nothing where there are over 64 or over 512 statements in them (refusal 22).
 pub fn unfold(workload: &Workload, out: &mut Unfoldings) -> bool {
+    unfold_by(workload, &mut Shape::empty(), out)
+}
+
+/// The same with a shape that is lent.
+pub fn unfold_by(workload: &Workload, shape: &mut Shape, out: &mut Unfoldings) -> bool {
     out.nodes = 0;
     out.places = 0;
-    let mut shape = Shape { rest: [ONE; MAX_LINES + 1], partner: [0; MAX_LINES] };
-    let total = measure(workload.taken(), &mut shape);
+    let total = measure(workload.taken(), shape);
     if total.unfoldings > MAX_NODES as u64 || total.statements > MAX_PLACES as u64 {
         return false;
     }
@@ -95,7 +106,7 @@ pub fn unfold(workload: &Workload, out: &mut Unfoldings) -> bool {
     for (at, line) in workload.taken().iter().enumerate() {
         if line.kind == PR {
             for k in 0..shape.rest[at + 1].unfoldings {
-                write_node(workload.taken(), &shape, program, at + 1, k, out);
+                write_node(workload.taken(), shape, program, at + 1, k, out);
             }
             program += 1;
         }
@@ -112,7 +123,7 @@ pub struct ProgramCounts {
 
 /// The counts of each program, also where they are too many to be unfolded.
 pub fn counts_by_program(workload: &Workload) -> Vec<ProgramCounts> {
-    let mut shape = Shape { rest: [ONE; MAX_LINES + 1], partner: [0; MAX_LINES] };
+    let mut shape = Shape::empty();
     measure(workload.taken(), &mut shape);
     let begins = (0..workload.count).filter(|&at| workload.lines[at].kind == PR);
     begins
@@ -128,6 +139,7 @@ fn measure(lines: &[Line], shape: &mut Shape) -> Count {
     let mut total = Count { unfoldings: 0, statements: 0 };
     let mut open = [0usize; 2 * MAX_DEPTH];
     let mut depth = 0;
+    shape.rest[lines.len()] = ONE;
     for at in (0..lines.len()).rev() {
         let after = shape.rest[at + 1];
         shape.rest[at] = match lines[at].kind {

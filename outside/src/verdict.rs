@@ -40,8 +40,20 @@ pub fn judge(workload: &Workload, walk: &mut [Step; MAX_STEPS]) -> Option<Verdic
 }
 
 pub fn judge_graph(programs: usize, unfoldings: &Unfoldings, spots: &[Spot], walk: &mut [Step; MAX_STEPS]) -> Verdict {
-    let places = QuickPlaces::of(&spots[..unfoldings.places]);
-    let graph = Graph::of(&places, unfoldings.all().iter().map(|node| node.length as usize));
+    judge_in(&mut Room::default(), programs, unfoldings, spots, walk)
+}
+
+/// What a graph is made in: one serves many.
+#[derive(Default)]
+pub struct Room {
+    places: QuickPlaces,
+    marks: Marks,
+}
+
+/// The same in a room that is lent.
+pub fn judge_in(room: &mut Room, programs: usize, unfoldings: &Unfoldings, spots: &[Spot], walk: &mut [Step; MAX_STEPS]) -> Verdict {
+    room.places.take(unfoldings, spots);
+    let graph = Graph::of(&room.places, &mut room.marks, unfoldings.all().iter().map(|node| node.length as usize));
     let steps = first_walk(&graph, u64::MAX, walk);
     Verdict { programs, nodes: graph.nodes, edges: graph.edges, back: graph.back, steps }
 }

@@ -82,7 +82,7 @@ step-letter x flow p q E.Letter.D e = rw e
 step-letter x flow p q E.Letter.E e = rw e
 
 -- the letter between two rows is that of the edge, where one stands
-letter-of : (flow : G.Flow) (p q : Row) → letterBetween flow p q ≡ cond (rowStands flow p q) (byteOf (rowLetter flow p q)) 0
+pub letter-of : (flow : G.Flow) (p q : Row) → letterBetween flow p q ≡ cond (rowStands flow p q) (byteOf (rowLetter flow p q)) 0
 unfolding letterBetween rowForward rowBack rowLetter
 letter-of G.Flow.forward p q = refl
 letter-of G.Flow.back p q = refl
@@ -91,19 +91,19 @@ letter-of G.Flow.back p q = refl
 
 module _ (table : List ℕ) where
   -- as many edges stand in all slots as there are edges
-  below-all : edgesBelow table (slots table) ≡ length (tableEdges table)
+  pub below-all : edgesBelow table (slots table) ≡ length (tableEdges table)
   below-all = edges-below table (slots table) ∙ sym (ap length (edges-flat table))
 
-  below-more : (x d : ℕ) → edgesBelow table x ≤ edgesBelow table (x + d)
+  pub below-more : (x d : ℕ) → edgesBelow table x ≤ edgesBelow table (x + d)
   unfolding edgesBelow
   below-more x zero = let e = ap (edgesBelow table) (add-zero x) in omega arith
   below-more x (suc d) = let h = below-more x d in let e = ap (edgesBelow table) (add-suc x d) in omega arith
 
   -- nothing stands from x on, for d slots
-  abbrev Empty : ℕ → ℕ → Type 0
+  abbrev pub Empty : ℕ → ℕ → Type 0
   Empty x d = (y : ℕ) → x ≤ y → y < x + d → standsAt table y ≡ false
 
-  below-same : (x d : ℕ) → Empty x d → edgesBelow table (x + d) ≡ edgesBelow table x
+  pub below-same : (x d : ℕ) → Empty x d → edgesBelow table (x + d) ≡ edgesBelow table x
   unfolding edgesBelow
   below-same x zero empty = ap (edgesBelow table) (add-zero x)
   below-same x (suc d) empty =
@@ -133,7 +133,7 @@ module _ (table : List ℕ) where
   next-end x h = let s : slots table - x ≡ 0 = omega arith in ap (λ (k : ℕ). nextFrom table k x) s
 
   -- the edge in a slot has the number of the edges before it
-  number-here : (x : ℕ) → x < slots table → standsAt table x ≡ true
+  pub number-here : (x : ℕ) → x < slots table → standsAt table x ≡ true
       → getElem? (tableEdges table) (edgesBelow table x) ≡ some (slotEdge table x)
   unfolding flatMap slotEdges
   number-here x h e =

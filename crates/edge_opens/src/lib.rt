@@ -5,7 +5,8 @@ use edge_word::back_edge;
 use edge_word::forward_edge;
 ghost use mathlib.Core.Path.{_≡_};
 ghost use Rattle.pick_laws.specs.Pick.{dangerousPicks};
-ghost use Rattle.pick_laws.specs.Completing.{opensBelow};
+ghost use Prim.Native.Nat.{_≤_};
+ghost use Rattle.pick_laws.specs.Completing.{opensBelow, leavesAt};
 ghost use Rattle.edge_word.specs.Coding.{forwardPick, backPick};
 
 // W4: a back edge that leaves at a place below this is dangerous after the forward edge of the word; 0 for no edge.
@@ -20,6 +21,16 @@ pub fn opens_below(word: u64) -> u64
         return PLACES;
     }
     e.enters
+}
+
+// The place at which the back edge of a word leaves; 1024 where there is no edge.
+pub fn leaves_at(word: u64) -> u64
+    ensures { λ r. ⌜ (r ≡ leavesAt (backPick word)) × (r ≤ 1024) ⌝ }
+{
+    if word == 0 {
+        return PLACES;
+    }
+    back_edge(word).leaves
 }
 
 // Whether the forward edge of word x and the back edge of word y after it are dangerous (W4): the back edge leaves at an earlier place than the

@@ -1,2 +1,4 @@
+pub mod Cursors
+pub mod CursorLaws
 pub mod Put
 pub mod PutLaws

@@ -1,11 +1,10 @@
 -- Edges by their numbers, and edges put into a list. Believed: `putSaid` and `PutAs`.
 use mathlib.Core.Path.{_≡_}
-use mathlib.Core.Bool.{cond}
+use mathlib.Core.Bool.{Bool, cond}
 use mathlib.Core.Logic.{_⊎_, inl, inr}
 use mathlib.Core.Option.{some}
 use mathlib.Core.List.{List, _++_, map}
 use Prim.Native.Nat.{ℕ, _+_, _≤_, _<_}
-use lib.Dec.{eqb, leb}
 use lib.ListN.{length, take, drop, getElem?}
 use Rattle.spec_graph.specs.Edge as E
 use Rattle.edge_record.specs.declared.Edge.{Edge}
@@ -30,17 +29,13 @@ pub record Numbered (table : List ℕ) (k : ℕ) (step : Next) : Type 0 where
   pub after : edgesBelow table (step .slot + 1) ≡ k + 1
   pub few : step .slot < 524288
 
--- how many of n edges are put: all, or none where they do not fit
-unfoldable pub fittingIn : ℕ → ℕ → ℕ
-fittingIn n room = cond (leb n room) n 0
-
 -- the first k of a list put at the front of an area
 abbrev pub putFirst : List Edge → List Edge → ℕ → List Edge
 putFirst list area k = take k list ++ drop k area
 
--- the answer where n of all edges are put
-unfoldable pub answerFor : ℕ → ℕ → Put
-answerFor total n = cond (eqb n total) (All total) (Refused 20)
+-- the answer where k edges are put: all, or none where they do not fit
+unfoldable pub answerFor : Bool → ℕ → Put
+answerFor fits k = cond fits (All k) (Refused 20)
 
 -- N3: what the answer says: a refusal's number, or how many edges are put
 unfoldable pub putSaid : Put → ℕ ⊎ ℕ

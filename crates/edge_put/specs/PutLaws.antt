@@ -1,18 +1,20 @@
 -- Laws of edges by their numbers, and of edges put one after the other.
 use mathlib.Core.Path.{_≡_, refl, sym, ap, _∙_}
 use mathlib.Core.Bool.{Bool, true, false, cond}
+use mathlib.Core.Logic.{inr}
 use mathlib.Core.Option.{none, some}
 use mathlib.Core.List.{List, [], _∷_, _++_, map}
-use Prim.Native.Nat.{ℕ, zero, suc, _+_, _≤_, _<_}
+use Prim.Native.Nat.{ℕ, zero, suc, _+_, _*_, _≤_, _<_}
 use native.Mathlib.Nat.{not-suc-le-zero, le-of-suc-le-suc}
 use native.Mathlib.Numerals.{add-one}
 use native.Mathlib.Omega.{arith}
 use lib.Dec.{leb}
 use lib.ListN.{length, set, take, drop, getElem?, length-append, length-drop, length-map}
 use lib.Seq.{take-length, length-take-le}
-use borrow.Author.Tests.{leb-true, leb-false, le-leb, lt-leb, eq-eqb, ne-eqb}
-use Rattle.law_base.specs.ListLaws.{getElem?-past, some-injective}
+use borrow.Author.Tests.{leb-true, leb-false}
+use Rattle.law_base.specs.ListLaws.{getElem?-lt, getElem?-past, some-injective}
 use Rattle.spec_graph.specs.Edge as E
+use Rattle.place_row.specs.RowTable.{rowCount}
 use Rattle.edge_record.specs.declared.Edge.{Edge}
 use Rattle.edge_find.specs.declared.EdgeStep.{EdgeStep}
 use Rattle.edge_record.specs.declared.Found.the-variants.{There, Absent}
@@ -21,11 +23,15 @@ use Rattle.edge_record.specs.Coded.{coded, foundAs}
 use Rattle.edge_count.specs.Slots.{tableEdges, tableCounts, slots, edgesBelow}
 use Rattle.edge_find.specs.Search.{edgeFrom}
 use Rattle.edge_count.specs.SlotLaws.{rows-small}
-use Rattle.edge_find.specs.SearchLaws.{edge-after}
+use Rattle.edge_find.specs.SearchLaws.{edge-after, below-all}
 use Rattle.edge_put.specs.declared.Next.{Next}
 use Rattle.edge_put.specs.declared.Put.{Put}
 use Rattle.edge_put.specs.declared.Put.the-variants.{All, Refused}
-use Rattle.edge_put.specs.Put.{records, Ahead, Numbered, fittingIn, putFirst, answerFor, putSaid, PutAs}
+use Rattle.edge_put.specs.declared.Cursor.{Cursor}
+use Rattle.edge_put.specs.declared.Step.{Step}
+use Rattle.edge_put.specs.Cursors.{startFor, rowStart, slotOf, Standing, Found}
+use Rattle.edge_put.specs.CursorLaws.{below-most}
+use Rattle.edge_put.specs.Put.{records, Ahead, Numbered, putFirst, answerFor, putSaid, PutAs}
 use Rattle.edge_put.specs.Put.PutAs.{short, put}
 
 -- how many edges there are
@@ -100,23 +106,6 @@ found-none table k n c l = sym (ap foundAs (getElem?-past (tableEdges table) k (
 
 -- ---- edges put
 
-pub fitting-all : (n room : ℕ) → n ≤ room → n ≡ fittingIn n room
-unfolding fittingIn
-fitting-all n room h = simp (le-leb n room h)
-
-pub fitting-none : (n room : ℕ) → room < n → 0 ≡ fittingIn n room
-unfolding fittingIn
-fitting-none n room h = simp (lt-leb n room h)
-
--- what fits is at most what there is, and at most the room
-pub fitting-le : (n room : ℕ) → (fittingIn n room ≤ n) × (fittingIn n room ≤ room)
-unfolding fittingIn
-fitting-le n room = go (leb n room) refl
-  where
-    go : (b : Bool) → leb n room ≡ b → (cond b n 0 ≤ n) × (cond b n 0 ≤ room)
-    go true t = (omega arith, leb-true n room t)
-    go false t = (omega arith, omega arith)
-
 module _ {A : Type 0} where
   -- one element more at the front
   set-front : (list area : List A) (k : ℕ) (x : A) → k < length area → getElem? list k ≡ some x
@@ -133,45 +122,97 @@ module _ {A : Type 0} where
       let c = length-drop k area in
       omega arith
 
+-- how many edges are put before a slot: those below it, or none where they do not fit
+pub data Kept (table : List ℕ) (fits : Bool) (x k : ℕ) : Type 0 where
+  going : fits ≡ true → edgesBelow table x ≡ k → Kept table fits x k
+  over : fits ≡ false → length (tableEdges table) ≤ edgesBelow table x → k ≡ 0 → Kept table fits x k
+
+module _ (table : List ℕ) (fits : Bool) where
+  -- before the first step
+  pub kept-start : Kept table fits (slotOf (startFor table fits)) 0
+  unfolding startFor rowStart edgesBelow slots
+  kept-start = go fits
+    where
+      go : (b : Bool) → Kept table b (slotOf (startFor table b)) 0
+      go true = going refl refl
+      go false =
+          let e : rowCount table * 1024 + 0 * 2 + 0 ≡ slots table = omega arith in
+          over refl (let a = below-all table in let f = ap (edgesBelow table) e in omega arith) refl
+
+  module _ (c : Cursor) (r : Step) (k : ℕ) (kept : Kept table fits (slotOf c) k) (found : Found table c r) where
+    abbrev before : ℕ
+    before = edgesBelow table (slotOf c)
+
+    there : before < length (tableEdges table)
+    there = let h = getElem?-lt (records table) before (found .edge) in let m = length-map (tableEdges table) coded in omega arith
+
+    -- the edge that is found has the next number
+    pub kept-edge : getElem? (records table) k ≡ some (r .edge)
+    kept-edge = go kept
+      where
+        go : Kept table fits (slotOf c) k → getElem? (records table) k ≡ some (r .edge)
+        go (going f e) = ap (getElem? (records table)) (sym e) ∙ found .edge
+        go (over f e z) = absurd (let h = there in omega arith)
+
+    pub kept-more : Kept table fits (slotOf (r .cursor)) (k + 1)
+    kept-more = go kept
+      where
+        go : Kept table fits (slotOf c) k → Kept table fits (slotOf (r .cursor)) (k + 1)
+        go (going f e) = going f (found .after ∙ ap (λ (j : ℕ). j + 1) e)
+        go (over f e z) = absurd (let h = there in omega arith)
+
 module _ (table : List ℕ) (area : List Edge) where
   abbrev edges : List E.Edge
   edges = tableEdges table
 
-  -- as many as are put
-  abbrev most : ℕ
-  most = fittingIn (length edges) (length area)
+  abbrev fit : Bool
+  fit = leb (length edges) (length area)
 
   pub put-none : putFirst (records table) area 0 ≡ area
   put-none = refl
 
-  pub put-length : (k : ℕ) → k ≤ most → length (putFirst (records table) area k) ≡ length area
-  put-length k h =
-      let l = fitting-le (length edges) (length area) in
-      let m = length-map edges coded in
-      length-first (records table) area k (omega arith) (omega arith)
+  -- no more edges are put than there are, and than there is room for
+  pub kept-few : (c : Cursor) (k : ℕ) → Standing table c → Kept table fit (slotOf c) k → (k ≤ length edges) × (k ≤ length area)
+  unfolding slots
+  kept-few c k s (going f e) =
+      let h = below-most table (slotOf c) (let l = s .few in let m = ap (λ (n : ℕ). n * 1024) (s .rows) in omega arith) in
+      let l = leb-true (length edges) (length area) f in
+      (omega arith, omega arith)
+  kept-few c k s (over f e z) = (omega arith, omega arith)
 
-  pub put-more : (k : ℕ) (step : Next) → k < most → Numbered table k step
-      → set (putFirst (records table) area k) k (step .edge) ≡ putFirst (records table) area (k + 1)
-  put-more k step h n =
-      let l = fitting-le (length edges) (length area) in
-      set-front (records table) area k (step .edge) (omega arith) (n .edge) ∙ ap (putFirst (records table) area) (sym (add-one k))
-
-  -- as many edges as fit are put as they have to be
-  pub put-fitting : (r : Put) → r ≡ answerFor (length edges) most → PutAs edges area r (putFirst (records table) area most)
-  unfolding fittingIn answerFor putSaid
-  put-fitting r e = go (leb (length edges) (length area)) refl
+  -- an edge that is found is one of all, and there is room for it
+  pub kept-below : (c : Cursor) (r : Step) (k : ℕ) → Kept table fit (slotOf c) k → Found table c r → (k < length edges) × (k < length area)
+  kept-below c r k kept found = go kept
     where
-      go : (b : Bool) → leb (length edges) (length area) ≡ b → PutAs edges area r (putFirst (records table) area most)
-      go true t =
-          let all : most ≡ length edges = ap (λ (c : Bool). cond c (length edges) 0) t in
-          put (leb-true (length edges) (length area) t)
-          (ap putSaid (e ∙ ap (λ (c : Bool). cond c (All (length edges)) (Refused 20)) (eq-eqb most (length edges) all)))
-          (ap (putFirst (records table) area) all
-          ∙ ap (λ (l : List Edge). l ++ drop (length edges) area)
-          (ap (λ (k : ℕ). take k (records table)) (sym (length-map edges coded)) ∙ take-length (records table)))
-      go false t =
-          let less = leb-false (length edges) (length area) t in
-          let nothing : most ≡ 0 = ap (λ (c : Bool). cond c (length edges) 0) t in
-          short less
-          (ap putSaid (e ∙ ap (λ (c : Bool). cond c (All (length edges)) (Refused 20)) (ne-eqb most (length edges) (λ s. omega arith))))
-          (ap (putFirst (records table) area) nothing)
+      go : Kept table fit (slotOf c) k → (k < length edges) × (k < length area)
+      go (going f e) =
+          let h = there table fit c r k kept found in
+          let l = leb-true (length edges) (length area) f in
+          (omega arith, omega arith)
+      go (over f e z) = absurd (let h = there table fit c r k kept found in omega arith)
+
+  pub put-length : (c : Cursor) (k : ℕ) → Standing table c → Kept table fit (slotOf c) k → length (putFirst (records table) area k) ≡ length area
+  put-length c k s kept =
+      let few = kept-few c k s kept in
+      let m = length-map edges coded in
+      length-first (records table) area k (omega (arith, few .0)) (few .1)
+
+  pub put-more : (k : ℕ) (e : Edge) → k < length area → getElem? (records table) k ≡ some e
+      → set (putFirst (records table) area k) k e ≡ putFirst (records table) area (k + 1)
+  put-more k e h n = set-front (records table) area k e h n ∙ ap (putFirst (records table) area) (sym (add-one k))
+
+  -- where no edge comes any more, they are put as they have to be
+  pub put-ended : (c : Cursor) (k : ℕ) (r : Put) → Kept table fit (slotOf c) k → edgesBelow table (slotOf c) ≡ length edges → r ≡ answerFor fit k
+      → PutAs edges area r (putFirst (records table) area k)
+  unfolding answerFor putSaid
+  put-ended c k r (going f b) ended e =
+      let all : k ≡ length edges = sym b ∙ ended in
+      put (leb-true (length edges) (length area) f)
+      (ap putSaid (e ∙ ap (λ (t : Bool). cond t (All k) (Refused 20)) f) ∙ ap inr all)
+      (ap (putFirst (records table) area) all
+      ∙ ap (λ (l : List Edge). l ++ drop (length edges) area)
+      (ap (λ (j : ℕ). take j (records table)) (sym (length-map edges coded)) ∙ take-length (records table)))
+  put-ended c k r (over f b z) ended e =
+      short (leb-false (length edges) (length area) f)
+      (ap putSaid (e ∙ ap (λ (t : Bool). cond t (All k) (Refused 20)) f))
+      (ap (putFirst (records table) area) z)

@@ -1,14 +1,39 @@
 // Edges by their numbers: one asked for, or all put into the caller's list.
 
 ghost use mathlib.Core.Path.{_≡_};
+ghost use Prim.Native.Nat.{_+_, _*_, _≤_, _<_};
+ghost use lib.Dec.{leb};
 ghost use lib.ListN.{length, getElem?};
+ghost use Rattle.kind_table.specs.Codes.{codeOf};
+ghost use Rattle.place_row.specs.RowTable.{rowAt};
 ghost use Rattle.edge_record.specs.Coded.{foundAs};
 ghost use Rattle.edge_count.specs.Slots.{tableEdges};
-ghost use Rattle.edge_put.specs.Put.{fittingIn, answerFor, Ahead, Numbered, PutAs};
+ghost use Rattle.edge_put.specs.Cursors.{rowIn, rowStart, startFor, atPair, nothingAt, edgeBy, backShared, backIs, rowAfter};
+ghost use Rattle.edge_put.specs.Cursors.{Scanned, AlikeFrom, Standing, BackNext, Open, Paired, Stepped, Passed};
+ghost use Rattle.edge_put.specs.Put.{answerFor, Ahead, Numbered, PutAs};
 use edge_count::count_edges;
 use edge_find::edge_from;
+use edge_find::shared_by;
+use edge_kinds::LOOSE;
+use edge_kinds::kind_has;
+use edge_kinds::kind_number;
+use edge_kinds::kind_of;
 use edge_record::Edge;
 use edge_record::Found;
+use edge_test::back_letter;
+use edge_test::forward_letter;
+use kind_pair::pair_code;
+use place_fetch::row_at;
+use place_fetch::row_count;
+use place_row::KEYS;
+use place_row::KIND;
+use place_row::PLACE;
+use place_row::READS;
+use place_row::RELATION;
+use place_row::ROW_WORDS;
+use place_row::Row;
+use place_row::TESTS;
+use place_row::WRITES;
 
 // What becomes of edges that are put: all of them are, so many; or the number of the refusal, and none is.
 pub enum Put {
@@ -80,22 +105,301 @@ pub fn edge_of_number(table: &[u64], k: usize) -> Found
     Found::There(edge)
 }
 
-// How many of n edges to put into an area with this much room: all, or none where they do not fit.
-fn fitting(n: usize, room: usize) -> usize
-    ensures { λ r. ⌜ r ≡ fittingIn n room ⌝ }
+// The words of a row, the kind by its number: all of one size, so that keeping them costs no copying of what lies between.
+struct Words {
+    node: u64,
+    place: u64,
+    kind: u64,
+    relation: u64,
+    reads: u64,
+    writes: u64,
+    tests: u64,
+    keys: u64,
+}
+
+// A place in the order of a table's edges: row i of n with its words, and the rows from j on are still to be looked at as those that an edge from
+// it enters. Where `back` is not 0 it is the letter of the back edge to row j, which comes next.
+struct Cursor {
+    n: usize,
+    i: usize,
+    j: usize,
+    back: u64,
+    w: Words,
+}
+
+// The edge that comes next, if one is there, and the place after it; else a place before which no edge comes.
+struct Step {
+    there: bool,
+    edge: Edge,
+    cursor: Cursor,
+}
+
+// Row number j of a table, where it is whole.
+fn row_whole(table: &[u64], j: usize) -> Row
+    requires { ⌜ j * 8 + 8 ≤ length (now table) ⌝ }
+    ensures { λ r. ⌜ r ≡ rowAt (now (table .entry)) j ⌝ }
 {
-    if n <= room {
-        return n;
+    let b = j * ROW_WORDS;
+    let k = kind_of(table[b + KIND]);
+    Row {
+        node: table[b],
+        place: table[b + PLACE],
+        kind: k,
+        relation: table[b + RELATION],
+        reads: table[b + READS],
+        writes: table[b + WRITES],
+        tests: table[b + TESTS],
+        keys: table[b + KEYS],
+    }
+}
+
+// The row that words tell.
+fn row_in(w: Words) -> Row
+    ensures { λ r. ⌜ r ≡ rowIn w ⌝ }
+{
+    let k = kind_of(w.kind);
+    Row {
+        node: w.node,
+        place: w.place,
+        kind: k,
+        relation: w.relation,
+        reads: w.reads,
+        writes: w.writes,
+        tests: w.tests,
+        keys: w.keys,
+    }
+}
+
+// Before the edges that leave row i.
+fn row_start(table: &[u64], n: usize, i: usize) -> Cursor
+    ensures { λ r. ⌜ r ≡ rowStart (now (table .entry)) n i ⌝ }
+{
+    let p = row_at(table, i);
+    let k = p.kind;
+    let kind = kind_number(k);
+    let w = Words {
+        node: p.node,
+        place: p.place,
+        kind,
+        relation: p.relation,
+        reads: p.reads,
+        writes: p.writes,
+        tests: p.tests,
+        keys: p.keys,
+    };
+    Cursor {
+        n,
+        i,
+        j: 0,
+        back: 0,
+        w,
+    }
+}
+
+// The first row of a relation from some row on; n where there is none.
+fn alike_from(table: &[u64], n: usize, relation: u64, from: usize) -> usize
+    requires { ⌜ Scanned (now table) n from ⌝ }
+    ensures { λ r. ⌜ AlikeFrom (now (table .entry)) n relation from r ⌝ }
+{
+    let mut j = from;
+    while j < n {
+        if table[j * ROW_WORDS + RELATION] == relation {
+            return j;
+        }
+        j += 1;
+    }
+    j
+}
+
+// The same row left, another row that may be entered.
+fn at_pair(c: Cursor, j: usize, back: u64) -> Cursor
+    ensures { λ r. ⌜ r ≡ atPair c j back ⌝ }
+{
+    let mut next = c;
+    next.j = j;
+    next.back = back;
+    next
+}
+
+// No edge so far.
+fn nothing_at(cursor: Cursor) -> Step
+    ensures { λ r. ⌜ r ≡ nothingAt cursor ⌝ }
+{
+    let edge = Edge {
+        node: 0,
+        leaves: 0,
+        into: 0,
+        enters: 0,
+        sharing: 0,
+        lowest: 0,
+        flow: 0,
+        letter: 0,
+    };
+    Step {
+        there: false,
+        edge,
+        cursor,
+    }
+}
+
+// The edge between two rows with this flow and the letter in this word, whose sets share m.
+fn edge_by(flow: u8, letter: u64, m: u64, p: Row, q: Row) -> Edge
+    ensures { λ r. ⌜ r ≡ edgeBy flow letter m p q ⌝ }
+{
+    Edge {
+        node: p.node,
+        leaves: p.place,
+        into: q.node,
+        enters: q.place,
+        sharing: u64::count_ones(m),
+        lowest: u64::trailing_zeros(m),
+        flow,
+        letter: (letter % 256) as u8,
+    }
+}
+
+// What the two sets of a back edge's letter share: a back edge has no other letter than D or E.
+fn back_shared(letter: u64, p: Row, q: Row) -> u64
+    ensures { λ r. ⌜ r ≡ backShared letter p q ⌝ }
+{
+    if letter == 0x44 {
+        return p.reads & q.writes;
+    }
+    p.tests & q.writes
+}
+
+// The back edge that comes next.
+fn back_step(table: &[u64], c: Cursor) -> Step
+    requires { ⌜ BackNext (now table) c ⌝ }
+    ensures { λ r. ⌜ Passed (now (table .entry)) c r ⌝ }
+{
+    let w = c.w;
+    let p = row_in(w);
+    let j = c.j;
+    let letter = c.back;
+    let q = row_whole(table, j);
+    let m = back_shared(letter, p, q);
+    let edge = edge_by(b'b', letter, m, p, q);
+    let cursor = at_pair(c, j + 1, 0);
+    Step {
+        there: true,
+        edge,
+        cursor,
+    }
+}
+
+// The letter of the back edge between two rows; only a loose kind has back edges that leave it.
+fn back_told(code: u32, p: Row, q: Row) -> u64
+    requires { ⌜ code ≡ codeOf (p .kind) (q .kind) ⌝ }
+    ensures { λ r. ⌜ r ≡ backIs p q ⌝ }
+{
+    let k = p.kind;
+    if kind_has(k, LOOSE) {
+        return back_letter(code, p, q) as u64;
     }
     0
 }
 
-// The answer where n of all edges are put: all, or none because they do not fit.
-fn answered(total: usize, n: usize) -> Put
-    ensures { λ r. ⌜ r ≡ answerFor total n ⌝ }
+// The row to look at next: the same where a back edge comes next.
+fn row_after(j: usize, back: u64) -> usize
+    requires { ⌜ j < 512 ⌝ }
+    ensures { λ r. ⌜ r ≡ rowAfter j back ⌝ }
 {
-    if n == total {
-        return Put::All(total);
+    if back == 0 {
+        return j + 1;
+    }
+    j
+}
+
+// The edge between two rows of one relation. Where no forward edge stands, no back edge does.
+fn pair_step(table: &[u64], c: Cursor) -> Step
+    requires { ⌜ Paired (now table) c ⌝ }
+    ensures { λ r. ⌜ Stepped (now (table .entry)) c r ⌝ }
+{
+    let w = c.w;
+    let p = row_in(w);
+    let j = c.j;
+    let q = row_whole(table, j);
+    let k = p.kind;
+    let l = q.kind;
+    let code = pair_code(k, l);
+    let letter = forward_letter(code, p, q);
+    if letter == 0 {
+        return nothing_at(at_pair(c, j + 1, 0));
+    }
+    let m = shared_by(letter, p, q);
+    let edge = edge_by(b'f', letter as u64, m, p, q);
+    let back = back_told(code, p, q);
+    let cursor = at_pair(c, row_after(j, back), back);
+    Step {
+        there: true,
+        edge,
+        cursor,
+    }
+}
+
+// The edge to the next row of one relation with the row left; past the last, the row after it is left next.
+fn look_on(table: &[u64], c: Cursor) -> Step
+    requires { ⌜ Open (now table) c ⌝ }
+    ensures { λ r. ⌜ Stepped (now (table .entry)) c r ⌝ }
+{
+    let n = c.n;
+    let w = c.w;
+    let j = alike_from(table, n, w.relation, c.j);
+    if n <= j {
+        return nothing_at(row_start(table, n, c.i + 1));
+    }
+    pair_step(table, at_pair(c, j, 0))
+}
+
+// The edge that comes next.
+fn next_edge(table: &[u64], c: Cursor) -> Step
+    requires { ⌜ Standing (now table) c ⌝ }
+    ensures { λ r. ⌜ Passed (now (table .entry)) c r ⌝ }
+{
+    if c.back != 0 {
+        return back_step(table, c);
+    }
+    let mut d = c;
+    while d.i < d.n {
+        let step = look_on(table, d);
+        if step.there {
+            return step;
+        }
+        d = step.cursor;
+    }
+    nothing_at(d)
+}
+
+// Whether the edges of a table fit into an area with this much room. Where there is room for two edges to each pair of rows, they are not counted.
+fn fits_in(table: &[u64], room: usize) -> bool
+    ensures { λ r. ⌜ r ≡ leb (length (tableEdges (now (table .entry)))) room ⌝ }
+{
+    let n = row_count(table);
+    if 2 * n * n <= room {
+        return true;
+    }
+    let c = count_edges(table);
+    c.edges <= room
+}
+
+// Before the first edge; where they do not fit, past the last.
+fn start_for(table: &[u64], fits: bool) -> Cursor
+    ensures { λ r. ⌜ r ≡ startFor (now (table .entry)) fits ⌝ }
+{
+    let n = row_count(table);
+    if fits {
+        return row_start(table, n, 0);
+    }
+    row_start(table, n, n)
+}
+
+// The answer where k edges are put: all, or none because they do not fit.
+fn answered(fits: bool, k: usize) -> Put
+    ensures { λ r. ⌜ r ≡ answerFor fits k ⌝ }
+{
+    if fits {
+        return Put::All(k);
     }
     Put::Refused(20)
 }
@@ -105,15 +409,17 @@ fn answered(total: usize, n: usize) -> Put
 pub fn put_edges<'b, 'a>(table: &'b [u64], out: &'a mut [Edge]) -> Put
     ensures { λ r. ⌜ PutAs (tableEdges (now (table .entry))) (now (out .entry)) r (now (out .exit)) ⌝ }
 {
-    let total = edge_count(table);
-    let n = fitting(total, out.len());
-    let mut from: usize = 0;
+    let fits = fits_in(table, out.len());
+    let mut c = start_for(table, fits);
     let mut k: usize = 0;
-    while k < n {
-        let step = edge_next(table, k, from);
+    loop {
+        let step = next_edge(table, c);
+        if !step.there {
+            break;
+        }
         out[k] = step.edge;
-        from = step.slot + 1;
+        c = step.cursor;
         k += 1;
     }
-    answered(total, n)
+    answered(fits, k)
 }

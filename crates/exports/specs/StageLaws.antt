@@ -15,7 +15,7 @@ use Rattle.exports.specs.Stages.{middleLine, readWord, lastNodeTold, unf
 -- ---- the numbers
 
 -- a refusal's number is told, or there is none
-told-refused : (n a b : ℕ) → (n ≡ 0 → ⊥) → b ≡ cond (eqb n 0) a b
+pub told-refused : (n a b : ℕ) → (n ≡ 0 → ⊥) → b ≡ cond (eqb n 0) a b
 told-refused n a b other = sym (ap (λ t. cond t a b) (ne-eqb n 0 other))
 
 told-taken : (n a b : ℕ) → n ≡ 0 → a ≡ cond (eqb n 0) a b

@@ -2,15 +2,14 @@
 use spec_text::Line;
 ghost use mathlib.Core.Path.{_≡_};
 ghost use lib.Dec.{eqb};
-ghost use lib.ListN.{getD};
 ghost use Rattle.spec_base.specs.Basic.{within};
-ghost use Rattle.line_state.specs.StateSteps.{blocksWithinOf, linkFitsOf};
+ghost use Rattle.line_state.specs.StateSteps.{cellOf, blocksWithinOf, linkFitsOf};
 ghost use Rattle.line_state.specs.StateWords.{stateIn, arrayIn};
 
 // Two cells of an array as sets: the first within the second.
-fn cell_within(words: &[u64], from: usize, parent: u64, child: u64) -> bool
+fn cell_within(words: &[u64; line_state::WORDS], from: usize, parent: u64, child: u64) -> bool
     ensures { λ r. ⌜
-        r ≡ within (getD (arrayIn (now (words .entry)) from) parent 0) (getD (arrayIn (now (words .entry)) from) child 0)
+        r ≡ within (cellOf (arrayIn (now (words .entry)) from) parent) (cellOf (arrayIn (now (words .entry)) from) child)
         ⌝ }
 {
     let outer = line_state::cell(words, from, parent);
@@ -19,7 +18,7 @@ fn cell_within(words: &[u64], from: usize, parent: u64, child: u64) -> bool
 }
 
 // The blocks around the first statement are around the second.
-fn blocks_within(words: &[u64], parent: u64, child: u64) -> bool
+fn blocks_within(words: &[u64; line_state::WORDS], parent: u64, child: u64) -> bool
     ensures { λ r. ⌜ r ≡ blocksWithinOf (stateIn (now (words .entry)) .statements) parent child ⌝ }
 {
     let loops = cell_within(words, line_state::AROUND_LOOPS, parent, child);
@@ -29,14 +28,14 @@ fn blocks_within(words: &[u64], parent: u64, child: u64) -> bool
 }
 
 // Two cells of two arrays are equal.
-fn same_cell(words: &[u64], a: usize, i: u64, b: usize, j: u64) -> bool
-    ensures { λ r. ⌜ r ≡ eqb (getD (arrayIn (now (words .entry)) a) i 0) (getD (arrayIn (now (words .entry)) b) j 0) ⌝ }
+fn same_cell(words: &[u64; line_state::WORDS], a: usize, i: u64, b: usize, j: u64) -> bool
+    ensures { λ r. ⌜ r ≡ eqb (cellOf (arrayIn (now (words .entry)) a) i) (cellOf (arrayIn (now (words .entry)) b) j) ⌝ }
 {
     line_state::cell(words, a, i) == line_state::cell(words, b, j)
 }
 
 // A link fits the words: child and parent are over its key's relations, the parent is of a kind that may be one, and its blocks are the child's.
-pub fn link_fits(words: &[u64], l: Line) -> bool
+pub fn link_fits(words: &[u64; line_state::WORDS], l: Line) -> bool
     ensures { λ r. ⌜ r ≡ linkFitsOf (stateIn (now (words .entry)) .tables) (stateIn (now (words .entry)) .statements) l ⌝ }
 {
     let id = l.id as u64;

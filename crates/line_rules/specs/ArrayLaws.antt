@@ -2,20 +2,21 @@
 use mathlib.Core.Path.{_≡_, refl, sym, ap, ap₂, _∙_}
 use mathlib.Core.Bool.{Bool, true, false, cond, _&&_, _||_}
 use mathlib.Core.List.{List, [], _∷_, _++_, map, map-append, List·Memᴰ}
-use Prim.Native.Nat.{ℕ, zero, suc, _+_, _^_, _<_}
+use Prim.Native.Nat.{ℕ, zero, suc, _+_, _%_, _^_, _≤_, _<_}
 use native.Mathlib.Omega.{arith}
+use native.Mathlib.Nat.{mod-eq-of-lt}
 use native.Mathlib.Numerals.{add-one}
 use lib.Dec.{eqb, ltb}
-use lib.ListN.{length, getD, set, take, length-append, length-set, List·getD-map}
+use lib.ListN.{length, getD, set, take, length-append, length-set, length-take, List·getD-map}
 use lib.Seq.{getD-take, take-suc-set, getD-set-same, getD-set-other}
-use borrow.Author.Tests.{eqb-true, eqb-false, ltb-true, eq-eqb, lt-ltb}
+use borrow.Author.Tests.{eqb-true, eqb-false, ltb-true, eq-eqb}
 use Rattle.spec_base.specs.Basic.{any, within, has}
 use Rattle.law_base.specs.BoolLaws.{and-true, and-of, same-test}
 use Rattle.law_base.specs.ListLaws.{all-true, all-of, any-true, any-of}
 use Rattle.law_base.specs.SetLaws.{within-has, has-within, has-bitOr, has-one, has-one-other, has-empty}
 use Rattle.spec_text.specs.Reading.{Block, sameBlock}
 use Rattle.law_text.specs.ReaderState.{blocksWithin}
-use Rattle.line_state.specs.StateSteps.{nextOf}
+use Rattle.line_state.specs.StateSteps.{nextOf, cellOf, storedIn}
 use Rattle.line_rules.specs.Holds.{maskOf, Cells, Levels, Depths, fitting}
 
 -- ---- cells
@@ -23,23 +24,35 @@ use Rattle.line_rules.specs.Holds.{maskOf, Cells, Levels, Depths, fittin
 -- one more, where the number is small
 pub next-suc : (n : ℕ) → n < 65535 → nextOf n ≡ suc n
 unfolding nextOf
-next-suc n h = ap (λ t. cond t (n + 1) n) (lt-ltb n 65535 h) ∙ add-one n
+next-suc n h = ap (λ m. m + 1) (mod-eq-of-lt (omega arith)) ∙ add-one n
+
+-- a place within an array is itself
+pub low : (i : ℕ) → i < 32 → i % 32 ≡ i
+low i h = mod-eq-of-lt h
+
+-- no more cells than the array has
+cells-few : {n : ℕ} {a l : List ℕ} → Cells n a l → n ≤ 32
+cells-few {n} {a} c =
+    let size = c .size in
+    let count = c .count in
+    omega (arith, length-take n a, ap length (c .held))
 
 -- a cell below the count
 pub cells-read : {n : ℕ} {a l : List ℕ} → Cells n a l → (i : ℕ) → i < n → getD a i 0 ≡ getD l i 0
 cells-read {n} {a} {l} c i h = sym (getD-take n a i 0 h) ∙ ap (λ t. getD t i 0) (c .held)
 
 -- one more cell
-pub cells-more : {n : ℕ} {a l : List ℕ} → Cells n a l → (v : ℕ) → n < 32 → Cells (nextOf n) (set a n v) (l ++ (v ∷ []))
+pub cells-more : {n : ℕ} {a l : List ℕ} → Cells n a l → (v : ℕ) → n < 32 → Cells (nextOf n) (storedIn a n v) (l ++ (v ∷ []))
 cells-more {n} {a} {l} c v h =
     let next : nextOf n ≡ suc n = next-suc n (omega arith) in
     let size = c .size in
     let count = c .count in
-    record {
+    rw (low n h)
+    (record {
       size = length-set a n v ∙ size;
       count = omega (arith, length-append l (v ∷ []));
       held = ap (λ m. take m (set a n v)) next ∙ take-suc-set a n v (omega arith) ∙ ap (λ t. t ++ (v ∷ [])) (c .held);
-    }
+    })
 
 -- no cell is held
 pub cells-none : (a : List ℕ) → length a ≡ 32 → Cells 0 a []
@@ -47,12 +60,13 @@ cells-none a h = record { size = h; count = refl; held = refl }
 
 -- a cell of mapped values below the count
 pub cells-at : {A : Type 0} (f : A → ℕ) (d : A) → f d ≡ 0 → {n : ℕ} {a : List ℕ} (xs : List A) → Cells n a (map f xs) → (i : ℕ) → i < n
-    → getD a i 0 ≡ f (getD xs i d)
-cells-at f d e xs c i h = cells-read c i h ∙ ap (getD (map f xs) i) (sym e) ∙ List·getD-map f xs i d
+    → cellOf a i ≡ f (getD xs i d)
+cells-at f d e {a = a} xs c i h =
+    ap (λ j. getD a j 0) (low i (omega (arith, h, cells-few c))) ∙ cells-read c i h ∙ ap (getD (map f xs) i) (sym e) ∙ List·getD-map f xs i d
 
 -- one more mapped cell
 pub cells-map : {A : Type 0} (f : A → ℕ) {n : ℕ} {a : List ℕ} (xs : List A) (x : A) → Cells n a (map f xs) → n < 32
-    → Cells (nextOf n) (set a n (f x)) (map f (xs ++ (x ∷ [])))
+    → Cells (nextOf n) (storedIn a n (f x)) (map f (xs ++ (x ∷ [])))
 cells-map f xs x c h = rw (map-append f xs (x ∷ [])) (cells-more c (f x) h)
 
 -- ---- depths
@@ -69,24 +83,34 @@ levels-top : (f : List Block → ℕ) (a : List ℕ) (blocks : List Block) → L
 levels-top f a [] e = e
 levels-top f a (b ∷ blocks) e = e .0
 
+-- what stands below the first block
+levels-bottom : (f : List Block → ℕ) (a : List ℕ) (blocks : List Block) → Levels f a blocks → Levels f a []
+levels-bottom f a [] e = e
+levels-bottom f a (b ∷ blocks) e = levels-bottom f a blocks (e .1)
+
+pub depths-none : (f : List Block → ℕ) {a : List ℕ} {blocks : List Block} → Depths f a blocks → Depths f a []
+depths-none f {a} {blocks} d = record { size = d .size; levels = levels-bottom f a blocks (d .levels) }
+
 -- one more depth
 pub depths-push : (f : List Block → ℕ) {a : List ℕ} {blocks : List Block} (b : Block) (v : ℕ) → Depths f a blocks
-    → length blocks < 31 → v ≡ f (b ∷ blocks) → Depths f (set a (suc (length blocks)) v) (b ∷ blocks)
+    → length blocks < 31 → v ≡ f (b ∷ blocks) → Depths f (storedIn a (suc (length blocks)) v) (b ∷ blocks)
 depths-push f {a} {blocks} b v d h e =
     let size = d .size in
-    record {
+    rw (low (suc (length blocks)) (omega arith))
+    (record {
       size = length-set a (suc (length blocks)) v ∙ size;
       levels = (
         getD-set-same a (suc (length blocks)) v 0 (omega arith) ∙ e,
         levels-set f a blocks (suc (length blocks)) v (omega arith) (d .levels),
       );
-    }
+    })
 
 pub depths-pop : (f : List Block → ℕ) {a : List ℕ} (b : Block) {blocks : List Block} → Depths f a (b ∷ blocks) → Depths f a blocks
 depths-pop f b d = record { size = d .size; levels = d .levels .1 }
 
-pub depths-top : (f : List Block → ℕ) {a : List ℕ} {blocks : List Block} → Depths f a blocks → getD a (length blocks) 0 ≡ f blocks
-depths-top f {a} {blocks} d = levels-top f a blocks (d .levels)
+pub depths-top : (f : List Block → ℕ) {a : List ℕ} {blocks : List Block} → Depths f a blocks → length blocks < 32
+    → cellOf a (length blocks) ≡ f blocks
+depths-top f {a} {blocks} d h = ap (λ i. getD a i 0) (low (length blocks) h) ∙ levels-top f a blocks (d .levels)
 
 -- ---- sets of places
 

@@ -6,10 +6,10 @@ use mathlib.Core.List.{List, [], _∷_, _++_, map, tail, append-nil}
 use mathlib.Core.Option.{none}
 use Prim.Native.Nat.{ℕ, suc, _+_, _-_, _*_, _^_, _≤_, _<_}
 use native.Mathlib.Omega.{arith}
-use native.Mathlib.Nat.{add-zero}
+use native.Mathlib.Nat.{add-zero, mod-eq-of-lt}
 use lib.Bits.{bitOr}
 use lib.Dec.{eqb, ltb}
-use lib.ListN.{length, getD, set, replicate}
+use lib.ListN.{length, getD, set}
 use borrow.Author.Tests.{eqb-true, eqb-false, ltb-true, lt-ltb}
 use Rattle.spec_base.specs.Basic.{all, keep}
 use Rattle.law_base.specs.BoolLaws.{and-true, and-of, not-true}
@@ -23,11 +23,11 @@ use Rattle.law_text.specs.ReaderState.{Own, State as Before, ownAfter, ownAfter
 use Rattle.law_text.specs.ReaderState.{stateNoneOpen, stateInnermost, stateOrdered, numbered, numberedFrom, emptyState}
 use Rattle.law_text.specs.ReaderStateLaws.{fault-state, numbered-more, stateOf-append, stateOf-empty, noneOpen-state}
 use Rattle.line_state.specs.Records.{Tables, Stack, Statements, State}
-use Rattle.line_state.specs.StateSteps.{nextOf, markOf, takeAs, checkOf, emptyKept, emptyStack, emptyStatements}
+use Rattle.line_state.specs.StateSteps.{nextOf, cellOf, storedIn, markOf, takeAs, checkOf, emptiedStack, emptiedStatements}
 use Rattle.line_state.specs.StateSteps.{pushedOf, poppedOf, secondOf, withStatement, takenProgram, takenFlow}
 use Rattle.line_rules.specs.Holds.{maskOf, placeOf, partOf, parentalOf, Cells, Depths, TablesHold, StackHolds}
 use Rattle.line_rules.specs.Holds.{StatementsHold, Keeps, fitting, Good, Holds, faultOf}
-use Rattle.line_rules.specs.ArrayLaws.{next-suc, cells-none, cells-map, depths-push, depths-pop, depths-top}
+use Rattle.line_rules.specs.ArrayLaws.{next-suc, cells-none, cells-map, depths-none, depths-push, depths-pop, depths-top}
 use Rattle.line_rules.specs.TestLaws.{Fits, good-bounds, Numbers, numbers-of, ofKind, Lengths, lengths, own-none, own-some, after}
 use Rattle.line_rules.specs.TestLaws.{check-kept, stateFault-none}
 
@@ -45,7 +45,7 @@ statements-same {x} {ls} {around} h = rw (append-nil ls, append-nil around) h
 -- a mark where the place is that of a bit
 mark-bit : (part which place : ℕ) → place < 64 → markOf part which place ≡ cond (eqb part which) (2 ^ place) 0
 unfolding markOf
-mark-bit part which place h = ap (λ t. cond (eqb part which) (cond t (2 ^ place) 0) 0) (lt-ltb place 64 h)
+mark-bit part which place h = ap (λ m. cond (eqb part which) (2 ^ m) 0) (mod-eq-of-lt h)
 
 -- one block more
 pushed-kept : (k : Stack) (blocks : List Block) (place part : ℕ) → StackHolds k blocks → length blocks < 31 → place < 64
@@ -56,10 +56,10 @@ pushed-kept k blocks place part h below fits =
     let next : nextOf (k .depth) ≡ suc (length blocks) = next-suc (k .depth) (omega arith) ∙ ap suc depth in
     let b : Block = record { place = place; part = part } in
     let mask : (which : ℕ) (a : List ℕ) → Depths (maskOf which) a blocks
-    → Depths (maskOf which) (set a (nextOf (k .depth)) (bitOr (markOf part which place) (getD a (k .depth) 0))) (b ∷ blocks)
+    → Depths (maskOf which) (storedIn a (nextOf (k .depth)) (bitOr (markOf part which place) (cellOf a (k .depth)))) (b ∷ blocks)
     = λ which a d. rw (next, depth)
-    (depths-push (maskOf which) b (bitOr (markOf part which place) (getD a (length blocks) 0)) d below
-    (ap₂ bitOr (mark-bit part which place fits) (depths-top (maskOf which) d))) in
+    (depths-push (maskOf which) b (bitOr (markOf part which place) (cellOf a (length blocks))) d below
+    (ap₂ bitOr (mark-bit part which place fits) (depths-top (maskOf which) d (omega arith)))) in
     record {
       depth = next;
       places = rw next (depths-push placeOf b place (h .places) below refl);
@@ -87,17 +87,18 @@ second-kept : (k : Stack) (b : Block) (blocks : List Block) → StackHolds k (b 
     → StackHolds (secondOf k) (record { place = b .place; part = 2 } ∷ blocks)
 unfolding placeOf
 second-kept k b blocks h below fits =
-    let place : getD (k .places) (k .depth) 0 ≡ b .place = ap (λ d. getD (k .places) d 0) (h .depth) ∙ depths-top placeOf (h .places) in
+    let place : cellOf (k .places) (k .depth) ≡ b .place
+    = ap (λ d. cellOf (k .places) d) (h .depth) ∙ depths-top placeOf (h .places) (omega arith) in
     rw place (pushed-kept (poppedOf k) blocks (b .place) 2 (popped-kept k b blocks h) below fits)
 
 -- one statement more
 statement-kept : (x : Statements) (k : Stack) (ls : List Line) (around : List (List Block)) (blocks : List Block) (l : Line)
-    → StatementsHold x ls around → StackHolds k blocks → x .count < 32
+    → StatementsHold x ls around → StackHolds k blocks → x .count < 32 → length blocks ≤ 8
     → StatementsHold (withStatement x k (l .rel) (parentalOf l)) (ls ++ (l ∷ [])) (around ++ (blocks ∷ []))
-statement-kept x k ls around blocks l h t below =
+statement-kept x k ls around blocks l h t below few =
     let mask : (which : ℕ) (a o : List ℕ) → Cells (x .count) a (map (maskOf which) around) → Depths (maskOf which) o blocks
-    → Cells (nextOf (x .count)) (set a (x .count) (getD o (k .depth) 0)) (map (maskOf which) (around ++ (blocks ∷ [])))
-    = λ which a o c d. rw (t .depth, depths-top (maskOf which) d) (cells-map (maskOf which) around blocks c below) in
+    → Cells (nextOf (x .count)) (storedIn a (x .count) (cellOf o (k .depth))) (map (maskOf which) (around ++ (blocks ∷ [])))
+    = λ which a o c d. rw (t .depth, depths-top (maskOf which) d (omega arith)) (cells-map (maskOf which) around blocks c below) in
     record {
       relations = cells-map (λ (y : Line). y .rel) ls l (h .relations) below;
       parental = cells-map parentalOf ls l (h .parental) below;
@@ -106,25 +107,29 @@ statement-kept x k ls around blocks l h t below =
       seconds = mask 2 (x .seconds) (k .seconds) (h .seconds) (t .seconds);
     }
 
--- no open block
-stack-empty : StackHolds emptyStack []
-unfolding placeOf partOf maskOf
-stack-empty =
-    let zeros : (f : List Block → ℕ) → 0 ≡ f [] → Depths f (replicate 32 0) [] = λ f q. record { size = refl; levels = q } in
+-- no open block: what stands below the first block is still there
+stack-emptied : {k : Stack} {blocks : List Block} → StackHolds k blocks → StackHolds (emptiedStack k) []
+stack-emptied h =
     record {
       depth = refl;
-      places = zeros placeOf refl;
-      parts = zeros partOf refl;
-      loops = zeros (maskOf 0) refl;
-      firsts = zeros (maskOf 1) refl;
-      seconds = zeros (maskOf 2) refl;
+      places = depths-none placeOf (h .places);
+      parts = depths-none partOf (h .parts);
+      loops = depths-none (maskOf 0) (h .loops);
+      firsts = depths-none (maskOf 1) (h .firsts);
+      seconds = depths-none (maskOf 2) (h .seconds);
     }
 
 -- no statement
-statements-empty : StatementsHold emptyStatements [] []
-statements-empty =
-    let zeros : Cells 0 (replicate 32 0) [] = cells-none (replicate 32 0) refl in
-    record { relations = zeros; parental = zeros; loops = zeros; firsts = zeros; seconds = zeros }
+statements-emptied : {x : Statements} {ls : List Line} {around : List (List Block)} → StatementsHold x ls around
+    → StatementsHold (emptiedStatements x) [] []
+statements-emptied h =
+    record {
+      relations = cells-none _ (h .relations .size);
+      parental = cells-none _ (h .parental .size);
+      loops = cells-none _ (h .loops .size);
+      firsts = cells-none _ (h .firsts .size);
+      seconds = cells-none _ (h .seconds .size);
+    }
 
 -- the innermost block goes on with its second arm, where there is one
 second-step : (k : Stack) (blocks : List Block) → StackHolds k blocks → fitting blocks ≡ true → length blocks ≤ 8
@@ -371,8 +376,8 @@ program-line s b l k g e h =
         body = refl;
         links = refl;
         tables = rw (relations, keys) (k .tables);
-        stack = stack-empty;
-        statements = statements-empty;
+        stack = stack-emptied (k .stack);
+        statements = statements-emptied (k .statements);
       },
       record {
         bounds = fits;
@@ -439,7 +444,7 @@ step-kept s b k g l = go (numbers-of k) (good-bounds b (g .bounds)) (l .kind) (l
         (λ v. record {
           stack-kept = k .stack;
           statements-kept = statement-kept (s .statements) (s .stack) (b .own .statements) (b .own .around) (b .own .open-blocks)
-              (ofKind (St j) l) (k .statements) (k .stack) (omega arith);
+              (ofKind (St j) l) (k .statements) (k .stack) (omega arith) (omega arith);
           blocks-fit = g .open-fit;
           around-fit = all-append fitting (b .own .around) (b .own .open-blocks ∷ []) ∙ and-of (g .around-fit) (and-of (g .open-fit) refl);
         })
@@ -486,11 +491,19 @@ holds-take s lines l h none-found =
       keeps = rw (stateOf-append lines l) (step .0);
     }
 
--- before the first line
-pub holds-start : Holds emptyKept []
-unfolding emptyKept emptyState emptyOwn numbered numberedFrom program fitting stateBounded
-holds-start =
-    let zeros : Cells 0 (replicate 32 0) [] = cells-none (replicate 32 0) refl in
+-- before the first line: the counts are 0, and nothing stands below the first block
+pub record Started (s : State) : Type 0 where
+  pub lines : s .lines ≡ 0
+  pub programs : s .programs ≡ 0
+  pub body : s .body ≡ 0
+  pub links : s .links ≡ 0
+  pub tables : TablesHold (s .tables) [] []
+  pub stack : StackHolds (s .stack) []
+  pub statements : StatementsHold (s .statements) [] []
+
+pub holds-start : {s : State} → Started s → Holds s []
+unfolding emptyState emptyOwn numbered numberedFrom program fitting stateBounded
+holds-start {s} h =
     record {
       numbers = refl;
       good =
@@ -507,13 +520,13 @@ holds-start =
       keeps =
           rw stateOf-empty
           (record {
-            lines = refl;
-            programs = refl;
-            body = refl;
-            links = refl;
-            tables = record { sets = zeros; children = zeros; parents = zeros };
-            stack = stack-empty;
-            statements = statements-empty;
+            lines = h .lines;
+            programs = h .programs;
+            body = h .body;
+            links = h .links;
+            tables = h .tables;
+            stack = h .stack;
+            statements = h .statements;
           });
     }
 

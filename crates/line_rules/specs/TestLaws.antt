@@ -20,7 +20,7 @@ use Rattle.law_text.specs.ReaderState.{Own, State as Before, ownAfter, ownAfter
 use Rattle.law_text.specs.ReaderState.{stateNoneOpen, stateInnermost, stateOrdered, stateNamed, stateSetsFit, blocksWithin, stateLinkFits}
 use Rattle.law_text.specs.ReaderState.{stateTests, stateFault}
 use Rattle.line_state.specs.Records.{Stack, State}
-use Rattle.line_state.specs.StateSteps.{roomOf, orderedOf, namedAs, setsFitAs, isLinkOf, checkOf, checkBy, inBodyOf, innermostOf, linkFitsOf}
+use Rattle.line_state.specs.StateSteps.{cellOf, roomOf, orderedOf, namedAs, setsFitAs, isLinkOf, checkOf, checkBy, inBodyOf, innermostOf, linkFitsOf}
 use Rattle.line_rules.specs.Holds.{maskOf, partOf, parentalOf, Cells, StackHolds, Keeps, fitting, Good, faultOf}
 use Rattle.line_rules.specs.ArrayLaws.{cells-at, depths-top, masks-within}
 
@@ -114,17 +114,17 @@ sum-test n a b = go (ltb n a) refl (eqb (n - a) b) refl
         sym (ne-eqb n (a + b) (λ q. g (omega arith)))
 
 -- the innermost open block is of a part
-innermost-kept : (k : Stack) (blocks : List Block) (part : ℕ) → StackHolds k blocks
+innermost-kept : (k : Stack) (blocks : List Block) (part : ℕ) → StackHolds k blocks → length blocks ≤ 8
     → innermostOf k part ≡ elim blocks [ [] ↦ false | b ∷ rest ↦ eqb (b .part) part ]
 unfolding partOf
-innermost-kept k [] part h = rw (h .depth)
-innermost-kept k (b ∷ blocks) part h =
-    ap (λ d. not (eqb d 0) && eqb (getD (k .parts) d 0) part) (h .depth)
-    ∙ ap₂ (λ (x : Bool) (y : ℕ). not x && eqb y part) (eqb·suc-zero (length blocks)) (depths-top partOf (h .parts))
+innermost-kept k [] part h few = rw (h .depth)
+innermost-kept k (b ∷ blocks) part h few =
+    ap (λ d. not (eqb d 0) && eqb (cellOf (k .parts) d) part) (h .depth)
+    ∙ ap₂ (λ (x : Bool) (y : ℕ). not x && eqb y part) (eqb·suc-zero (length blocks)) (depths-top partOf (h .parts) (omega arith))
 
-pub ordered-kept : (s : State) (b : Before) → Keeps s b → (l : Line) → orderedOf s (l .kind) ≡ stateOrdered b l
+pub ordered-kept : (s : State) (b : Before) → Keeps s b → Good b → (l : Line) → orderedOf s (l .kind) ≡ stateOrdered b l
 unfolding orderedOf stateOrdered stateInBody stateNoneOpen stateInnermost
-ordered-kept s b k l = go (l .kind)
+ordered-kept s b k g l = go (l .kind)
   where
     n : Numbers s b
     n = numbers-of k
@@ -133,7 +133,7 @@ ordered-kept s b k l = go (l .kind)
     body = ap₂ inBodyOf (n .programs) (n .links)
 
     inner : (part : ℕ) → innermostOf (s .stack) part ≡ stateInnermost b part
-    inner part = innermost-kept (s .stack) (b .own .open-blocks) part (k .stack)
+    inner part = innermost-kept (s .stack) (b .own .open-blocks) part (k .stack) (good-bounds b (g .bounds) .depth-fits)
 
     go : (kind : LineKind) → orderedOf s kind ≡ stateOrdered b (ofKind kind l)
     go Rl = ap₂ eqb (n .lines) (n .relations)
@@ -169,7 +169,7 @@ pub setsFit-kept : (s : State) (b : Before) → Keeps s b → (l : Line) → sta
 unfolding setsFitAs stateSetsFit stateNamed unusedLine
 setsFit-kept s b k l = go (l .kind)
   where
-    whole : ltb (l .rel) (length (b .relations)) ≡ true → getD (s .tables .sets) (l .rel) 0 ≡ getD (b .relations) (l .rel) unusedLine .reads
+    whole : ltb (l .rel) (length (b .relations)) ≡ true → cellOf (s .tables .sets) (l .rel) ≡ getD (b .relations) (l .rel) unusedLine .reads
     whole h =
         let below = ltb-true (l .rel) (length (b .relations)) h in
         let count = numbers-of k .relations in
@@ -211,22 +211,22 @@ link-kept s b k g l id-below rel-below to-below =
     let count = n .statements in
     let around-count = n .around in
     let statement-at : (i : ℕ) → i < length (b .own .statements)
-    → getD (s .statements .relations) i 0 ≡ getD (b .own .statements) i unusedLine .rel
+    → cellOf (s .statements .relations) i ≡ getD (b .own .statements) i unusedLine .rel
     = λ i h. cells-at (λ (x : Line). x .rel) unusedLine refl (b .own .statements) (k .statements .relations) i (omega arith) in
     let blocks-at : (which : ℕ) (a : List ℕ) → Cells (s .statements .count) a (map (maskOf which) (b .own .around)) → (i : ℕ)
-    → i < length (b .own .statements) → getD a i 0 ≡ maskOf which (getD (b .own .around) i [])
+    → i < length (b .own .statements) → cellOf a i ≡ maskOf which (getD (b .own .around) i [])
     = λ which a c i h. cells-at (maskOf which) [] refl (b .own .around) c i (omega arith) in
     let within-at : (which : ℕ) (a : List ℕ) → Cells (s .statements .count) a (map (maskOf which) (b .own .around))
-    → within (getD a (l .to) 0) (getD a (l .rel) 0)
+    → within (cellOf a (l .to)) (cellOf a (l .rel))
     ≡ within (maskOf which (getD (b .own .around) (l .to) [])) (maskOf which (getD (b .own .around) (l .rel) []))
     = λ which a c. ap₂ within (blocks-at which a c (l .to) to-below) (blocks-at which a c (l .rel) rel-below) in
-    let parental-at : eqb (getD (s .statements .parental) (l .to) 0) 1
+    let parental-at : eqb (cellOf (s .statements .parental) (l .to)) 1
     ≡ isStatementOf canBeParent (getD (b .own .statements) (l .to) unusedLine .kind)
     = ap (λ v. eqb v 1) (cells-at parentalOf unusedLine refl (b .own .statements) (k .statements .parental) (l .to) (omega arith))
     ∙ one (isStatementOf canBeParent (getD (b .own .statements) (l .to) unusedLine .kind)) in
-    let key-at : getD (s .tables .children) (l .id) 0 ≡ getD (b .keys) (l .id) unusedLine .rel
+    let key-at : cellOf (s .tables .children) (l .id) ≡ getD (b .keys) (l .id) unusedLine .rel
     = cells-at (λ (x : Line). x .rel) unusedLine refl (b .keys) (k .tables .children) (l .id) (omega arith) in
-    let key-to : getD (s .tables .parents) (l .id) 0 ≡ getD (b .keys) (l .id) unusedLine .to
+    let key-to : cellOf (s .tables .parents) (l .id) ≡ getD (b .keys) (l .id) unusedLine .to
     = cells-at (λ (x : Line). x .to) unusedLine refl (b .keys) (k .tables .parents) (l .id) (omega arith) in
     ap₂ _&&_
     (ap₂ _&&_ (ap₂ _&&_ (ap₂ eqb (statement-at (l .rel) rel-below) key-at) (ap₂ eqb (statement-at (l .to) to-below) key-to)) parental-at)
@@ -413,7 +413,7 @@ check-kept s b k g l =
     (isLinkOf (l .kind)) (linkFitsOf (s .tables) (s .statements) l) (stateSetsFit b l) (stateLinkFits b l)
     (λ e. setsFit-kept s b k l (sym (named-kept s b k l) ∙ e))
     (λ e. linkFits-kept s b k g l (sym (named-kept s b k l) ∙ e))
-    ∙ rw (room-kept s b k g l, ordered-kept s b k l, named-kept s b k l)
+    ∙ rw (room-kept s b k g l, ordered-kept s b k g l, named-kept s b k l)
 
 -- a line with no fault stays within the bounds and in order
 pub stateFault-none : (b : Before) (l : Line) → stateFault b l ≡ none → (stateBounded (stateAfter b l) ≡ true) × (stateOrdered b l ≡ true)

@@ -1,102 +1,77 @@
 -- Words that hold lines: no line yet, the tests of a line, a line taken.
 use mathlib.Core.Path.{_≡_, refl, sym, ap, subst, _∙_}
-use mathlib.Core.Bool.{Bool, true, false}
 use mathlib.Core.List.{List, [], _∷_, _++_}
 use mathlib.Core.Option.{none}
 use Prim.Native.Nat.{ℕ, _+_, _≤_, _<_}
 use native.Mathlib.Omega.{arith}
-use lib.Dec.{eqb, leb}
-use lib.ListN.{length, getD, drop, replicate, length-drop, length-append, length-replicate, getD-replicate, List·getD-append}
-use lib.Seq.{ext-getD}
-use borrow.Author.Tests.{le-leb, leb-true}
+use native.Mathlib.Nat.{add-zero}
+use lib.Dec.{eqb}
+use lib.ListN.{length, getD}
 use Rattle.spec_text.specs.declared.Line.{Line}
-use Rattle.spec_text.specs.Reading.{fault, noneOpen}
-use Rattle.line_state.specs.StateSteps.{checkOf, emptyKept}
+use Rattle.spec_text.specs.Reading.{Block, fault, noneOpen}
+use Rattle.line_state.specs.StateSteps.{checkOf}
 use Rattle.line_state.specs.StateWords.{arrayIn, stateIn, startedIn, Taken}
 use Rattle.line_state.specs.StateWordsLaws.{cell-word, array-length}
-use Rattle.line_rules.specs.Holds.{Holds, faultOf}
-use Rattle.line_rules.specs.HoldsLaws.{holds-start, holds-check, holds-take, holds-open}
+use Rattle.line_state.specs.StartLaws.{started-word, started-size}
+use Rattle.line_rules.specs.Holds.{maskOf, placeOf, partOf, Cells, Depths, Holds, faultOf}
+use Rattle.line_rules.specs.ArrayLaws.{cells-none}
+use Rattle.line_rules.specs.HoldsLaws.{Started, holds-start, holds-check, holds-take, holds-open}
 use Rattle.line_rules.specs.WordsHold.{HoldsWords}
 
--- 424 zeros, then words
-zeros : List ℕ → List ℕ
-zeros rest = replicate 424 0 ++ rest
-
-zeros-word : (rest : List ℕ) (p : ℕ) → p < 424 → getD (zeros rest) p 0 ≡ 0
-unfolding zeros
-zeros-word rest p h =
-    List·getD-append (replicate 424 0) rest 0 p (omega (arith, length-replicate {A = ℕ} 424 0)) ∙ getD-replicate 424 p 0 0 h
-
-zeros-size : (rest : List ℕ) → length (zeros rest) ≡ 424 + length rest
-unfolding zeros
-zeros-size rest = length-append (replicate 424 0) rest ∙ ap (λ n. n + length rest) (length-replicate {A = ℕ} 424 0)
-
-zeros-array : (rest : List ℕ) (from : ℕ) → from + 32 ≤ 424 → arrayIn (zeros rest) from ≡ replicate 32 0
-zeros-array rest from h =
-    let long : length (arrayIn (zeros rest) from) ≡ 32 = array-length (zeros rest) from (omega (arith, zeros-size rest)) in
-    ext-getD 0 (arrayIn (zeros rest) from) (replicate 32 0) (long ∙ sym (length-replicate {A = ℕ} 32 0))
-    (λ i k. let small : i < 32 = omega (arith, long, k) in
-    cell-word (zeros rest) from i small ∙ zeros-word rest (from + i) (omega arith) ∙ sym (getD-replicate 32 i 0 0 small))
-
-zeros-state : (rest : List ℕ) → stateIn (zeros rest) ≡ emptyKept
-unfolding stateIn emptyKept
-zeros-state rest =
-    let number : (p : ℕ) → p < 424 → getD (zeros rest) p 0 ≡ 0 = zeros-word rest in
-    let array : (o : ℕ) → o + 32 ≤ 424 → arrayIn (zeros rest) o ≡ replicate 32 0 = zeros-array rest in
-    λ q. record {
-      lines = number 420 (omega arith) q;
-      programs = number 421 (omega arith) q;
-      body = number 416 (omega arith) q;
-      links = number 417 (omega arith) q;
+-- no line taken: no array holds a cell, and nothing stands below the first block
+started-holds : (words : List ℕ) → 424 ≤ length words → Started (stateIn (startedIn words))
+unfolding stateIn placeOf partOf maskOf
+started-holds words n =
+    let size = started-size words in
+    let none-in : (from c : ℕ) → from + 32 ≤ 424 → c ≡ 0 → Cells c (arrayIn (startedIn words) from) [] =
+    λ from c h z. rw z (cells-none (arrayIn (startedIn words) from) (array-length (startedIn words) from (omega arith))) in
+    let bottom : (f : List Block → ℕ) (from : ℕ) → from + 32 ≤ 424 → 0 ≡ f [] → getD (startedIn words) from 0 ≡ 0
+    → Depths f (arrayIn (startedIn words) from) [] =
+    λ f from h z w. record {
+      size = array-length (startedIn words) from (omega arith);
+      levels =
+          cell-word (startedIn words) from 0 (omega arith)
+          ∙ ap (λ p. getD (startedIn words) p 0) (add-zero from)
+          ∙ (w ∙ z);
+    } in
+    record {
+      lines = started-word words 420 refl;
+      programs = started-word words 421 refl;
+      body = started-word words 416 refl;
+      links = started-word words 417 refl;
       tables =
           record {
-            relations = number 422 (omega arith) q;
-            sets = array 0 (omega arith) q;
-            keys = number 423 (omega arith) q;
-            children = array 32 (omega arith) q;
-            parents = array 64 (omega arith) q;
+            sets = none-in 0 _ (omega arith) (started-word words 422 refl);
+            children = none-in 32 _ (omega arith) (started-word words 423 refl);
+            parents = none-in 64 _ (omega arith) (started-word words 423 refl);
           };
       stack =
           record {
-            depth = number 418 (omega arith) q;
-            places = array 96 (omega arith) q;
-            parts = array 128 (omega arith) q;
-            loops = array 160 (omega arith) q;
-            firsts = array 192 (omega arith) q;
-            seconds = array 224 (omega arith) q;
+            depth = started-word words 418 refl;
+            places = bottom placeOf 96 (omega arith) refl (started-word words 96 refl);
+            parts = bottom partOf 128 (omega arith) refl (started-word words 128 refl);
+            loops = bottom (maskOf 0) 160 (omega arith) refl (started-word words 160 refl);
+            firsts = bottom (maskOf 1) 192 (omega arith) refl (started-word words 192 refl);
+            seconds = bottom (maskOf 2) 224 (omega arith) refl (started-word words 224 refl);
           };
       statements =
+          let empty : (from : ℕ) → from + 32 ≤ 424 → Cells (getD (startedIn words) 419 0) (arrayIn (startedIn words) from) [] =
+          λ from h. none-in from _ h (started-word words 419 refl) in
           record {
-            count = number 419 (omega arith) q;
-            relations = array 256 (omega arith) q;
-            parental = array 288 (omega arith) q;
-            loops = array 320 (omega arith) q;
-            firsts = array 352 (omega arith) q;
-            seconds = array 384 (omega arith) q;
+            relations = empty 256 (omega arith);
+            parental = empty 288 (omega arith);
+            loops = empty 320 (omega arith);
+            firsts = empty 352 (omega arith);
+            seconds = empty 384 (omega arith);
           };
     }
 
-pub started-state : (words : List ℕ) → 424 ≤ length words → stateIn (startedIn words) ≡ emptyKept
-unfolding startedIn zeros
-started-state words n = ap (λ b. stateIn (pick b)) (le-leb 424 (length words) n) ∙ zeros-state (drop 424 words)
-  where
-    pick : Bool → List ℕ
-    pick b = elim b [ true ↦ replicate 424 0 ++ drop 424 words | false ↦ words ]
-
-started-size : (words : List ℕ) → length (startedIn words) ≡ length words
-unfolding startedIn zeros
-started-size words = go (leb 424 (length words)) refl
-  where
-    go : (b : Bool) → leb 424 (length words) ≡ b → length {A = ℕ} (elim b [ true ↦ replicate 424 0 ++ drop 424 words | false ↦ words ]) ≡ length words
-    go true e = zeros-size (drop 424 words) ∙ omega (arith, leb-true 424 (length words) e, length-drop 424 words)
-    go false e = refl
-
 pub words-start : (before : List ℕ) {after : List ℕ} → after ≡ startedIn before → 424 ≤ length before → HoldsWords after []
-words-start before {after} e n =
+words-start before e n =
     let size = started-size before in
     record {
       size = omega (arith, ap length e);
-      state = subst (λ s. Holds s []) (sym (ap stateIn e ∙ started-state before n)) holds-start;
+      state = rw e (holds-start (started-holds before n));
     }
 
 pub words-check : {words : List ℕ} (l : Line) {r : ℕ} → r ≡ checkOf (stateIn words) l → (lines : List Line) → HoldsWords words lines

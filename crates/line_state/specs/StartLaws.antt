@@ -1,47 +1,62 @@
--- Words set to 0 are those of no line taken.
+-- Words set to 0 are 0, also those that are set again, and those past the end.
 use mathlib.Core.Path.{_≡_, refl, sym, ap, _∙_}
-use mathlib.Core.Bool.{Bool, true, false}
-use mathlib.Core.List.{List, _++_}
-use Prim.Native.Nat.{ℕ, _+_, _-_, _≤_, _<_}
+use mathlib.Core.Bool.{Bool, true, false, _||_, false≢true}
+use mathlib.Core.List.{List, [], _∷_}
+use Prim.Native.Nat.{ℕ, _≤_, _<_}
 use native.Mathlib.Omega.{arith}
-use lib.Dec.{ltb}
-use lib.ListN.{length, getD, drop, replicate, length-drop, length-append, length-replicate, getD-replicate, List·getD-append}
-use lib.Seq.{ext-getD, getD-drop, getD-append-add}
-use borrow.Author.Tests.{ltb-true, ltb-false, le-leb, lt-leb}
-use Rattle.word_list.specs.Clear.{Cleared}
-use Rattle.line_state.specs.StateWords.{startedIn}
+use lib.Dec.{eqb, ltb}
+use lib.ListN.{length, getD, set, length-set, List·getD-eq-default}
+use lib.Seq.{getD-set-same, getD-set-other}
+use borrow.Author.Tests.{eqb-true, eqb-false, ltb-true, ltb-false}
+use Rattle.spec_base.specs.Basic.{any}
+use Rattle.line_state.specs.StateWords.{zeroedIn, startedIn}
 
--- all words of the state set to 0
-pub cleared-started : {before after : List ℕ} → 424 ≤ length before → Cleared 0 424 before after → after ≡ replicate 424 0 ++ drop 424 before
-cleared-started {before} {after} n c =
-    let size = c .size in
-    let long : length (replicate 424 0 ++ drop 424 before) ≡ 424 + (length before - 424) =
-    length-append (replicate 424 0) (drop 424 before) ∙ ap (λ m. m + length (drop 424 before)) (length-replicate {A = ℕ} 424 0)
-    ∙ ap (λ m. 424 + m) (length-drop 424 before) in
-    ext-getD 0 after (replicate 424 0 ++ drop 424 before) (omega (arith, long, size)) (λ i h. part i (ltb i 424) refl)
+-- a word set to 0 is 0, also where there is none
+set-zero : (words : List ℕ) (p : ℕ) → getD (set words p 0) p 0 ≡ 0
+set-zero words p = go (ltb p (length words)) refl
   where
-    part : (i : ℕ) → (b : Bool) → ltb i 424 ≡ b → getD after i 0 ≡ getD (replicate 424 0 ++ drop 424 before) i 0
-    part i true e =
-        let small : i < 424 = ltb-true i 424 e in
-        c .inside i (omega arith) small ∙ sym (getD-replicate 424 i 0 0 small)
-        ∙ sym (List·getD-append (replicate 424 0) (drop 424 before) 0 i (omega (arith, small, length-replicate {A = ℕ} 424 0)))
-    part i false e =
-        let big : 424 ≤ i = ltb-false i 424 e in
-        let split : 424 + (i - 424) ≡ i = omega arith in
-        c .above i big ∙ ap (λ m. getD before m 0) (sym split) ∙ sym (getD-drop 424 before (i - 424) 0)
-        ∙ sym (getD-append-add (replicate 424 0) (drop 424 before) (i - 424) 0)
-        ∙ ap (λ m. getD (replicate 424 0 ++ drop 424 before) m 0) (ap (λ m. m + (i - 424)) (length-replicate {A = ℕ} 424 0) ∙ split)
+    go : (b : Bool) → ltb p (length words) ≡ b → getD (set words p 0) p 0 ≡ 0
+    go true e = getD-set-same words p 0 0 (ltb-true p (length words) e)
+    go false e =
+        List·getD-eq-default (set words p 0) 0 (omega (arith, ltb-false p (length words) e, length-set words p 0))
 
-pub started : {before after : List ℕ} → 424 ≤ length before → Cleared 0 424 before after → after ≡ startedIn before
+-- a word that is 0 stays 0
+keeps-zero : (words : List ℕ) (q p : ℕ) → getD words p 0 ≡ 0 → getD (set words q 0) p 0 ≡ 0
+keeps-zero words q p h = go (eqb p q) refl
+  where
+    go : (b : Bool) → eqb p q ≡ b → getD (set words q 0) p 0 ≡ 0
+    go true e = ap (λ m. getD (set words m 0) p 0) (sym (eqb-true p q e)) ∙ set-zero words p
+    go false e = getD-set-other words q p 0 0 (eqb-false p q e) ∙ h
+
+zeroed-keeps : (words places : List ℕ) (p : ℕ) → getD words p 0 ≡ 0 → getD (zeroedIn words places) p 0 ≡ 0
+unfolding zeroedIn
+zeroed-keeps words [] p h = h
+zeroed-keeps words (q ∷ places) p h = zeroed-keeps (set words q 0) places p (keeps-zero words q p h)
+
+zeroed-word : (words places : List ℕ) (p : ℕ) → any (eqb p) places ≡ true → getD (zeroedIn words places) p 0 ≡ 0
+unfolding zeroedIn
+zeroed-word words [] p h = absurd (false≢true h)
+zeroed-word words (q ∷ places) p h = go (eqb p q) refl h (zeroed-word (set words q 0) places p)
+  where
+    go : (b : Bool) → eqb p q ≡ b → b || any (eqb p) places ≡ true
+        → (any (eqb p) places ≡ true → getD (zeroedIn (set words q 0) places) p 0 ≡ 0)
+        → getD (zeroedIn (set words q 0) places) p 0 ≡ 0
+    go true e k rest =
+        zeroed-keeps (set words q 0) places p (ap (λ m. getD (set words m 0) p 0) (sym (eqb-true p q e)) ∙ set-zero words p)
+    go false e k rest = rest k
+
+zeroed-size : (words places : List ℕ) → length (zeroedIn words places) ≡ length words
+unfolding zeroedIn
+zeroed-size words [] = refl
+zeroed-size words (q ∷ places) = zeroed-size (set words q 0) places ∙ length-set words q 0
+
+-- the words set to 0 at the start
+pub started-word : (words : List ℕ) (p : ℕ)
+    → any (eqb p) (96 ∷ 128 ∷ 160 ∷ 192 ∷ 224 ∷ 416 ∷ 417 ∷ 418 ∷ 419 ∷ 420 ∷ 421 ∷ 422 ∷ 423 ∷ []) ≡ true
+    → getD (startedIn words) p 0 ≡ 0
 unfolding startedIn
-started {before} n c = cleared-started n c ∙ sym (ap pick (le-leb 424 (length before) n))
-  where
-    pick : Bool → List ℕ
-    pick b = elim b [ true ↦ replicate 424 0 ++ drop 424 before | false ↦ before ]
+started-word words = zeroed-word words (96 ∷ 128 ∷ 160 ∷ 192 ∷ 224 ∷ 416 ∷ 417 ∷ 418 ∷ 419 ∷ 420 ∷ 421 ∷ 422 ∷ 423 ∷ [])
 
-pub not-started : {before : List ℕ} → length before < 424 → before ≡ startedIn before
+pub started-size : (words : List ℕ) → length (startedIn words) ≡ length words
 unfolding startedIn
-not-started {before} n = sym (ap pick (lt-leb 424 (length before) n))
-  where
-    pick : Bool → List ℕ
-    pick b = elim b [ true ↦ replicate 424 0 ++ drop 424 before | false ↦ before ]
+started-size words = zeroed-size words (96 ∷ 128 ∷ 160 ∷ 192 ∷ 224 ∷ 416 ∷ 417 ∷ 418 ∷ 419 ∷ 420 ∷ 421 ∷ 422 ∷ 423 ∷ [])

@@ -1,10 +1,10 @@
 -- What the code keeps of the lines taken so far, step by step, and its tests of a line. `HoldsLaws` of line_rules ties them to `Reading`.
 use mathlib.Core.Bool.{Bool, true, false, cond, not, _&&_, _||_}
 use mathlib.Core.List.{List}
-use Prim.Native.Nat.{ℕ, _+_, _-_, _^_}
+use Prim.Native.Nat.{ℕ, _+_, _-_, _%_, _^_}
 use lib.Bits.{bitOr}
 use lib.Dec.{eqb, ltb}
-use lib.ListN.{getD, set, replicate}
+use lib.ListN.{getD, set}
 use Rattle.spec_base.specs.Basic.{within}
 use Rattle.spec_text.specs.declared.Line.{Line}
 use Rattle.spec_text.specs.declared.LineKind.{LineKind}
@@ -12,23 +12,30 @@ use Rattle.spec_text.specs.declared.LineKind.the-variants.{Rl, Fk, Pr, St, Lo, 
 use Rattle.spec_text.specs.Reading.{canBeParent, setsAllowed}
 use Rattle.line_state.specs.Records.{Tables, Stack, Statements, State}
 
--- one more
+-- one more; no count that is kept comes near 65535
 unfoldable pub nextOf : ℕ → ℕ
-nextOf n = cond (ltb n 65535) (n + 1) n
+nextOf n = n % 65536 + 1
+
+-- an array has 32 cells, and a place past them is one of them again: where lines are held no such place is looked at
+abbrev pub cellOf : List ℕ → ℕ → ℕ
+cellOf a i = getD a (i % 32) 0
+
+abbrev pub storedIn : List ℕ → ℕ → ℕ → List ℕ
+storedIn a i v = set a (i % 32) v
 
 -- a block's place as a set, where the block is of the part asked for
 unfoldable pub markOf : ℕ → ℕ → ℕ → ℕ
-markOf part which place = cond (eqb part which) (cond (ltb place 64) (2 ^ place) 0) 0
+markOf part which place = cond (eqb part which) (2 ^ (place % 64)) 0
 
 -- a depth more, with what is there below it and one place more
 abbrev pub markedOf : List ℕ → ℕ → ℕ → List ℕ
-markedOf a below m = set a (nextOf below) (bitOr m (getD a below 0))
+markedOf a below m = storedIn a (nextOf below) (bitOr m (cellOf a below))
 
 abbrev pub withRelation : Tables → ℕ → Tables
 withRelation t reads =
     record {
       relations = nextOf (t .relations);
-      sets = set (t .sets) (t .relations) reads;
+      sets = storedIn (t .sets) (t .relations) reads;
       keys = t .keys;
       children = t .children;
       parents = t .parents;
@@ -40,38 +47,39 @@ withKey t child parent =
       relations = t .relations;
       sets = t .sets;
       keys = nextOf (t .keys);
-      children = set (t .children) (t .keys) child;
-      parents = set (t .parents) (t .keys) parent;
+      children = storedIn (t .children) (t .keys) child;
+      parents = storedIn (t .parents) (t .keys) parent;
     }
 
-abbrev pub emptyStack : Stack
-emptyStack =
+-- no open block, no statement: what the arrays hold is no longer looked at, but for what stands below the first block
+abbrev pub emptiedStack : Stack → Stack
+emptiedStack k =
     record {
       depth = 0;
-      places = replicate 32 0;
-      parts = replicate 32 0;
-      loops = replicate 32 0;
-      firsts = replicate 32 0;
-      seconds = replicate 32 0;
+      places = k .places;
+      parts = k .parts;
+      loops = k .loops;
+      firsts = k .firsts;
+      seconds = k .seconds;
     }
 
-abbrev pub emptyStatements : Statements
-emptyStatements =
+abbrev pub emptiedStatements : Statements → Statements
+emptiedStatements x =
     record {
       count = 0;
-      relations = replicate 32 0;
-      parental = replicate 32 0;
-      loops = replicate 32 0;
-      firsts = replicate 32 0;
-      seconds = replicate 32 0;
+      relations = x .relations;
+      parental = x .parental;
+      loops = x .loops;
+      firsts = x .firsts;
+      seconds = x .seconds;
     }
 
 abbrev pub pushedOf : Stack → ℕ → ℕ → Stack
 pushedOf k place part =
     record {
       depth = nextOf (k .depth);
-      places = set (k .places) (nextOf (k .depth)) place;
-      parts = set (k .parts) (nextOf (k .depth)) part;
+      places = storedIn (k .places) (nextOf (k .depth)) place;
+      parts = storedIn (k .parts) (nextOf (k .depth)) part;
       loops = markedOf (k .loops) (k .depth) (markOf part 0 place);
       firsts = markedOf (k .firsts) (k .depth) (markOf part 1 place);
       seconds = markedOf (k .seconds) (k .depth) (markOf part 2 place);
@@ -89,37 +97,17 @@ poppedOf k =
     }
 
 abbrev pub secondOf : Stack → Stack
-secondOf k = pushedOf (poppedOf k) (getD (k .places) (k .depth) 0) 2
+secondOf k = pushedOf (poppedOf k) (cellOf (k .places) (k .depth)) 2
 
 abbrev pub withStatement : Statements → Stack → ℕ → ℕ → Statements
 withStatement x k rel fit =
     record {
       count = nextOf (x .count);
-      relations = set (x .relations) (x .count) rel;
-      parental = set (x .parental) (x .count) fit;
-      loops = set (x .loops) (x .count) (getD (k .loops) (k .depth) 0);
-      firsts = set (x .firsts) (x .count) (getD (k .firsts) (k .depth) 0);
-      seconds = set (x .seconds) (x .count) (getD (k .seconds) (k .depth) 0);
-    }
-
--- no line yet
-unfoldable pub emptyKept : State
-emptyKept =
-    record {
-      lines = 0;
-      programs = 0;
-      body = 0;
-      links = 0;
-      tables =
-          record {
-            relations = 0;
-            sets = replicate 32 0;
-            keys = 0;
-            children = replicate 32 0;
-            parents = replicate 32 0;
-          };
-      stack = emptyStack;
-      statements = emptyStatements;
+      relations = storedIn (x .relations) (x .count) rel;
+      parental = storedIn (x .parental) (x .count) fit;
+      loops = storedIn (x .loops) (x .count) (cellOf (k .loops) (k .depth));
+      firsts = storedIn (x .firsts) (x .count) (cellOf (k .firsts) (k .depth));
+      seconds = storedIn (x .seconds) (x .count) (cellOf (k .seconds) (k .depth));
     }
 
 -- a line taken that leaves the program at hand as it is
@@ -155,8 +143,8 @@ takenProgram s =
       body = 0;
       links = 0;
       tables = s .tables;
-      stack = emptyStack;
-      statements = emptyStatements;
+      stack = emptiedStack (s .stack);
+      statements = emptiedStatements (s .statements);
     }
 
 abbrev pub takenStatement : State → ℕ → ℕ → State
@@ -232,7 +220,7 @@ abbrev pub inBodyOf : ℕ → ℕ → Bool
 inBodyOf programs links = not (eqb programs 0) && eqb links 0
 
 abbrev pub innermostOf : Stack → ℕ → Bool
-innermostOf k part = not (eqb (k .depth) 0) && eqb (getD (k .parts) (k .depth) 0) part
+innermostOf k part = not (eqb (k .depth) 0) && eqb (cellOf (k .parts) (k .depth)) part
 
 -- R7
 unfoldable pub orderedOf : State → LineKind → Bool
@@ -269,7 +257,7 @@ unfoldable pub setsFitAs : Tables → Line → LineKind → Bool
 setsFitAs t l kind =
     elim kind [
       | Rl ↦ not (eqb (l .reads) 0)
-      | St k ↦ setsAllowed (getD (t .sets) (l .rel) 0) k l
+      | St k ↦ setsAllowed (cellOf (t .sets) (l .rel)) k l
       | Fk ↦ true
       | Pr ↦ true
       | Lo ↦ true
@@ -281,16 +269,16 @@ setsFitAs t l kind =
 
 abbrev pub blocksWithinOf : Statements → ℕ → ℕ → Bool
 blocksWithinOf x parent child =
-    within (getD (x .loops) parent 0) (getD (x .loops) child 0)
-    && within (getD (x .firsts) parent 0) (getD (x .firsts) child 0)
-    && within (getD (x .seconds) parent 0) (getD (x .seconds) child 0)
+    within (cellOf (x .loops) parent) (cellOf (x .loops) child)
+    && within (cellOf (x .firsts) parent) (cellOf (x .firsts) child)
+    && within (cellOf (x .seconds) parent) (cellOf (x .seconds) child)
 
 -- R8, of a link
 abbrev pub linkFitsOf : Tables → Statements → Line → Bool
 linkFitsOf t x l =
-    (eqb (getD (x .relations) (l .rel) 0) (getD (t .children) (l .id) 0)
-    && eqb (getD (x .relations) (l .to) 0) (getD (t .parents) (l .id) 0)
-    && eqb (getD (x .parental) (l .to) 0) 1)
+    (eqb (cellOf (x .relations) (l .rel)) (cellOf (t .children) (l .id))
+    && eqb (cellOf (x .relations) (l .to)) (cellOf (t .parents) (l .id))
+    && eqb (cellOf (x .parental) (l .to)) 1)
     && blocksWithinOf x (l .to) (l .rel)
 
 unfoldable pub isLinkOf : LineKind → Bool

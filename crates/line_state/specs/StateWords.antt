@@ -1,10 +1,8 @@
 -- The state in words: thirteen arrays of 32 words, then eight counts.
-use mathlib.Core.Bool.{true, false}
-use mathlib.Core.List.{List, _++_}
+use mathlib.Core.List.{List, [], _∷_}
 use mathlib.Core.Path.{_≡_}
-use Prim.Native.Nat.{ℕ, _≤_, _<_}
-use lib.Dec.{leb}
-use lib.ListN.{length, getD, take, drop, replicate}
+use Prim.Native.Nat.{ℕ, _≤_}
+use lib.ListN.{length, getD, set, take, drop}
 use Rattle.spec_text.specs.declared.Line.{Line}
 use Rattle.line_state.specs.Records.{State}
 use Rattle.line_state.specs.StateSteps.{takeOf}
@@ -49,13 +47,17 @@ stateIn words =
           };
     }
 
--- no line taken: the first 424 words are 0; too few words stay as they are
-unfoldable pub startedIn : List ℕ → List ℕ
-startedIn words = elim (leb 424 (length words)) [ true ↦ replicate 424 0 ++ drop 424 words | false ↦ words ]
+-- words set to 0
+unfoldable pub zeroedIn : List ℕ → List ℕ → List ℕ
+zeroedIn words [] = words
+zeroedIn words (p ∷ places) = zeroedIn (set words p 0) places
 
--- the words after a line taken: the state is the next one and what follows it stays; too few words stay as they are
+-- no line taken: the counts are 0, and so is what stands below the first open block; the other words stay as they are
+unfoldable pub startedIn : List ℕ → List ℕ
+startedIn words =
+    zeroedIn words (96 ∷ 128 ∷ 160 ∷ 192 ∷ 224 ∷ 416 ∷ 417 ∷ 418 ∷ 419 ∷ 420 ∷ 421 ∷ 422 ∷ 423 ∷ [])
+
+-- the words after a line taken: the state is the next one
 pub record Taken (before : List ℕ) (l : Line) (after : List ℕ) : Type 0 where
   pub size : length after ≡ length before
-  pub short : length before < 424 → after ≡ before
   pub state : 424 ≤ length before → stateIn after ≡ takeOf (stateIn before) l
-  pub rest : drop 424 after ≡ drop 424 before

@@ -1,10 +1,11 @@
 -- Cells of an array that lies in words, and stores into it.
 use mathlib.Core.Path.{_≡_, _∙_}
 use mathlib.Core.List.{List}
-use Prim.Native.Nat.{ℕ, _+_, _-_, _≤_, _<_}
+use Prim.Native.Nat.{ℕ, _+_, _-_, _%_, _≤_, _<_}
 use native.Mathlib.Omega.{arith}
 use lib.ListN.{length, getD, drop, length-take, length-drop, List·getD-eq-default}
 use lib.Seq.{getD-take, getD-drop}
+use Rattle.line_state.specs.StateSteps.{cellOf}
 use Rattle.line_state.specs.StateWords.{arrayIn}
 
 -- a cell is a word
@@ -12,11 +13,11 @@ pub cell-word : (words : List ℕ) (from i : ℕ) → i < 32 → getD (arrayIn w
 unfolding arrayIn
 cell-word words from i h = getD-take 32 (drop from words) i 0 h ∙ getD-drop from words i 0
 
--- no cell past the array's end, nor past the words'
-pub cell-past : (words : List ℕ) (from i : ℕ) → 32 ≤ i → getD (arrayIn words from) i 0 ≡ 0
-unfolding arrayIn
-cell-past words from i h = List·getD-eq-default (arrayIn words from) 0 (omega (arith, length-take 32 (drop from words)))
+-- a cell as the code reads it
+pub cell-at : (words : List ℕ) (from i : ℕ) → cellOf (arrayIn words from) i ≡ getD words (from + i % 32) 0
+cell-at words from i = cell-word words from (i % 32) (omega arith)
 
+-- no cell past the words
 pub cell-short : (words : List ℕ) (from i : ℕ) → length words - from ≤ i → getD (arrayIn words from) i 0 ≡ 0
 unfolding arrayIn
 cell-short words from i h =

@@ -1,6 +1,6 @@
 // The words in which reading keeps what it needs of the lines taken so far.
 ghost use mathlib.Core.Path.{_≡_};
-ghost use lib.ListN.{getD};
+ghost use Rattle.line_state.specs.StateSteps.{cellOf};
 ghost use Rattle.line_state.specs.StateWords.{arrayIn, startedIn};
 
 // Where the arrays begin: the relations' sets, the keys' children and parents;
@@ -76,28 +76,42 @@ pub const MOST_LINKS: u64 = 32;
 
 pub const MOST_DEPTH: u64 = 8;
 
-// A cell of the array that begins at a word, 0 past its end.
-pub fn cell(words: &[u64], from: usize, i: u64) -> u64
-    ensures { λ r. ⌜ r ≡ getD (arrayIn (now (words .entry)) from) i 0 ⌝ }
+// A cell of the array that begins at a word, of any words: an array has 32 cells, and past the words a cell is 0.
+fn cell_in(words: &[u64], from: usize, i: u64) -> u64
+    ensures { λ r. ⌜ r ≡ cellOf (arrayIn (now (words .entry)) from) i ⌝ }
 {
-    if i < 32 {
-        let n = words.len();
-        if from < n {
-            let at = i as usize;
-            if at < n - from {
-                return words[from + at];
-            }
+    let at = (i % 32) as usize;
+    let n = words.len();
+    if from < n {
+        if at < n - from {
+            return words[from + at];
         }
     }
     0
 }
 
-// No line taken yet; too few words stay as they are.
-pub fn start(words: &mut [u64])
+// A cell of the array that begins at a word of the state. With the place of an array both tests are known to pass.
+pub fn cell(words: &[u64; WORDS], from: usize, i: u64) -> u64
+    ensures { λ r. ⌜ r ≡ cellOf (arrayIn (now (words .entry)) from) i ⌝ }
+{
+    cell_in(words, from, i)
+}
+
+// No line taken yet. Only what is looked at before the first line is set: the words may hold anything.
+pub fn start(words: &mut [u64; WORDS])
     ensures { λ _. ⌜ now (words .exit) ≡ startedIn (now (words .entry)) ⌝ }
 {
-    if words.len() < WORDS {
-        return;
-    }
-    word_list::clear(words, 0, WORDS);
+    words[OPEN_PLACES] = 0;
+    words[OPEN_PARTS] = 0;
+    words[OPEN_LOOPS] = 0;
+    words[OPEN_FIRSTS] = 0;
+    words[OPEN_SECONDS] = 0;
+    words[BODY] = 0;
+    words[LINKS] = 0;
+    words[DEPTH] = 0;
+    words[STATEMENTS] = 0;
+    words[LINES] = 0;
+    words[PROGRAMS] = 0;
+    words[RELATIONS] = 0;
+    words[KEYS] = 0;
 }

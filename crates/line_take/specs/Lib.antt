@@ -1,4 +1,3 @@
 pub mod Stores
 pub mod StoreLaws
-pub mod ClearLaws
 pub mod TakeLaws

@@ -2,31 +2,14 @@
 use mathlib.Core.Bool.{Bool, true, false}
 use mathlib.Core.List.{List, [], _∷_}
 use mathlib.Core.Path.{_≡_}
-use Prim.Native.Nat.{ℕ, _+_, _*_}
+use Prim.Native.Nat.{ℕ, _+_, _*_, _%_, _≤_}
 use lib.Dec.{eqb, ltb}
-use lib.ListN.{length, getD, set, drop}
+use lib.ListN.{length, getD, set}
 use Rattle.spec_text.specs.declared.Line.{Line}
 use Rattle.spec_text.specs.declared.LineKind.{LineKind}
 use Rattle.line_state.specs.Records.{Stack, State}
-use Rattle.line_state.specs.StateSteps.{nextOf}
-use Rattle.line_state.specs.StateWords.{arrayIn, stateIn}
-
--- a cell of an array set; past the array's end nothing changes
-unfoldable pub putIn : List ℕ → ℕ → ℕ → ℕ → List ℕ
-putIn words from i v = elim (ltb i 32) [ true ↦ set words (from + i) v | false ↦ words ]
-
--- five cells at one place of neighbouring arrays set
-abbrev pub cellsIn : List ℕ → ℕ → ℕ → ℕ → ℕ → ℕ → ℕ → ℕ → List ℕ
-cellsIn words from i v w x y z =
-    putIn (putIn (putIn (putIn (putIn words from i v) (from + 32) i w) (from + 64) i x) (from + 96) i y) (from + 128) i z
-
--- a word becomes one more
-unfoldable pub stepIn : List ℕ → ℕ → List ℕ
-stepIn words at = set words at (nextOf (getD words at 0))
-
--- a count and the number of lines become one more
-abbrev pub countIn : List ℕ → ℕ → List ℕ
-countIn words at = stepIn (stepIn words at) 420
+use Rattle.line_state.specs.StateSteps.{nextOf, storedIn}
+use Rattle.line_state.specs.StateWords.{stateIn}
 
 -- a store: array, cell and value; count and value; a count that becomes one more
 pub data Store : Type 0 where
@@ -41,9 +24,9 @@ fits (count c v) = ltb c 8
 fits (step c) = ltb c 8
 
 unfoldable pub storeIn : List ℕ → Store → List ℕ
-storeIn words (cell k i v) = putIn words (32 * k) i v
+storeIn words (cell k i v) = set words (32 * k + i % 32) v
 storeIn words (count c v) = set words (416 + c) v
-storeIn words (step c) = stepIn words (416 + c)
+storeIn words (step c) = set words (416 + c) (nextOf (getD words (416 + c) 0))
 
 unfoldable pub storesIn : List ℕ → List Store → List ℕ
 storesIn words [] = words
@@ -51,7 +34,7 @@ storesIn words (x ∷ stores) = storesIn (storeIn words x) stores
 
 -- an array after stores
 unfoldable pub arrayAfter : ℕ → List ℕ → Store → List ℕ
-arrayAfter j a (cell k i v) = elim (eqb k j) [ true ↦ set a i v | false ↦ a ]
+arrayAfter j a (cell k i v) = elim (eqb k j) [ true ↦ storedIn a i v | false ↦ a ]
 arrayAfter j a (count c v) = a
 arrayAfter j a (step c) = a
 
@@ -105,11 +88,10 @@ stateAfterStores s stores =
           };
     }
 
--- words that keep a state now, and are as before past it
+-- words that keep a state now
 pub record Took (before after : List ℕ) (s : State) : Type 0 where
   pub size : length after ≡ length before
-  pub state : stateIn after ≡ s
-  pub rest : drop 424 after ≡ drop 424 before
+  pub state : 424 ≤ length before → stateIn after ≡ s
 
 -- open blocks down to a depth
 abbrev pub atDepth : Stack → ℕ → Stack

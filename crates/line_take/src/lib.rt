@@ -1,40 +1,37 @@
-// The state that words keep, after a line.
+// The state that words keep, after a line. A place in an array is taken within its 32 cells and a count within 65536, so that no store needs a
+// test; where the words hold lines, neither changes anything.
 use line_kinds::facts_of;
+use line_state::BODY;
+use line_state::DEPTH;
 use line_state::FIRST_ARM;
+use line_state::LINES;
 use line_state::LOOP;
 use line_state::OPEN_FIRSTS;
 use line_state::OPEN_LOOPS;
+use line_state::OPEN_PARTS;
 use line_state::OPEN_PLACES;
 use line_state::OPEN_SECONDS;
 use line_state::SECOND_ARM;
+use line_state::WORDS;
 use spec_text::Line;
 use spec_text::LineKind;
 use spec_text::StatementKind;
-use word_list::clear;
-use word_list::word_at;
 ghost use mathlib.Core.Path.{_≡_};
 ghost use mathlib.Core.Bool.{cond};
-ghost use Prim.Native.Nat.{_-_, _≤_, _<_};
-ghost use lib.Bits.{bitOr};
-ghost use lib.ListN.{length, getD};
+ghost use Prim.Native.Nat.{_-_};
 ghost use Rattle.spec_text.specs.Reading.{canBeParent};
-ghost use Rattle.line_state.specs.StateSteps.{nextOf, markOf, pushedOf, poppedOf, secondOf, takeAs};
-ghost use Rattle.line_state.specs.StateSteps.{takenRelation, takenKey, takenProgram, takenStatement, takenFlow};
-ghost use Rattle.line_state.specs.StateWords.{arrayIn, stateIn, Taken};
-ghost use Rattle.line_take.specs.Stores.{putIn, cellsIn, stepIn, countIn, atDepth, lineBy, Took};
+ghost use Rattle.line_state.specs.StateSteps.{markOf, pushedOf, poppedOf, secondOf, takeAs};
+ghost use Rattle.line_state.specs.StateSteps.{takenRelation, takenKey, takenProgram, takenStatement, takenFlow, takenLink};
+ghost use Rattle.line_state.specs.StateWords.{stateIn, Taken};
+ghost use Rattle.line_take.specs.Stores.{atDepth, lineBy, Took};
 
-// Where counts stop; none that is kept comes near it.
-const MOST: u64 = 65535;
+// Where counts begin again; none that is kept comes near it.
+const COUNTS: u64 = 65536;
 
-// One more.
-fn next(n: u64) -> u64
-    ensures { λ r. ⌜ r ≡ nextOf n ⌝ }
-{
-    if n < MOST {
-        return n + 1;
-    }
-    n
-}
+// The cells of an array, and the bits of a word.
+const CELLS: u64 = 32;
+
+const BITS: u64 = 64;
 
 // One less, 0 at 0.
 fn previous(n: u64) -> u64
@@ -46,176 +43,139 @@ fn previous(n: u64) -> u64
     n - 1
 }
 
-// Sets a cell of the array that begins at a word; past its end nothing changes.
-fn put_cell(words: &mut [u64], from: usize, i: u64, v: u64)
-    requires { ⌜ (from ≤ 392) × (424 ≤ length (now words)) ⌝ }
-    ensures { λ _. ⌜ now (words .exit) ≡ putIn (now (words .entry)) from i v ⌝ }
-{
-    if i < 32 {
-        words[from + i as usize] = v;
-    }
-}
-
-// Sets five cells at one place of neighbouring arrays; past their end nothing changes.
-fn put_cells(words: &mut [u64], from: usize, i: u64, v: u64, w: u64, x: u64, y: u64, z: u64)
-    requires { ⌜ (from ≤ 264) × (424 ≤ length (now words)) ⌝ }
-    ensures { λ _. ⌜ now (words .exit) ≡ cellsIn (now (words .entry)) from i v w x y z ⌝ }
-{
-    if i < 32 {
-        let at = from + i as usize;
-        words[at] = v;
-        words[at + 32] = w;
-        words[at + 64] = x;
-        words[at + 96] = y;
-        words[at + 128] = z;
-    }
-}
-
-// Makes a word one more.
-fn advance(words: &mut [u64], at: usize)
-    requires { ⌜ at < length (now words) ⌝ }
-    ensures { λ _. ⌜ now (words .exit) ≡ stepIn (now (words .entry)) at ⌝ }
-{
-    let n = words[at];
-    words[at] = next(n);
-}
-
-// Makes a count and the number of lines one more.
-fn count_line(words: &mut [u64], at: usize)
-    requires { ⌜ (at < 424) × (424 ≤ length (now words)) ⌝ }
-    ensures { λ _. ⌜ now (words .exit) ≡ countIn (now (words .entry)) at ⌝ }
-{
-    advance(words, at);
-    advance(words, line_state::LINES);
-}
-
-fn take_relation(words: &mut [u64], reads: u64)
-    requires { ⌜ 424 ≤ length (now words) ⌝ }
+fn take_relation(words: &mut [u64; WORDS], reads: u64)
     ensures { λ _. ⌜ Took (now (words .entry)) (now (words .exit)) (takenRelation (stateIn (now (words .entry))) reads) ⌝ }
 {
-    let at = word_at(words, line_state::RELATIONS);
-    put_cell(words, line_state::SETS, at, reads);
-    count_line(words, line_state::RELATIONS);
-}
-
-// A new program: no block is open, and it has no line yet. What is kept of the program at hand stands in one piece.
-fn take_program(words: &mut [u64])
-    requires { ⌜ 424 ≤ length (now words) ⌝ }
-    ensures { λ _. ⌜ Took (now (words .entry)) (now (words .exit)) (takenProgram (stateIn (now (words .entry)))) ⌝ }
-{
-    clear(words, OPEN_PLACES, line_state::LINES);
-    count_line(words, line_state::PROGRAMS);
+    let at = words[line_state::RELATIONS];
+    words[line_state::SETS + (at % CELLS) as usize] = reads;
+    words[line_state::RELATIONS] = at % COUNTS + 1;
+    words[LINES] = words[LINES] % COUNTS + 1;
 }
 
 // A foreign key more, with its child and its parent relation.
-fn take_key(words: &mut [u64], child: u8, parent: u8)
-    requires { ⌜ 424 ≤ length (now words) ⌝ }
+fn take_key(words: &mut [u64; WORDS], child: u8, parent: u8)
     ensures { λ _. ⌜ Took (now (words .entry)) (now (words .exit)) (takenKey (stateIn (now (words .entry))) child parent) ⌝ }
 {
-    let at = word_at(words, line_state::KEYS);
-    put_cell(words, line_state::CHILDREN, at, child as u64);
-    put_cell(words, line_state::PARENTS, at, parent as u64);
-    count_line(words, line_state::KEYS);
+    let at = words[line_state::KEYS];
+    let place = (at % CELLS) as usize;
+    words[line_state::CHILDREN + place] = child as u64;
+    words[line_state::PARENTS + place] = parent as u64;
+    words[line_state::KEYS] = at % COUNTS + 1;
+    words[LINES] = words[LINES] % COUNTS + 1;
+}
+
+// A new program: no block is open, and it has no line yet.
+fn take_program(words: &mut [u64; WORDS])
+    ensures { λ _. ⌜ Took (now (words .entry)) (now (words .exit)) (takenProgram (stateIn (now (words .entry)))) ⌝ }
+{
+    words[BODY] = 0;
+    words[line_state::LINKS] = 0;
+    words[DEPTH] = 0;
+    words[line_state::STATEMENTS] = 0;
+    words[line_state::PROGRAMS] = words[line_state::PROGRAMS] % COUNTS + 1;
+    words[LINES] = words[LINES] % COUNTS + 1;
 }
 
 // One statement more, within the open blocks, with 1 where its kind may be a link's parent.
-fn take_statement(words: &mut [u64], rel: u8, kind: StatementKind)
-    requires { ⌜ 424 ≤ length (now words) ⌝ }
+fn take_statement(words: &mut [u64; WORDS], rel: u8, kind: StatementKind)
     ensures { λ _. ⌜
         Took (now (words .entry)) (now (words .exit)) (takenStatement (stateIn (now (words .entry))) rel (cond (canBeParent kind) 1 0))
         ⌝ }
 {
-    let at = word_at(words, line_state::STATEMENTS);
-    let depth = word_at(words, line_state::DEPTH);
-    let loops = line_state::cell(words, OPEN_LOOPS, depth);
-    let firsts = line_state::cell(words, OPEN_FIRSTS, depth);
-    let seconds = line_state::cell(words, OPEN_SECONDS, depth);
     let fit = (facts_of(kind) & line_kinds::PARENT) / line_kinds::PARENT;
-    put_cells(
-        words,
-        line_state::STATEMENT_RELATIONS,
-        at,
-        rel as u64,
-        fit,
-        loops,
-        firsts,
-        seconds,
-    );
-    advance(words, line_state::STATEMENTS);
-    count_line(words, line_state::BODY);
+    let depth = (words[DEPTH] % CELLS) as usize;
+    let loops = words[OPEN_LOOPS + depth];
+    let firsts = words[OPEN_FIRSTS + depth];
+    let seconds = words[OPEN_SECONDS + depth];
+    let at = words[line_state::STATEMENTS];
+    let place = (at % CELLS) as usize;
+    words[line_state::STATEMENT_RELATIONS + place] = rel as u64;
+    words[line_state::PARENTAL + place] = fit;
+    words[line_state::AROUND_LOOPS + place] = loops;
+    words[line_state::AROUND_FIRSTS + place] = firsts;
+    words[line_state::AROUND_SECONDS + place] = seconds;
+    words[line_state::STATEMENTS] = at % COUNTS + 1;
+    words[BODY] = words[BODY] % COUNTS + 1;
+    words[LINES] = words[LINES] % COUNTS + 1;
 }
 
-// The places of one part above a depth: those below, and the block's own where it is of that part.
-fn marked(words: &[u64], from: usize, below: u64, part: u64, which: u64, place: u64) -> u64
-    ensures { λ r. ⌜ r ≡ bitOr (markOf part which place) (getD (arrayIn (now (words .entry)) from) below 0) ⌝ }
+// A block's place as a set, where the block is of the part asked for.
+fn mark(part: u64, which: u64, place: u64) -> u64
+    ensures { λ r. ⌜ r ≡ markOf part which place ⌝ }
 {
-    let others = line_state::cell(words, from, below);
     if part != which {
-        return others;
+        return 0;
     }
-    if place < 64 {
-        return (1u64 << place) | others;
-    }
-    others
+    1u64 << (place % BITS)
 }
 
-// One block more above a depth.
-fn push(words: &mut [u64], below: u64, place: u64, part: u64)
-    requires { ⌜ 424 ≤ length (now words) ⌝ }
+// One block more above a depth: its place is added to the places of its part.
+fn push(words: &mut [u64; WORDS], below: u64, place: u64, part: u64)
     ensures { λ _. ⌜
         Took (now (words .entry)) (now (words .exit))
         (takenFlow (stateIn (now (words .entry))) (pushedOf (atDepth (stateIn (now (words .entry)) .stack) below) place part))
         ⌝ }
 {
-    let at = next(below);
-    let loops = marked(words, OPEN_LOOPS, below, part, LOOP, place);
-    let firsts = marked(words, OPEN_FIRSTS, below, part, FIRST_ARM, place);
-    let seconds = marked(words, OPEN_SECONDS, below, part, SECOND_ARM, place);
-    put_cells(words, OPEN_PLACES, at, place, part, loops, firsts, seconds);
-    count_line(words, line_state::BODY);
-    words[line_state::DEPTH] = at;
+    let low = (below % CELLS) as usize;
+    let loops = mark(part, LOOP, place) | words[OPEN_LOOPS + low];
+    let firsts = mark(part, FIRST_ARM, place) | words[OPEN_FIRSTS + low];
+    let seconds = mark(part, SECOND_ARM, place) | words[OPEN_SECONDS + low];
+    let above = below % COUNTS + 1;
+    let high = (above % CELLS) as usize;
+    words[OPEN_PLACES + high] = place;
+    words[OPEN_PARTS + high] = part;
+    words[OPEN_LOOPS + high] = loops;
+    words[OPEN_FIRSTS + high] = firsts;
+    words[OPEN_SECONDS + high] = seconds;
+    words[BODY] = words[BODY] % COUNTS + 1;
+    words[LINES] = words[LINES] % COUNTS + 1;
+    words[DEPTH] = above;
 }
 
 // The innermost block goes on with its second arm.
-fn take_second(words: &mut [u64])
-    requires { ⌜ 424 ≤ length (now words) ⌝ }
+fn take_second(words: &mut [u64; WORDS])
     ensures { λ _. ⌜
         Took (now (words .entry)) (now (words .exit)) (takenFlow (stateIn (now (words .entry))) (secondOf (stateIn (now (words .entry)) .stack)))
         ⌝ }
 {
-    let depth = word_at(words, line_state::DEPTH);
-    let place = line_state::cell(words, OPEN_PLACES, depth);
+    let depth = words[DEPTH];
+    let place = words[OPEN_PLACES + (depth % CELLS) as usize];
     push(words, previous(depth), place, SECOND_ARM);
 }
 
 // The innermost block closed.
-fn take_closing(words: &mut [u64])
-    requires { ⌜ 424 ≤ length (now words) ⌝ }
+fn take_closing(words: &mut [u64; WORDS])
     ensures { λ _. ⌜
         Took (now (words .entry)) (now (words .exit)) (takenFlow (stateIn (now (words .entry))) (poppedOf (stateIn (now (words .entry)) .stack)))
         ⌝ }
 {
-    let depth = word_at(words, line_state::DEPTH);
-    count_line(words, line_state::BODY);
-    words[line_state::DEPTH] = previous(depth);
+    let below = previous(words[DEPTH]);
+    words[BODY] = words[BODY] % COUNTS + 1;
+    words[LINES] = words[LINES] % COUNTS + 1;
+    words[DEPTH] = below;
 }
 
 // A loop or the first arm of a branch begins.
-fn take_opening(words: &mut [u64], part: u64)
-    requires { ⌜ 424 ≤ length (now words) ⌝ }
+fn take_opening(words: &mut [u64; WORDS], part: u64)
     ensures { λ _. ⌜
         Took (now (words .entry)) (now (words .exit))
         (takenFlow (stateIn (now (words .entry))) (pushedOf (stateIn (now (words .entry)) .stack) (stateIn (now (words .entry)) .body) part))
         ⌝ }
 {
-    let depth = word_at(words, line_state::DEPTH);
-    let body = word_at(words, line_state::BODY);
+    let depth = words[DEPTH];
+    let body = words[BODY];
     push(words, depth, body, part);
 }
 
+fn take_link(words: &mut [u64; WORDS])
+    ensures { λ _. ⌜ Took (now (words .entry)) (now (words .exit)) (takenLink (stateIn (now (words .entry)))) ⌝ }
+{
+    words[line_state::LINKS] = words[line_state::LINKS] % COUNTS + 1;
+    words[LINES] = words[LINES] % COUNTS + 1;
+}
+
 // A line of this kind taken, with the values that matter to it: with few locals the nine arms are cheap to check.
-fn take_kind(words: &mut [u64], kind: LineKind, reads: u64, rel: u8, to: u8)
-    requires { ⌜ 424 ≤ length (now words) ⌝ }
+fn take_kind(words: &mut [u64; WORDS], kind: LineKind, reads: u64, rel: u8, to: u8)
     ensures { λ _. ⌜
         Took (now (words .entry)) (now (words .exit)) (takeAs (stateIn (now (words .entry))) (lineBy kind reads rel to) kind)
         ⌝ }
@@ -229,17 +189,14 @@ fn take_kind(words: &mut [u64], kind: LineKind, reads: u64, rel: u8, to: u8)
         LineKind::Br => take_opening(words, FIRST_ARM),
         LineKind::El => take_second(words),
         LineKind::En => take_closing(words),
-        LineKind::Li => count_line(words, line_state::LINKS),
+        LineKind::Li => take_link(words),
     }
 }
 
-// A line taken; too few words stay as they are.
-pub fn take(words: &mut [u64], l: Line)
+// A line taken.
+pub fn take(words: &mut [u64; WORDS], l: Line)
     ensures { λ _. ⌜ Taken (now (words .entry)) l (now (words .exit)) ⌝ }
 {
-    if words.len() < line_state::WORDS {
-        return;
-    }
     let kind = l.kind;
     take_kind(words, kind, l.reads, l.rel, l.to);
 }

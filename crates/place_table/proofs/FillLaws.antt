@@ -1,24 +1,28 @@
 -- The paths through the filling of a table for a workload value.
-use mathlib.Core.Bool.{false}
-use mathlib.Core.List.{List, _++_, map}
+use mathlib.Core.Bool.{Bool, true, false, cond}
+use mathlib.Core.List.{List, [], _∷_, _++_, map}
 use mathlib.Core.Option.{some}
-use mathlib.Core.Path.{_≡_, refl, ap, subst, _∙_}
-use Prim.Native.Nat.{ℕ, _+_, _*_, _-_, _/_, _≤_, _<_}
+use mathlib.Core.Path.{_≡_, refl, sym, ap, subst, _∙_}
+use Prim.Native.Nat.{ℕ, zero, suc, _+_, _*_, _-_, _/_, _≤_, _<_}
 use native.Mathlib.Omega.{arith}
-use lib.ListN.{length, getD, getElem?, take, drop, replicate, length-take, length-map, List·getD-append}
+use lib.ListN.{length, getD, getElem?, take, drop, replicate, length-take, length-map, length-append, List·getD-append}
 use borrow.Author.Tests.{le-ltb}
 use Rattle.law_base.specs.ListLaws.{getElem?-lt, getElem?-member, getElem?-map-some}
 use Rattle.spec_text.specs.declared.Line.{Line}
 use Rattle.spec_text.specs.declared.Workload.{Workload}
-use Rattle.spec_text.specs.Value.{Given, linesOf}
-use Rattle.law_text.specs.ValueLaws.{given-read, given-fits, given-cells}
+use Rattle.spec_text.specs.Value.{Given, linesOf, valueOf}
+use Rattle.law_text.specs.ValueLaws.{given-read, given-value, lines-of-value}
 use Rattle.spec_graph.specs.Unfolding.{Node, nodesOf}
 use Rattle.spec_report.specs.State.{StateRefusal, statementsIn, tooMany, shortForUnfoldings}
-use Rattle.spec_report.specs.State.StateRefusal.{taken}
+use Rattle.spec_report.specs.State.StateRefusal.{not-given, taken}
 use Rattle.place_row.specs.RowTable.{rowsOf, tableOf}
 use Rattle.unfold.specs.declared.Unfolded.{Unfolded}
-use Rattle.unfold.specs.UnfoldTold.{cells, nodesTold}
+use Rattle.unfold.specs.UnfoldTold.{cells, nodesTold, refusedWith}
+use Rattle.unfold.specs.UnfoldSteps.{tableTold, overMany, tooShort, piecesOver, Tabled}
+use Rattle.unfold.specs.PieceTable.{table}
+use Rattle.unfold_laws.specs.Pieces.{Piece, flat}
 use Rattle.unfold.specs.UnfoldSettled.{PlacesSettled}
+use Rattle.unfold.specs.UnfoldLines.{LinePlacesSettled}
 use Rattle.unfold.specs.Stand.{PlacesStand, places-stand}
 use Rattle.spec_report.specs.Refusals.{refusal-some, refusal-none, places-few, taken-given, other-area}
 use Rattle.place_programs.specs.declared.Begun.{Begun}
@@ -30,6 +34,7 @@ use Rattle.value_tables.specs.Lines.{lineTable}
 use Rattle.place_table.specs.RowWords.{totalOf, allRows, rowsTold, FilledBy}
 use Rattle.place_table.specs.Rows.{rowsSaid, RowsSettled}
 use Rattle.place_table.specs.Rows.RowsSettled.{refused, filled}
+use Rattle.place_table.specs.LineRows.{LinesFilled}
 use Rattle.place_table.proofs.PutRowLaws.{all-length}
 use Rattle.place_table.proofs.PlaceRowLaws.{element-default}
 use Rattle.place_table.proofs.NodeLaws.{Told, table-filled, places-told}
@@ -41,17 +46,49 @@ use Rattle.place_table.proofs.ProgramLaws.{programs-counted, node-begin
 pub lines-part : (w : Workload) (words : List ℕ) → length words ≡ 12928 → w .count ≤ 1616 → w .count * 8 ≡ length (take (w .count * 8) words)
 lines-part w words many fits = omega (arith, length-take (w .count * 8) words)
 
-pub filled-by : (w : Workload) (words : List ℕ) → take (w .count * 8) words ≡ lineTable (linesOf w) → (programs lengths places : List ℕ) (n : ℕ)
-    (before : List ℕ) (b : Begun) → b ≡ begunIn (take (w .count * 8) words)
-    → (total : ℕ) → total ≡ totalOf lengths n → (after : List ℕ)
-    → after ≡ putAt before 0 (allRows (take (w .count * 8) words) (b .firsts) programs lengths places n)
-    → FilledBy (lineTable (linesOf w)) programs lengths places n before (Filled (b .programs) n total) after
+pub filled-by : {lines programs lengths places : List ℕ} {n : ℕ} {before : List ℕ} {b : Begun} → b ≡ begunIn lines → {total : ℕ}
+    → total ≡ totalOf lengths n → {after : List ℕ} → after ≡ putAt before 0 (allRows lines (b .firsts) programs lengths places n)
+    → FilledBy lines programs lengths places n before (Filled (b .programs) n total) after
 unfolding rowsTold
-filled-by w words e programs lengths places n before b h total t after s =
-    subst
-    (λ (l : List ℕ). FilledBy l programs lengths places n before (Filled (b .programs) n total) after)
-    e
-    (record { tells = rw (h, t) refl; stands = s ∙ rw h refl })
+filled-by h t s = record { tells = rw (h, t) refl; stands = s ∙ rw h refl }
+
+-- ---- places for all words
+
+-- a total from the first number on
+total-first : (x : ℕ) (xs : List ℕ) (j : ℕ) → totalOf (x ∷ xs) (suc j) ≡ x + totalOf xs j
+unfolding totalOf
+total-first x xs zero = omega arith
+total-first x xs (suc j) = let more = total-first x xs j in omega arith
+
+-- the lengths of pieces add up to all their words, whatever follows
+total-pieces : (ps : List Piece) (rest : List ℕ) → totalOf (map (λ p. length (p .words)) ps ++ rest) (length ps) ≡ length (flat ps)
+unfolding flat totalOf
+total-pieces [] rest = refl
+total-pieces (p ∷ ps) rest =
+    total-first (length (p .words)) (map (λ p. length (p .words)) ps ++ rest) (length ps)
+    ∙ ap (λ (k : ℕ). length (p .words) + k) (total-pieces ps rest)
+    ∙ sym (length-append (p .words) (flat ps))
+
+-- what found room in 512 words is no more
+pub places-told-few : {codes numbers marks before after : List ℕ} {told : Unfolded} → Tabled codes numbers marks before told after
+    → length before ≡ 512 → length after ≡ 512 → told .refusal ≡ 0 → totalOf (told .length) (told .count) ≤ 512
+unfolding refusedWith tableTold table cells
+places-told-few {codes} {numbers} {marks} {before} {after} {told} t size long none-told =
+    go (overMany codes) (tooShort codes (length before)) (t .tells) (t .stands)
+  where
+    pieces : List Piece
+    pieces = piecesOver codes numbers marks
+
+    go : (a b : Bool) → told ≡ cond a (refusedWith 22) (cond b (refusedWith 20) (tableTold (table pieces)))
+        → after ≡ cond a before (cond b before (flat pieces ++ drop (length (flat pieces)) before))
+        → totalOf (told .length) (told .count) ≤ 512
+    go true b e s = let z : _≡_ {A = ℕ} 0 22 = sym none-told ∙ ap (λ (u : Unfolded). u .refusal) e in absurd (omega arith)
+    go false true e s = let z : _≡_ {A = ℕ} 0 20 = sym none-told ∙ ap (λ (u : Unfolded). u .refusal) e in absurd (omega arith)
+    go false false e s =
+        let total = ap (λ (u : Unfolded). totalOf (u .length) (u .count)) e
+        ∙ total-pieces pieces (replicate (64 - length (map (λ p. length (p .words)) pieces)) 0) in
+        let whole = ap length s ∙ length-append (flat pieces) (drop (length (flat pieces)) before) in
+        omega arith
 
 -- ---- refusals
 
@@ -116,15 +153,6 @@ module _ (w : Workload) (zeros : List ℕ) (size : length zeros ≡ 512) (told :
         ∙ places-told (both .0 .text) lines (given-read (both .0)) nodes (stand .words) (drop (length (stand .words)) zeros)
         (begunIn (lineTable lines) .firsts) (told .program) (told .length) (stand .fits) all-told
 
-    pub total-few : totalOf (told .length) (told .count) ≤ 512
-    total-few = let a = total-told in let b = places-few w (both .1) in omega arith
-
-    pub workload-cells : length (w .lines) ≡ 1616
-    workload-cells = given-cells (both .0)
-
-    pub workload-count : w .count ≤ 1616
-    workload-count = given-fits (both .0)
-
     abbrev firsts : List ℕ
     firsts = begunIn (lineTable lines) .firsts
 
@@ -152,3 +180,47 @@ module _ (w : Workload) (zeros : List ℕ) (size : length zeros ≡ 512) (told :
         (f .stands
         ∙ ap (λ (k : ℕ). rows ++ drop k before) long
         ∙ ap (λ (l : List ℕ). l ++ drop (8 * statementsIn nodes) before) rows-same)
+
+-- ---- over a table of lines
+
+module _ {lines places₀ table₀ : List ℕ} {told : Unfolded} {places : List ℕ} (unfolded : LinePlacesSettled lines places₀ told places)
+    (size : length places₀ ≡ 512) where
+  -- a refusal
+  pub lines-refused : (told .refusal ≡ 0 → ⊥) → LinesFilled lines places₀ table₀ (Refused (told .refusal)) places table₀
+  lines-refused other =
+      record {
+        told = told;
+        tabled = unfolded .tabled;
+        refuses = λ _. (refl, refl);
+        fills = λ e. absurd (other e);
+        settled = λ ls e g. refused-number (valueOf ls) places₀ size told places (unfolded .settled ls e g) table₀ other;
+      }
+
+  -- rows
+  pub lines-filled : told .refusal ≡ 0 → {r : Rows} {table′ : List ℕ}
+      → FilledBy lines (told .program) (told .length) places (told .count) table₀ r table′ → LinesFilled lines places₀ table₀ r places table′
+  lines-filled none-told {r} {table′} f =
+      record {
+        told = told;
+        tabled = unfolded .tabled;
+        refuses = λ other. absurd (other none-told);
+        fills = λ _. f;
+        settled =
+            λ ls e g. filled-table (valueOf ls) places₀ size told places (unfolded .settled ls e g) table₀ none-told r table′
+            (subst (λ (l : List ℕ). FilledBy l (told .program) (told .length) places (told .count) table₀ r table′)
+            (e ∙ ap lineTable (sym (lines-of-value ls))) f);
+      }
+
+-- ---- of a value
+
+-- S21
+pub rows-not-given : {w : Workload} {before : List ℕ} → (Given w → ⊥) → RowsSettled w before (Refused 21) before
+unfolding rowsSaid
+rows-not-given never = refused 21 (not-given never) refl refl
+
+-- a given value's lines stand in its table of lines
+pub rows-given : {w : Workload} → Given w → {lines places₀ table₀ : List ℕ} {r : Rows} {places table : List ℕ} → lines ≡ lineTable (linesOf w)
+    → LinesFilled lines places₀ table₀ r places table → RowsSettled w table₀ r table
+rows-given {w} g {table₀ = table₀} {r} {table = table} e f =
+    let same = given-value g in
+    subst (λ (v : Workload). RowsSettled v table₀ r table) (sym same) (f .settled (linesOf w) e (subst Given same g))

@@ -1,4 +1,5 @@
 pub mod RowWords
 pub mod Rows
+pub mod LineRows
 pub mod Whole
 pub mod NotGiven

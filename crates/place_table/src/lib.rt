@@ -8,7 +8,9 @@ use place_row::ROW_WORDS;
 use place_row::ROWS;
 use place_row::TABLE_WORDS;
 use spec_text::Workload;
+use unfold::unfold_line_places;
 use unfold_laws::WORD_LINES;
+use value_given::is_given;
 use value_tables::ID;
 use value_tables::LINE_WORDS;
 use value_tables::READS;
@@ -21,11 +23,10 @@ use word_rows::put_row;
 ghost use mathlib.Core.Path.{_≡_};
 ghost use Prim.Native.Nat.{_+_, _*_, _≤_};
 ghost use lib.ListN.{length, getD};
-ghost use Rattle.spec_text.specs.Value.{linesOf};
-ghost use Rattle.value_tables.specs.Lines.{lineTable};
 ghost use Rattle.word_rows.specs.Put.{putAt};
 ghost use Rattle.place_table.specs.RowWords.{rowWords, nodeRows, totalOf, allRows, FilledBy};
 ghost use Rattle.place_table.specs.Rows.{RowsSettled};
+ghost use Rattle.place_table.specs.LineRows.{LinesFilled};
 
 // The answer: the number of the refusal, or how many programs, nodes and places there are.
 pub enum Rows {
@@ -140,24 +141,22 @@ fn put_nodes(
     at
 }
 
-// The table of a workload value whose unfoldings are told, where it has room.
+// The table of lines whose unfoldings are told, where it has room.
 fn fill_table(
-    w: Workload,
+    lines: &[u64],
     nodes: usize,
     programs: &[u8],
     lengths: &[u64],
     words: &[u64],
     table: &mut [u64],
 ) -> Rows
-    requires { ⌜ (length (w .lines) ≡ 1616) × (w .count ≤ 1616) × (totalOf (now lengths) nodes * 8 ≤ length (now table)) ⌝ }
-    ensures { λ r. ⌜ FilledBy (lineTable (linesOf w)) (now (programs .entry)) (now (lengths .entry)) (now (words .entry)) nodes (now (table .entry)) r
+    requires { ⌜ totalOf (now lengths) nodes * 8 ≤ length (now table) ⌝ }
+    ensures { λ r. ⌜ FilledBy (now (lines .entry)) (now (programs .entry)) (now (lengths .entry)) (now (words .entry)) nodes (now (table .entry)) r
         (now (table .exit)) ⌝ }
 {
-    let n = w.count * LINE_WORDS;
-    let lines = line_table(w);
-    let b = programs_in(&lines[..n]);
+    let b = programs_in(lines);
     let firsts = b.firsts;
-    let places = put_nodes(&lines[..n], &firsts, programs, lengths, words, nodes, table);
+    let places = put_nodes(lines, &firsts, programs, lengths, words, nodes, table);
     Rows::Filled {
         programs: b.programs as u64,
         nodes: nodes as u64,
@@ -165,13 +164,12 @@ fn fill_table(
     }
 }
 
-// The rows of all places of a workload into the lent table, eight words a place; a refusal leaves the table as it is. A table has room for
-// every workload that is not refused: it cannot be too short.
-pub fn fill_rows(w: Workload, table: &mut [u64; TABLE_WORDS]) -> Rows
-    ensures { λ r. ⌜ RowsSettled w (now (table .entry)) r (now (table .exit)) ⌝ }
+// The rows of all places of the lines in a table of lines (value_tables) into the lent table, eight words a place; a refusal leaves the table as it
+// is. A table has room for all lines that are not refused: it cannot be too short. The words of the places are put into `places`.
+pub fn fill_lines(lines: &[u64], places: &mut [u64; ROWS], table: &mut [u64; TABLE_WORDS]) -> Rows
+    ensures { λ r. ⌜ LinesFilled (now (lines .entry)) (now (places .entry)) (now (table .entry)) r (now (places .exit)) (now (table .exit)) ⌝ }
 {
-    let mut area = [0u64; ROWS];
-    let told = unfold::unfold_places(w, &mut area);
+    let told = unfold_line_places(lines, places);
     let number = told.refusal;
     if number != 0 {
         return Rows::Refused(number);
@@ -179,5 +177,18 @@ pub fn fill_rows(w: Workload, table: &mut [u64; TABLE_WORDS]) -> Rows
     let nodes = told.count as usize;
     let lengths = told.length;
     let programs = told.program;
-    fill_table(w, nodes, &programs, &lengths, &area, table)
+    fill_table(lines, nodes, &programs, &lengths, places, table)
+}
+
+// The rows of all places of a workload value into the lent table; a refusal leaves the table as it is.
+pub fn fill_rows(w: Workload, table: &mut [u64; TABLE_WORDS]) -> Rows
+    ensures { λ r. ⌜ RowsSettled w (now (table .entry)) r (now (table .exit)) ⌝ }
+{
+    if !is_given(w) {
+        return Rows::Refused(21);
+    }
+    let n = w.count * LINE_WORDS;
+    let lines = line_table(w);
+    let mut places = [0u64; ROWS];
+    fill_lines(&lines[..n], &mut places, table)
 }

@@ -3,10 +3,6 @@ use mathlib.Core.List.{List}
 use mathlib.Core.Path.{_≡_}
 use Prim.Native.Nat.{ℕ, _-_, _≤_}
 use lib.ListN.{length, take, drop, replicate}
-use Rattle.spec_text.specs.declared.Workload.{Workload}
-use Rattle.spec_text.specs.Value.{Given, linesOf}
-use Rattle.spec_text.specs.Reading.{read}
-use Rattle.spec_text.specs.Reading.Outcome.{accepted}
 use Rattle.spec_report.specs.Report.{Report}
 use Rattle.report_print.specs.declared.Printed.{Printed}
 
@@ -16,7 +12,3 @@ pub record Reported (text : List ℕ) (r : Printed) : Type 0 where
   pub fits : r .length ≤ 8192
   pub report : Report text (take (r .length) (r .bytes))
   pub others : drop (r .length) (r .bytes) ≡ replicate (8192 - r .length) 0
-
--- the same for a workload value, whatever text gives it
-abbrev pub ValueReported : Workload → Printed → Type 0
-ValueReported w r = (text : List ℕ) → read text ≡ accepted (linesOf w) → Given w → Reported text r

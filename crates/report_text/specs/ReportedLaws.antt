@@ -11,8 +11,8 @@ use lib.Seq.{take-at, drop-at, length-take-le}
 use Rattle.law_base.specs.BoolLaws.{true-false}
 use Rattle.spec_text.specs.declared.Workload.{Workload}
 use Rattle.spec_text.specs.Reading.{read}
-use Rattle.spec_text.specs.Reading.Outcome.{accepted}
-use Rattle.spec_text.specs.Value.{Given, linesOf}
+use Rattle.spec_text.specs.Reading.Outcome.{refused, accepted}
+use Rattle.spec_text.specs.Value.{Given, linesOf, valueOf}
 use Rattle.spec_graph.specs.Walk.{Step}
 use Rattle.law_text.specs.ValueLaws.{lines-of-value, value-given}
 use Rattle.spec_report.specs.State.{countsOf, tooMany, shortForWalk, StateRefusal}
@@ -22,18 +22,19 @@ use Rattle.spec_report.specs.Report.{Report, refusalReport, dangerReport}
 use Rattle.spec_report.specs.Report.Report.{refusal, unfolding-refusal, robust, danger}
 use Rattle.law_report.specs.ShownWalk.{first-short}
 use Rattle.law_report.specs.One.{theReport, report-is}
-use Rattle.text_read.specs.declared.Parsed.{Parsed}
-use Rattle.text_read.specs.Parse.{parsedAs}
-use Rattle.refusal_laws.specs.RefusalLaws.{parsed-refused, parsed-accepted}
-use Rattle.verdict_told.specs.Told.{Told}
+use Rattle.verdict_told.specs.declared.Verdict.{Verdict}
+use Rattle.verdict_told.specs.Told.{Told, told as toldBy}
 use Rattle.verdict_of.specs.Verdict.{Word, Judged}
 use Rattle.verdict_of.specs.Verdict.Word.{robust as robust-word, danger as danger-word}
 use Rattle.verdict_of.specs.Verdict.Judged.{refused as refused-answer, judged as judged-answer}
+use Rattle.verdict_of.specs.declared.TextVerdict.{TextVerdict}
+use Rattle.verdict_of.specs.TextVerdict.{TextJudged}
+use Rattle.verdict_of.specs.TextVerdict.TextJudged.{unread as not-read, judged as judged-text}
 use Rattle.report_print.specs.declared.Printed.{Printed}
 use Rattle.report_print.specs.Printed.{printedAs, bytesFor}
 use Rattle.report_print.specs.ShownWalkLaws.{walk-shown}
 use Rattle.report_print.specs.ReportSizeLaws.{report-size}
-use Rattle.report_text.specs.Reported.{Reported, ValueReported}
+use Rattle.report_text.specs.Reported.{Reported}
 
 -- the bytes of a report, printed
 printed-report : {text bytes : List ℕ} → Report text bytes → Reported text (printedAs bytes)
@@ -51,20 +52,6 @@ printed-report {text} {bytes} h =
 
 reported-as : {text bytes : List ℕ} {r : Printed} → Report text bytes → r ≡ printedAs bytes → Reported text r
 reported-as {text} h e = subst (Reported text) (sym e) (printed-report h)
-
--- P3: a refusal of the text
-pub reported-refusal : (text : List ℕ) {p : Parsed} {r : Printed} → p ≡ parsedAs (read text) → (p .number ≡ 0 → ⊥)
-    → r ≡ printedAs (refusalReport (p .number) (p .line)) → Reported text r
-reported-refusal text {p} e h q = reported-as (refusal (p .number) (p .line) (parsed-refused text e h)) q
-
--- a text that is read has the report of its value
-pub reported-value : (text : List ℕ) {p : Parsed} {r : Printed} → p ≡ parsedAs (read text) → p .number ≡ 0 → ValueReported (p .work) r
-    → Reported text r
-reported-value text {p} {r} e h v =
-    let a = parsed-accepted text e h in
-    let given : Given (p .work) = subst Given (sym (a .2)) (value-given text (a .1)) in
-    let same : linesOf (p .work) ≡ a .0 = ap linesOf (a .2) ∙ lines-of-value (a .0) in
-    v text (a .1 ∙ ap accepted (sym same)) given
 
 -- an area of 260 words is not too short for the walk
 long-enough : (area : List ℕ) → length area ≡ 260 → shortForWalk (length area / 4) ≡ false
@@ -105,10 +92,34 @@ module _ {w : Workload} (text : List ℕ) (isRead : read text ≡ accepted (line
   judged-reported (refused-answer number s) = refused-reported number s refl
   judged-reported (judged-answer s answer after word) = word-reported (taken-given s refl .1) word
 
--- what the verdict answers for an area of 65 steps, printed
-pub value-reported : {w : Workload} {before after : List ℕ} {answer : Told} {r : Printed} → length before ≡ 260 → Judged w before answer after
-    → r ≡ printedAs (bytesFor answer after) → ValueReported w r
-value-reported {before = before} long j e text isRead given = reported-as (judged-reported text isRead given before long j) e
+-- ---- what the verdict on a text answers, printed
+
+module _ (text : List ℕ) {before : List ℕ} {told : TextVerdict} {after : List ℕ} (answered : TextJudged (read text) before told after)
+    {r : Printed} where
+  -- P3: a refusal of the text
+  pub reported-unread : {number line : ℕ} → told ≡ TextVerdict.Unread number line → r ≡ printedAs (refusalReport number line) → Reported text r
+  reported-unread {number} {line} e printed = go answered
+    where
+      go : TextJudged (read text) before told after → Reported text r
+      go (not-read m l isRead is kept) =
+          let same-number : m ≡ number = cc in
+          let same-line : l ≡ line = cc in
+          reported-as (refusal number line (isRead ∙ ap₂ refused same-number same-line)) printed
+      go (judged-text lines isRead v is judged) = let z : _≡_ {A = ℕ} 0 1 = cc in absurd (omega arith)
+
+  -- P1, P2, P3: with an area of 65 steps the verdict
+  pub reported-judged : {v : Verdict} → told ≡ TextVerdict.Judged v → length before ≡ 260 → r ≡ printedAs (bytesFor (toldBy v) after)
+      → Reported text r
+  reported-judged {v} e long printed = go answered
+    where
+      go : TextJudged (read text) before told after → Reported text r
+      go (not-read m l isRead is kept) = let z : _≡_ {A = ℕ} 0 1 = cc in absurd (omega arith)
+      go (judged-text lines isRead u is judged) =
+          let same : u ≡ v = cc in
+          reported-as
+          (judged-reported text (isRead ∙ ap accepted (sym (lines-of-value lines))) (value-given text isRead) before long
+          (subst (λ (x : Verdict). Judged (valueOf lines) before (toldBy x) after) same judged))
+          printed
 
 -- ---- nothing is free
 

@@ -1,7 +1,6 @@
 // What was taken of a text before its fault: how many lines, and of which sorts, so that a refusal can be explained.
 use text_lines::Step;
 use text_whole::Whole;
-use word_list::word_at;
 ghost use mathlib.Core.Path.{_≡_};
 ghost use mathlib.Core.List.{List, []};
 ghost use lib.ListN.{drop};
@@ -24,18 +23,18 @@ pub struct Before {
 }
 
 // The counts that the words keep of the lines taken.
-fn counted(words: &[u64]) -> Before
+fn counted(words: &[u64; line_state::WORDS]) -> Before
     ensures { λ r. ⌜ ((lines : List LineValue) → HoldsWords (now (words .entry)) lines → r ≡ countsOf lines) ⌝ }
 {
     Before {
-        lines: word_at(words, line_state::LINES),
-        relations: word_at(words, line_state::RELATIONS),
-        keys: word_at(words, line_state::KEYS),
-        programs: word_at(words, line_state::PROGRAMS),
-        statements: word_at(words, line_state::STATEMENTS),
-        body: word_at(words, line_state::BODY),
-        links: word_at(words, line_state::LINKS),
-        depth: word_at(words, line_state::DEPTH),
+        lines: words[line_state::LINES],
+        relations: words[line_state::RELATIONS],
+        keys: words[line_state::KEYS],
+        programs: words[line_state::PROGRAMS],
+        statements: words[line_state::STATEMENTS],
+        body: words[line_state::BODY],
+        links: words[line_state::LINKS],
+        depth: words[line_state::DEPTH],
     }
 }
 

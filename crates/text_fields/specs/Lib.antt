@@ -2,7 +2,13 @@ pub mod Answer
 pub mod AnswerLaws
 pub mod Field
 pub mod FieldLaws
+pub mod FieldStep
+pub mod InPlace
+pub mod InPlaceLaws
+pub mod InPlaceLine
+pub mod LineIn
+pub mod LineInLaws
+pub mod Progress
+pub mod RunLaws
 pub mod Word
 pub mod WordLaws
-pub mod Progress
-pub mod FieldStep

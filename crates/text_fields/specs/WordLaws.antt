@@ -102,3 +102,10 @@ kind-length word other = go (kindOf word) refl
     go : (o : Option LineKind) → kindOf word ≡ o → kindOf word ≡ none
     go none e = e
     go (some k) e = absurd (other (ap length (kind-word word e) ∙ word-two k))
+
+-- a word of two bytes is its bytes
+pub word-bytes : (word : List ℕ) → length word ≡ 2 → getD word 0 0 ∷ getD word 1 0 ∷ [] ≡ word
+word-bytes [] e = absurd (omega arith)
+word-bytes (a ∷ []) e = absurd (omega arith)
+word-bytes (a ∷ b ∷ []) e = refl
+word-bytes (a ∷ b ∷ d ∷ word) e = absurd (omega arith)

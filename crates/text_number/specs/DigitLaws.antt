@@ -7,12 +7,14 @@ use Prim.Native.Nat.{ℕ, zero, suc, _+_, _*_, _-_, _/_, _%_, _^_, _≤_, _<_}
 use native.Mathlib.Nat.{mul-le-mul, pow-suc, pow-le-pow-right}
 use native.Mathlib.Numerals.{add-one}
 use native.Mathlib.Omega.{arith}
+use lib.Bits.{bitAnd}
 use lib.Dec.{eqb, leb, ltb, eqb·suc-zero}
 use lib.ListN.{length, drop, getD, drop-of-length-le}
 use lib.Seq.{drop-cons}
-use borrow.Author.Tests.{ltb-true, ltb-false, leb-true, leb-false, lt-ltb, le-ltb, le-leb, lt-leb, eq-eqb, ne-eqb}
+use borrow.Author.Tests.{ltb-true, ltb-false, leb-true, leb-false, lt-ltb, le-ltb, le-leb, lt-leb, eq-eqb, ne-eqb, not-true, not-false}
 use Rattle.spec_base.specs.Basic.{all}
 use Rattle.law_base.specs.BoolLaws.{and-true, and-right}
+use Rattle.law_base.specs.ListLaws.{all-numbers}
 use Rattle.spec_text.specs.Text.{same, isDecimal, isHexadecimal, digitsForm, digitValue, valueAfter, numberOf, setOf, dashOf}
 use Rattle.text_number.specs.Digits.{hexadecimal, digitsFrom, digitsIn, atMost255}
 
@@ -96,12 +98,12 @@ decimal-value b e = go (digit-view b)
     go (neither d x v) = let z : true ≡ false = sym e ∙ d in cc
 
 -- a digit's value from the byte's parts, and no digit
-pub digit-parts : (b : ℕ) → isHexadecimal b ≡ true → b % 16 + b / 64 * 9 ≡ hexadecimal b
+pub digit-parts : (b : ℕ) → isHexadecimal b ≡ true → (b + b / 64 * 9) % 16 ≡ hexadecimal b
 digit-parts b e = go (digit-view b)
   where
-    go : Digit b → b % 16 + b / 64 * 9 ≡ hexadecimal b
-    go (decimal l h d x v w) = omega arith
-    go (letter l h d x v w) = omega arith
+    go : Digit b → (b + b / 64 * 9) % 16 ≡ hexadecimal b
+    go (decimal l h d x v w) = let high : b / 64 ≡ 0 = omega arith in rw high (omega arith)
+    go (letter l h d x v w) = let high : b / 64 ≡ 1 = omega arith in rw high (omega arith)
     go (neither d x v) = let z : true ≡ false = sym e ∙ x in cc
 
 pub digit-none : (b : ℕ) → isHexadecimal b ≡ false → 16 ≡ hexadecimal b
@@ -252,3 +254,34 @@ dash-zero field {v} e = go (same field (0x2d ∷ [])) e
     go : (t : Bool) → _≡_ {A = Option ℕ} (cond t (some 0) none) (some v) → v ≡ 0
     go true q = cc
     go false q = cc
+
+-- a byte that is below or above all digits, and the bits of those between
+pub digit-below : (b : ℕ) → b < 0x30 → 16 ≡ hexadecimal b
+unfolding hexadecimal
+digit-below b h = rw (lt-ltb b 0x30 h)
+
+pub digit-above : (b : ℕ) → 0x66 < b → 16 ≡ hexadecimal b
+unfolding hexadecimal
+digit-above b h = rw (le-ltb b 0x30 (omega arith), lt-leb b 0x39 (omega arith), le-ltb b 0x61 (omega arith), lt-leb b 0x66 h)
+
+abbrev bit-tells : ℕ → Bool
+bit-tells k = cond (eqb (bitAnd (0x7e0000000003ff / 2 ^ k) 1) 0) (not (isHexadecimal (0x30 + k))) (isHexadecimal (0x30 + k))
+
+digit-bits : (b : ℕ) → 0x30 ≤ b → b ≤ 0x66 → eqb (bitAnd (0x7e0000000003ff / 2 ^ (b - 0x30)) 1) 0 ≡ not (isHexadecimal b)
+digit-bits b l h =
+    let back : 0x30 + (b - 0x30) ≡ b = omega arith in
+    let told : bit-tells (b - 0x30) ≡ true = all-numbers bit-tells 0x37 refl (b - 0x30) (omega arith) in
+    go (eqb (bitAnd (0x7e0000000003ff / 2 ^ (b - 0x30)) 1) 0) (isHexadecimal b) (rw back at told)
+  where
+    go : (x y : Bool) → cond x (not y) y ≡ true → x ≡ not y
+    go true true e = sym e
+    go true false e = refl
+    go false true e = refl
+    go false false e = cc
+
+pub bit-none : (b : ℕ) → 0x30 ≤ b → b ≤ 0x66 → bitAnd (0x7e0000000003ff / 2 ^ (b - 0x30)) 1 ≡ 0 → 16 ≡ hexadecimal b
+bit-none b l h e = digit-none b (not-true _ (sym (digit-bits b l h) ∙ eq-eqb _ _ e))
+
+pub bit-some : (b : ℕ) → 0x30 ≤ b → b ≤ 0x66 → (bitAnd (0x7e0000000003ff / 2 ^ (b - 0x30)) 1 ≡ 0 → ⊥)
+    → (b + b / 64 * 9) % 16 ≡ hexadecimal b
+bit-some b l h e = digit-parts b (not-false _ (sym (digit-bits b l h) ∙ ne-eqb _ _ e))

@@ -18,14 +18,24 @@ pub enum FieldForm {
     Nothing,
 }
 
-// What a hexadecimal digit stands for, or 16 where the byte is none. One branch: whether a digit is a letter is hard to foresee.
-fn digit_of(b: u8) -> u64
+// The bytes from 0x30 on that are hexadecimal digits, a bit each.
+const DIGITS: u64 = 0x7e0000000003ff;
+
+// What a hexadecimal digit stands for, or 16 where the byte is none. No branch tells the letters from the others, which is hard to foresee.
+pub fn digit_of(b: u8) -> u64
     ensures { λ r. ⌜ r ≡ hexadecimal b ⌝ }
 {
-    if ((0x30 <= b) & (b <= 0x39)) | ((0x61 <= b) & (b <= 0x66)) {
-        return (b % 16 + b / 64 * 9) as u64;
+    let w = b as u64;
+    if w < 0x30 {
+        return 16;
     }
-    16
+    if 0x66 < w {
+        return 16;
+    }
+    if (DIGITS >> (w - 0x30)) & 1 == 0 {
+        return 16;
+    }
+    (w + w / 64 * 9) % 16
 }
 
 // The value of digits in a base; 16 digits in base 16 still fit a word.

@@ -39,7 +39,7 @@ fn refused(number: u8, line: u64) -> Parsed
 }
 
 // Takes a value line into the words, if it passes its tests.
-fn see_value(words: &mut [u64], l: Line) -> Seen
+fn see_value(words: &mut [u64; line_state::WORDS], l: Line) -> Seen
     ensures { λ r. ⌜ Saw (now (words .entry)) (some l) (now (words .exit)) r ⌝ }
 {
     let number = line_rules::check(words, l);
@@ -51,7 +51,7 @@ fn see_value(words: &mut [u64], l: Line) -> Seen
 }
 
 // Takes the bytes of a line into the words, if they are a value line that passes its tests; else the words stay as they are.
-pub fn see_bytes(words: &mut [u64], bytes: &[u8]) -> Seen
+pub fn see_bytes(words: &mut [u64; line_state::WORDS], bytes: &[u8]) -> Seen
     ensures { λ r. ⌜ Saw (now (words .entry)) (lineOf (now (bytes .entry))) (now (words .exit)) r ⌝ }
 {
     let r = text_fields::line_of(bytes);

@@ -1,10 +1,10 @@
 -- What the tests of a whole text answer.
-use mathlib.Core.Bool.{true, false, cond}
-use mathlib.Core.List.{List, [], headD}
+use mathlib.Core.Bool.{Bool, true, false, cond}
+use mathlib.Core.List.{List, [], _∷_, _++_, headD}
 use mathlib.Core.Option.{Option, none, some}
 use Prim.Native.Nat.{ℕ, suc}
 use lib.Dec.{eqb, leb}
-use lib.ListN.{length, drop}
+use lib.ListN.{length, take, drop}
 use Rattle.spec_text.specs.Text.{newline, same, linesIn, namesLine}
 use Rattle.spec_text.specs.Reading.{Outcome, otherByte, endsLine, readLines}
 use Rattle.spec_text.specs.Reading.Outcome.{refused}
@@ -44,3 +44,7 @@ lineOr (some line) = line
 -- the line of what follows a byte
 unfoldable pub lineAfterByte : ℕ → ℕ → ℕ
 lineAfterByte line b = cond (eqb b newline) (suc line) line
+
+-- the text begins with the names line and the byte that ends it
+unfoldable pub beginsNamed : List ℕ → Bool
+beginsNamed text = same (take 34 text) (namesLine ++ (newline ∷ []))

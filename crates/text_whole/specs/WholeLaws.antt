@@ -1,27 +1,33 @@
 -- The tests of a whole text, step by step, are those of `Reading`, and what they settle is what reading gives.
 use mathlib.Core.Path.{_≡_, refl, sym, ap, ap₂, _∙_}
-use mathlib.Core.Bool.{Bool, true, false, cond, _&&_}
-use mathlib.Core.List.{List, [], _∷_, tail, headD}
+use mathlib.Core.Bool.{Bool, true, false, cond, not, _&&_, and-assoc}
+use mathlib.Core.List.{List, [], _∷_, _++_, tail, headD}
 use mathlib.Core.Option.{Option, none, some}
 use Prim.Native.Nat.{ℕ, suc, _+_, _-_, _≤_, _<_}
 use native.Mathlib.Omega.{arith}
 use native.Mathlib.Numerals.{add-one}
 use native.Mathlib.Nat.{not-suc-le-zero}
 use lib.Dec.{eqb, leb}
-use lib.ListN.{length, getD, drop, drop-of-length-le}
+use lib.ListN.{length, getD, take, drop, drop-of-length-le, length-take}
 use lib.Seq.{drop-cons}
-use borrow.Author.Tests.{eq-eqb, ne-eqb, le-leb, lt-leb}
-use Rattle.spec_text.specs.Text.{newline, same, linesIn, namesLine}
+use borrow.Author.Tests.{eqb-true, eqb-false, eq-eqb, ne-eqb, le-leb, lt-leb, lt-ltb}
+use Rattle.law_base.specs.BoolLaws.{and-true}
+use Rattle.spec_base.specs.Basic.{all}
+use Rattle.spec_text.specs.Text.{newline, same, onFirst, linesIn, namesLine}
 use Rattle.spec_text.specs.Reading.{isAllowed, otherByte, endsLine, readLines, read, Outcome}
 use Rattle.spec_text.specs.Reading.Outcome.{refused}
 use Rattle.text_lines.specs.declared.Span.{Span}
 use Rattle.text_lines.specs.declared.Step.the-variants.{Line as AtLine, End as AtEnd}
-use Rattle.text_lines.specs.Span.{spanAt, lineAt}
+use Rattle.text_lines.specs.Span.{lineLength, spanAt}
 use Rattle.text_lines.specs.SpanLaws.{line-found}
 use Rattle.text_lines.specs.Going.{bytesOf}
 use Rattle.text_lines.specs.GoingLaws.{came, ended}
 use Rattle.text_whole.specs.declared.Whole.{Whole}
-use Rattle.text_whole.specs.Whole.{wholeGives, wholeOf, lineOr, lineAfterByte}
+use Rattle.text_whole.specs.Whole.{wholeGives, wholeOf, lineOr, lineAfterByte, beginsNamed}
+
+and-one : (a : Bool) → a && true ≡ a
+and-one true = refl
+and-one false = refl
 
 -- ---- bytes
 
@@ -63,25 +69,39 @@ lineAfterByte-le line b = go (eqb b newline)
     go true = omega arith
     go false = omega arith
 
--- no line has the number 0
-pub otherByte-line : (line : ℕ) (text : List ℕ) → 0 < line → lineOr (otherByte line text) ≡ 0 → otherByte line text ≡ none
-unfolding otherByte lineOr
-otherByte-line line [] h e = refl
-otherByte-line line (b ∷ text) h e = go (isAllowed b) (eqb b newline) (otherByte-line (suc line) text (omega arith)) (otherByte-line line text h) e
+-- where all bytes are allowed there is no other, else there is one
+pub otherByte-none : (line : ℕ) (text : List ℕ) → all isAllowed text ≡ true → otherByte line text ≡ none
+unfolding otherByte
+otherByte-none line [] e = refl
+otherByte-none line (b ∷ text) e = go (isAllowed b) e (otherByte-none (cond (eqb b newline) (suc line) line) text)
   where
-    go : (a n : Bool) → (lineOr (otherByte (suc line) text) ≡ 0 → otherByte (suc line) text ≡ none)
-        → (lineOr (otherByte line text) ≡ 0 → otherByte line text ≡ none)
-        → lineOr (elim a [ true ↦ otherByte (cond n (suc line) line) text | false ↦ some line ]) ≡ 0
-        → _≡_ {A = Option ℕ} (elim a [ true ↦ otherByte (cond n (suc line) line) text | false ↦ some line ]) none
-    go true true f g q = f q
-    go true false f g q = g q
-    go false n f g q = absurd (omega arith)
+    go : (t : Bool) → t && all isAllowed text ≡ true
+        → (all isAllowed text ≡ true → otherByte (cond (eqb b newline) (suc line) line) text ≡ none)
+        → _≡_ {A = Option ℕ} (elim t [ true ↦ otherByte (cond (eqb b newline) (suc line) line) text | false ↦ some line ]) none
+    go true q more = more q
+    go false q more = cc
 
--- where the line number is not 0 there is a byte
-pub otherByte-some : (o : Option ℕ) → (lineOr o ≡ 0 → ⊥) → o ≡ some (lineOr o)
-unfolding lineOr
-otherByte-some none h = absurd (h refl)
-otherByte-some (some line) h = refl
+pub otherByte-some : (line : ℕ) (text : List ℕ) → all isAllowed text ≡ false → otherByte line text ≡ some (lineOr (otherByte line text))
+unfolding otherByte lineOr
+otherByte-some line [] e = cc
+otherByte-some line (b ∷ text) e = go (isAllowed b) e (otherByte-some (cond (eqb b newline) (suc line) line) text)
+  where
+    go : (t : Bool) → t && all isAllowed text ≡ false
+        → (all isAllowed text ≡ false
+        → otherByte (cond (eqb b newline) (suc line) line) text ≡ some (lineOr (otherByte (cond (eqb b newline) (suc line) line) text)))
+        → _≡_ {A = Option ℕ} (elim t [ true ↦ otherByte (cond (eqb b newline) (suc line) line) text | false ↦ some line ])
+        (some (lineOr (elim t [ true ↦ otherByte (cond (eqb b newline) (suc line) line) text | false ↦ some line ])))
+    go true q more = more q
+    go false q more = refl
+
+-- one byte further, and past the last
+pub allowed-next : (text : List ℕ) (i : ℕ) (ok : Bool) → i < length text
+    → ok && all isAllowed (drop i text) ≡ (ok && isAllowed (getD text i 0)) && all isAllowed (drop (i + 1) text)
+allowed-next text i ok h =
+    rw (drop-cons text i 0 h, add-one) (sym (and-assoc ok (isAllowed (getD text i 0)) (all isAllowed (drop (suc i) text))))
+
+pub allowed-done : (text : List ℕ) (i : ℕ) (ok : Bool) → length text ≤ i → ok && all isAllowed (drop i text) ≡ ok
+allowed-done text i ok h = rw (drop-of-length-le text h) (and-one ok)
 
 -- the last byte of a text
 pub endsLine-last : (text : List ℕ) → 0 < length text → endsLine text ≡ eqb (getD text (length text - 1) 0) newline
@@ -98,26 +118,17 @@ endsLine-last (b ∷ c ∷ text) h =
 -- ---- the same bytes
 
 -- one place further
-pub same-next : (a b : List ℕ) (i : ℕ) → i < length a → i < length b → getD a i 0 ≡ getD b i 0
-    → same (drop i a) (drop i b) ≡ same (drop (i + 1) a) (drop (i + 1) b)
+pub same-next : (a b : List ℕ) (i : ℕ) (ok : Bool) → i < length a → i < length b
+    → ok && same (drop i a) (drop i b) ≡ (ok && eqb (getD a i 0) (getD b i 0)) && same (drop (i + 1) a) (drop (i + 1) b)
 unfolding same
-same-next a b i h h′ e =
-    ap₂ same (drop-cons a i 0 h) (drop-cons b i 0 h′)
-    ∙ ap (λ t. t && same (drop (suc i) a) (drop (suc i) b)) (eq-eqb (getD a i 0) (getD b i 0) e)
-    ∙ ap (λ j. same (drop j a) (drop j b)) (sym (add-one i))
-
--- a place that differs
-pub same-differ : (a b : List ℕ) (i : ℕ) → i < length a → i < length b → (getD a i 0 ≡ getD b i 0 → ⊥)
-    → same (drop i a) (drop i b) ≡ false
-unfolding same
-same-differ a b i h h′ e =
-    ap₂ same (drop-cons a i 0 h) (drop-cons b i 0 h′)
-    ∙ ap (λ t. t && same (drop (suc i) a) (drop (suc i) b)) (ne-eqb (getD a i 0) (getD b i 0) e)
+same-next a b i ok h h′ =
+    rw (drop-cons a i 0 h, drop-cons b i 0 h′, add-one)
+    (sym (and-assoc ok (eqb (getD a i 0) (getD b i 0)) (same (drop (suc i) a) (drop (suc i) b))))
 
 -- past the last place
-pub same-done : (a b : List ℕ) (i : ℕ) → length a ≤ i → length b ≤ i → same (drop i a) (drop i b) ≡ true
+pub same-done : (a b : List ℕ) (i : ℕ) (ok : Bool) → length a ≤ i → length b ≤ i → ok && same (drop i a) (drop i b) ≡ ok
 unfolding same
-same-done a b i h h′ = ap₂ same (drop-of-length-le a h) (drop-of-length-le b h′)
+same-done a b i ok h h′ = rw (drop-of-length-le a h, drop-of-length-le b h′) (and-one ok)
 
 -- lists of two lengths
 pub same-length : (a b : List ℕ) → (length a ≡ length b → ⊥) → same a b ≡ false
@@ -142,6 +153,77 @@ endsLine-some : (text : List ℕ) → endsLine text ≡ true → 0 < length text
 unfolding endsLine
 endsLine-some [] h = let z : _≡_ {A = ℕ} 0 1 = cc in absurd (omega arith)
 endsLine-some (b ∷ text) h = omega arith
+
+-- ---- the first line
+
+first-stop : (b : ℕ) (text : List ℕ) → eqb b newline ≡ true → headD (linesIn (b ∷ text)) [] ≡ []
+unfolding linesIn headD
+first-stop b text e = rw (e, linesIn)
+
+first-more : (b : ℕ) (text : List ℕ) → eqb b newline ≡ false → headD (linesIn (b ∷ text)) [] ≡ b ∷ headD (linesIn text) []
+unfolding linesIn headD onFirst
+first-more b text e = rw (e, linesIn) (go (linesIn text))
+  where
+    go : (lines : List (List ℕ)) → headD (onFirst b lines) [] ≡ b ∷ headD lines []
+    go [] = refl
+    go (line ∷ lines) = refl
+
+-- the first line of a text that ends a line is this one exactly where the text begins with it and the byte that ends it
+unlike : (b n : ℕ) (line : List ℕ) → eqb b newline ≡ true → all (λ x. not (eqb x newline)) (n ∷ line) ≡ true → eqb b n ≡ false
+unlike b n line q h =
+    ne-eqb b n
+    (λ e.
+    let found = eqb-true b newline q in
+    let other : not (eqb n newline) ≡ true = and-true (not (eqb n newline)) (all (λ x. not (eqb x newline)) line) h .0 in
+    let same-yet : eqb n newline ≡ true = eq-eqb n newline (sym e ∙ found) in
+    let z : _≡_ {A = Bool} true false = sym other ∙ ap not same-yet in
+    let y : _≡_ {A = ℕ} 0 1 = cc in
+    omega arith)
+
+abbrev Begins : List ℕ → List ℕ → Type 0
+Begins line text = same (headD (linesIn text) []) line ≡ same (take (suc (length line)) text) (line ++ (newline ∷ []))
+
+begins-line : (line text : List ℕ) → all (λ b. not (eqb b newline)) line ≡ true → endsLine text ≡ true → Begins line text
+unfolding same endsLine
+begins-line line [] h e = cc
+begins-line [] (b ∷ text) h e = go (eqb b newline) refl
+  where
+    go : (t : Bool) → eqb b newline ≡ t → Begins [] (b ∷ text)
+    go true q = rw (first-stop b text q, q)
+    go false q = rw (first-more b text q, q)
+begins-line (n ∷ line) (b ∷ []) h e = go (eqb b newline) refl
+  where
+    go : (t : Bool) → eqb b newline ≡ t → Begins (n ∷ line) (b ∷ [])
+    go true q = rw (first-stop b [] q, unlike b n line q h)
+    go false q = let z : true ≡ false = sym e ∙ q in cc
+begins-line (n ∷ line) (b ∷ d ∷ text) h e =
+    go (eqb b newline) refl (begins-line line (d ∷ text) (and-true (not (eqb n newline)) (all (λ x. not (eqb x newline)) line) h .1) e)
+  where
+    go : (t : Bool) → eqb b newline ≡ t → Begins line (d ∷ text) → Begins (n ∷ line) (b ∷ d ∷ text)
+    go true q more = rw (first-stop b (d ∷ text) q, unlike b n line q h)
+    go false q more = rw (first-more b (d ∷ text) q) (ap (λ t. eqb b n && t) more)
+
+-- how long it is
+first-length : (text : List ℕ) → length (headD (linesIn text) []) ≡ lineLength text
+unfolding lineLength linesIn headD
+first-length [] = refl
+first-length (b ∷ text) = go (eqb b newline) refl (first-length text)
+  where
+    go : (t : Bool) → eqb b newline ≡ t → length (headD (linesIn text) []) ≡ lineLength text
+        → length (headD (linesIn (b ∷ text)) []) ≡ cond (eqb b newline) 0 (suc (lineLength text))
+    go true q more = ap length (first-stop b text q) ∙ rw q
+    go false q more = ap length (first-more b text q) ∙ rw q (ap suc more)
+
+same-long : (a b : List ℕ) → same a b ≡ true → length a ≡ length b
+same-long a b e = go (eqb (length a) (length b)) refl
+  where
+    go : (t : Bool) → eqb (length a) (length b) ≡ t → length a ≡ length b
+    go true q = eqb-true _ _ q
+    go false q =
+        let other = same-length a b (eqb-false _ _ q) in
+        let z : _≡_ {A = Bool} true false = sym e ∙ other in
+        let y : _≡_ {A = ℕ} 0 1 = cc in
+        absurd (omega arith)
 
 -- ---- the whole text
 
@@ -170,28 +252,19 @@ module _ (text : List ℕ) (few : length text ≤ 32768) (allowed : otherByte 1 
       (rw allowed
       (rw ends (ap {B = Whole} (λ t. elim t [ true ↦ Whole.Lines (spanAt text 0 1 .next) | false ↦ Whole.Refused 3 1 ]) q)))
 
-  -- R3: there is no line
-  pub whole-lineless : AtEnd ≡ lineAt text 0 1 → wholeOf text ≡ Whole.Refused 3 1
-  unfolding headD same namesLine
-  whole-lineless e = whole-line false (ap (λ (l : List (List ℕ)). same (headD l []) namesLine) (ended text 0 1 e))
-
-  -- the first line is what the reader comes to
-  first-line : {span : Span} → AtLine span ≡ lineAt text 0 1 → (n : Bool) → same (bytesOf text span) namesLine ≡ n
-      → same (headD (linesIn text) []) namesLine ≡ n
-  unfolding headD
-  first-line e n q = ap (λ (l : List (List ℕ)). same (headD l []) namesLine) (came text 0 1 e .lines) ∙ q
-
-  -- R3: it is no names line
-  pub whole-unnamed : {span : Span} → AtLine span ≡ lineAt text 0 1 → same (bytesOf text span) namesLine ≡ false → wholeOf text ≡ Whole.Refused 3 1
-  whole-unnamed e n = whole-line false (first-line e false n)
+  -- R3: the first line is no names line
+  pub whole-unnamed : beginsNamed text ≡ false → wholeOf text ≡ Whole.Refused 3 1
+  unfolding beginsNamed namesLine
+  whole-unnamed e = whole-line false (begins-line namesLine text refl ends ∙ e)
 
   -- it is the names line
-  pub whole-named : {span : Span} → AtLine span ≡ lineAt text 0 1 → same (bytesOf text span) namesLine ≡ true
-      → wholeOf text ≡ Whole.Lines (span .next)
-  whole-named {span} e n =
-      let found : AtLine (spanAt text 0 1) ≡ lineAt text 0 1 = line-found text 0 1 (endsLine-some text ends) refl in
-      let same-span : spanAt text 0 1 ≡ span = cc in
-      whole-line true (first-line e true n) ∙ ap (λ (s : Span). Whole.Lines (s .next)) same-span
+  pub whole-named : beginsNamed text ≡ true → wholeOf text ≡ Whole.Lines 34
+  unfolding beginsNamed namesLine spanAt
+  whole-named e =
+      let first = begins-line namesLine text refl ends ∙ e in
+      let long : lineLength text ≡ 33 = sym (first-length text) ∙ same-long _ namesLine first in
+      let more : 33 < length text = let whole = same-long (take 34 text) _ e in omega (arith, length-take 34 text) in
+      whole-line true first ∙ ap Whole.Lines (rw (long, lt-ltb 33 (length text) more))
 
 -- what holds of a refusal with 1, 2 or 3, and of what the lines after the names line give, holds of what the tests settle with what reading gives
 pub whole-cases : (text : List ℕ) (P : Whole → Outcome → Type 0)

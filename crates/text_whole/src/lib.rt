@@ -1,11 +1,11 @@
 // The tests of a whole text, before its lines: its length, its bytes, its last byte, its names line.
-use text_lines::Step;
 ghost use mathlib.Core.Path.{_≡_};
 ghost use Prim.Native.Nat.{_≤_, _<_};
 ghost use lib.ListN.{length};
-ghost use Rattle.spec_text.specs.Text.{same, namesLine};
+ghost use Rattle.spec_base.specs.Basic.{all};
+ghost use Rattle.spec_text.specs.Text.{same};
 ghost use Rattle.spec_text.specs.Reading.{isAllowed, otherByte, endsLine};
-ghost use Rattle.text_whole.specs.Whole.{wholeOf, lineOr, lineAfterByte};
+ghost use Rattle.text_whole.specs.Whole.{wholeOf, lineOr, lineAfterByte, beginsNamed};
 
 // What the tests of the whole text give: a refusal's number and line, or the place after the names line.
 pub enum Whole {
@@ -20,6 +20,19 @@ fn allowed(b: u8) -> bool
     let digit = (0x30 <= b) & (b <= 0x39);
     let letter = (0x61 <= b) & (b <= 0x7a);
     (b == 0x0a) | (b == 0x20) | (b == 0x2d) | digit | letter
+}
+
+// No byte is such that no text has it. The loop has no early end and no branch, so that many bytes are tested at once.
+fn all_allowed(text: &[u8]) -> bool
+    ensures { λ r. ⌜ r ≡ all isAllowed (now (text .entry)) ⌝ }
+{
+    let mut ok = true;
+    let mut i: usize = 0;
+    while i < text.len() {
+        ok = ok & allowed(text[i]);
+        i += 1;
+    }
+    ok
 }
 
 // The line of what follows a byte of a line.
@@ -62,6 +75,7 @@ fn ends_line(text: &[u8]) -> bool
     text[n - 1] == 0x0a
 }
 
+// The same bytes; no early end here either.
 fn same_bytes(a: &[u8], b: &[u8]) -> bool
     ensures { λ r. ⌜ r ≡ same (now (a .entry)) (now (b .entry)) ⌝ }
 {
@@ -69,21 +83,26 @@ fn same_bytes(a: &[u8], b: &[u8]) -> bool
     if n != b.len() {
         return false;
     }
+    let mut ok = true;
     let mut i: usize = 0;
     while i < n {
-        if a[i] != b[i] {
-            return false;
-        }
+        ok = ok & (a[i] == b[i]);
         i += 1;
     }
-    true
+    ok
 }
 
-// The first line is the names line.
-fn is_names(line: &[u8]) -> bool
-    ensures { λ r. ⌜ r ≡ same (now (line .entry)) namesLine ⌝ }
+// How long the names line is, with the byte that ends it.
+const NAMES: usize = 34;
+
+// The text begins with the names line and the byte that ends it.
+fn begins_named(text: &[u8]) -> bool
+    ensures { λ r. ⌜ r ≡ beginsNamed (now (text .entry)) ⌝ }
 {
-    same_bytes(line, b"kind id rel to reads writes tests")
+    if text.len() < NAMES {
+        return false;
+    }
+    same_bytes(&text[..NAMES], b"kind id rel to reads writes tests\n")
 }
 
 // Tests the whole text: its bytes, and its first line.
@@ -93,20 +112,14 @@ pub fn whole_text(text: &[u8]) -> Whole
     if spec_text::TEXT_BYTES < text.len() {
         return Whole::Refused(1, 0);
     }
-    let other = other_byte(text);
-    if other != 0 {
-        return Whole::Refused(2, other);
+    if !all_allowed(text) {
+        return Whole::Refused(2, other_byte(text));
     }
     if !ends_line(text) {
         return Whole::Refused(2, 0);
     }
-    let Step::Line(span) = text_lines::line_from(text, 0, 1) else {
-        return Whole::Refused(3, 1);
-    };
-    let begin = span.start;
-    let end = span.end;
-    if !is_names(&text[begin..end]) {
+    if !begins_named(text) {
         return Whole::Refused(3, 1);
     }
-    Whole::Lines(span.next)
+    Whole::Lines(NAMES)
 }

@@ -1,3 +1,7 @@
+pub mod PrefixLaws
+pub mod WordsLaws
+pub mod LaidLaws
+pub mod PathLaws
 pub mod WriteLaws
 pub mod WriteRowLaws
 pub mod WriteLineLaws

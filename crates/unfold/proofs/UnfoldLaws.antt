@@ -1,21 +1,19 @@
 -- The paths through the unfolding over tables.
 use mathlib.Core.Bool.{Bool, false, cond}
-use mathlib.Core.List.{List, []}
+use mathlib.Core.List.{List}
 use mathlib.Core.Path.{_≡_, sym, ap, ap₂, _∙_}
 use Prim.Native.Nat.{ℕ}
 use native.Mathlib.Omega.{arith}
 use lib.ListN.{length}
 use lib.Dec.{ltb}
 use borrow.Author.Tests.{ltb-false}
-use Rattle.unfold_laws.specs.declared.UnfoldingTable.{UnfoldingTable}
 use Rattle.unfold_laws.specs.declared.UnfoldingTotals.{UnfoldingTotals}
 use Rattle.unfold_laws.specs.Pieces.{totalsBefore}
 use Rattle.unfold_bounds.specs.Refused.{manyIn, refusedBy, refused-cases, passed}
-use Rattle.unfold.specs.PieceTable.{table}
 use Rattle.unfold.specs.PieceTableLaws.{from-nothing}
 use Rattle.unfold.specs.declared.Unfolded.{Unfolded}
 use Rattle.unfold_count.specs.Counted.{Totalled, AllCounted}
-use Rattle.unfold.specs.Written.{Rowed, AllFit}
+use Rattle.unfold.specs.Written.{AllFit, AllTold}
 use Rattle.unfold.specs.UnfoldTold.{refusedWith}
 use Rattle.unfold.specs.UnfoldSteps.{tableTold, overMany, tooShort, piecesOver, Ready, Tabled}
 
@@ -61,8 +59,7 @@ module _ (codes words marks before : List ℕ) (t : UnfoldingTotals) (all : AllC
             places = omega (arith, ready .short under, ltb-false (length before) (totalsBefore codes (length codes) .statements) long);
           }
 
-      pub all-told : (f : UnfoldingTable) (r : Unfolded) (area : List ℕ) → Rowed (piecesOver codes words marks) (table []) before f area
-          → r ≡ tableTold f → Tabled codes words marks before r area
-      all-told f r area rowed d =
-          let filled : f ≡ table (piecesOver codes words marks) = rowed .same ∙ from-nothing (piecesOver codes words marks) (ready .few under) in
-          record { tells = d ∙ ap tableTold filled ∙ sym (rw (under, long)); stands = rowed .stands .stands ∙ rw (under, long) }
+      pub all-told : (r : Unfolded) (area : List ℕ) → AllTold (piecesOver codes words marks) before r area → Tabled codes words marks before r area
+      all-told r area told =
+          let filled = from-nothing (piecesOver codes words marks) (ready .few under) in
+          record { tells = told .tells ∙ ap tableTold filled ∙ sym (rw (under, long)); stands = told .stands .stands ∙ rw (under, long) }

@@ -1,24 +1,23 @@
 -- What is written over the tables of a given workload value settles the open functions' promises.
 use mathlib.Core.Bool.{Bool, true, false}
-use mathlib.Core.List.{List, [], _∷_, _++_, map}
+use mathlib.Core.List.{List, [], _∷_, _++_}
 use mathlib.Core.Option.{Option, none, some}
 use mathlib.Core.Path.{_≡_, refl, sym, ap, _∙_}
-use Prim.Native.Nat.{ℕ, zero, suc, _+_, _≤_, _<_}
+use Prim.Native.Nat.{ℕ, suc, _+_, _≤_}
 use native.Mathlib.Omega.{arith}
-use lib.ListN.{length, getD, take, drop, replicate, length-map, length-take}
-use lib.Seq.{getD-take}
+use lib.ListN.{length, getD, drop, length-take}
 use Rattle.spec_base.specs.Basic.{numbers}
-use Rattle.law_base.specs.ListLaws.{length-numbersFrom}
+use Rattle.law_base.specs.ListLaws.{getElem?-member}
 use Rattle.spec_text.specs.declared.Line.{Line}
 use Rattle.spec_text.specs.declared.Workload.{Workload}
-use Rattle.spec_text.specs.Value.{Given, linesOf}
-use Rattle.law_text.specs.ValueLaws.{given-read, given-fits, given-cells}
-use Rattle.spec_graph.specs.Program.{Statement}
+use Rattle.spec_text.specs.Value.{Given, linesOf, valueOf}
+use Rattle.law_text.specs.ValueLaws.{given-read, given-fits, lines-of-value}
+use Rattle.spec_graph.specs.Program.{Statement, statementOf}
 use Rattle.spec_graph.specs.Unfolding.{Node, nodesOf}
 use Rattle.spec_report.specs.State.{StateRefusal, statementsIn, tooMany, shortForUnfoldings, refusalOf}
 use Rattle.spec_report.specs.State.StateRefusal.{not-given, too-many, too-short, taken}
 use Rattle.unfold_laws.specs.Cap.{cap}
-use Rattle.unfold_laws.specs.Codes.{codeOf, codesOf, idsOf, markIn, marksOf}
+use Rattle.unfold_laws.specs.Codes.{codesOf}
 use Rattle.unfold_laws.specs.CodesLaws.{length-codes}
 use Rattle.unfold_laws.specs.Seen.{markOf}
 use Rattle.unfold_laws.specs.WritingLaws.{Tables}
@@ -35,8 +34,11 @@ use Rattle.unfold.specs.UnfoldSteps.{tableTold, overMany, tooShort, piec
 use Rattle.unfold.specs.UnfoldSettled.{Settled, PlacesSettled}
 use Rattle.unfold.specs.OwnLaws.{own-along}
 use Rattle.unfold.specs.Stand.{few-nodes}
-use Rattle.value_tables.specs.declared.WriteTables.{WriteTables}
-use Rattle.value_tables.specs.Tables.{writeTables}
+use Rattle.unfold.specs.LineWords.{wordsBy, marksBy}
+use Rattle.unfold.specs.UnfoldLines.{LinesSettled, LinePlacesSettled}
+use Rattle.node_laws.specs.GivenNodes.{accepted-lines}
+use Rattle.value_tables.specs.Lines.{lineTable, linesIn, tableCodes, tableIds, tableMarks}
+use Rattle.value_tables.specs.TableLaws.{lines-many, table-codes, table-marks, id-told, someLines, some-codes, some-ids}
 use Rattle.value_tables.proofs.CellLaws.{number-at}
 
 -- the promise, whatever stands in the area where nothing is refused
@@ -121,7 +123,8 @@ module _ (P : ℕ → List Line → Type 0) (Word : ℕ → Statement → ℕ �
 module _ (P : ℕ → List Line → Type 0) (Word : ℕ → Statement → ℕ → Type 0) (mark : Statement → ℕ) (w : Workload) (g : Given w) (words marks : List ℕ)
     (fit : (number : ℕ) → Tables (P number) (Word number) mark (linesOf w) words marks) (along : AlongPrograms P (linesOf w))
     (before : List ℕ) (Full : List ℕ → Type 0)
-    (full : (pieces : List Piece) → PiecesFor Word mark (nodesOf (linesOf w)) pieces → Full (flat pieces ++ drop (length (flat pieces)) before)) where
+    (full : (pieces : List Piece) → PiecesFor Word mark (nodesOf (linesOf w)) pieces → Full
+    (flat pieces ++ drop (length (flat pieces)) before)) where
   settled-tables : (r : Unfolded) (area : List ℕ) → Tabled (codesOf (linesOf w)) words marks before r area → SettledAs Full w before r area
   unfolding tooShort shortForUnfoldings
   settled-tables r area u = go (tooMany (linesOf w)) refl (shortForUnfoldings (linesOf w) (length before)) refl
@@ -157,18 +160,6 @@ not-given-places w before r h e =
     let s = settled-refused (λ area. ⊥) w before r before 20 (not-given h) e refl in
     record { refusal = s .refusal; refused = s .refused; unfolded = λ p. absurd (s .unfolded p .1) }
 
--- a part of what a function makes of a list
-take-map : {A : Type 0} (f : A → ℕ) (n : ℕ) (l : List A) → take n (map f l) ≡ map f (take n l)
-take-map f zero l = refl
-take-map f (suc n) [] = refl
-take-map f (suc n) (x ∷ l) = ap (λ (r : List ℕ). f x ∷ r) (take-map f n l)
-
-no-marks : (n m i : ℕ) → _≡_ {A = ℕ} (getD (take n (replicate m 0)) i 0) 0
-no-marks zero m i = refl
-no-marks (suc n) zero i = refl
-no-marks (suc n) (suc m) zero = refl
-no-marks (suc n) (suc m) (suc i) = no-marks n m i
-
 flat-ids : (nodes : List Node) (pieces : List Piece) → PiecesFor (λ number. IdWord) noMark nodes pieces → flat pieces ≡ idsIn nodes
 unfolding PiecesFor flat idsIn placeIds
 flat-ids [] [] h = refl
@@ -176,111 +167,82 @@ flat-ids [] (p ∷ pieces) h = absurd h
 flat-ids (n ∷ nodes) [] h = absurd h
 flat-ids (n ∷ nodes) (p ∷ pieces) h = rw (id-words [] (n .places) (p .words) (h .0 .words), flat-ids nodes pieces (h .1))
 
--- the tables one by one
-module _ (lines : List Line) (t : WriteTables) (e : t ≡ writeTables lines) where
-  pub table-codes : t .codes ≡ codesOf lines
-  unfolding writeTables
-  table-codes = ap (λ (x : WriteTables). x .codes) e
+-- ---- over a table of lines
 
-  pub table-ids : t .ids ≡ idsOf lines
-  unfolding writeTables
-  table-ids = ap (λ (x : WriteTables). x .ids) e
+-- whatever the words are: their codes are those of some lines whose ids are their numbers, so each line has a mark
+pub ready-lines : (ids : Bool) (words : List ℕ) → Ready (tableCodes words) (wordsBy ids words) (marksBy ids words)
+unfolding statementOf
+ready-lines ids words =
+    let marks = marksBy ids words in
+    rw (some-codes words) (ready (λ number. AnyLines) (λ number s own. Unit {0}) (λ s. getD marks (s .id) 0) (someLines words)
+    (wordsBy ids words) marks
+    (λ number. record {
+      word = λ at l k there e any. _;
+      marked = λ at l k there e. ap (λ (i : ℕ). getD marks i 0) (sym (some-ids words at there));
+    })
+    (λ i begins. any-along _ _))
 
-  pub table-numbers : t .numbers ≡ numbers 1616
-  unfolding writeTables
-  table-numbers = ap (λ (x : WriteTables). x .numbers) e
-
-  pub table-marks : t .marks ≡ marksOf lines
-  unfolding writeTables
-  table-marks = ap (λ (x : WriteTables). x .marks) e
-
--- the tables of a given workload value, cut to its lines
-module _ (w : Workload) (g : Given w) where
-  pub part-length : (l : List ℕ) → length l ≡ 1616 → w .count ≡ length (take (w .count) l)
-  part-length l h = omega (arith, length-take (w .count) l, given-fits g)
-
-  pub part-fits : (l : List ℕ) → length l ≡ 1616 → w .count ≤ length l
-  part-fits l h = omega (arith, given-fits g)
-
-  lines-length : length (linesOf w) ≡ w .count
+-- the words of a given value's lines
+module _ (w : Workload) (g : Given w) (words : List ℕ) (e : words ≡ lineTable (linesOf w)) where
+  lines-length : length (linesOf w) ≤ 1616
   unfolding linesOf
-  lines-length = omega (arith, length-take (w .count) (w .lines), given-fits g, given-cells g)
+  lines-length = omega (arith, length-take (w .count) (w .lines), given-fits g)
 
-  pub part-codes : (codes : List ℕ) → codes ≡ codesOf (w .lines) → take (w .count) codes ≡ codesOf (linesOf w)
-  unfolding codesOf linesOf
-  part-codes codes e = rw e (take-map (λ l. codeOf (l .kind)) (w .count) (w .lines))
-
-  part-ids : (ids : List ℕ) → ids ≡ idsOf (w .lines) → take (w .count) ids ≡ idsOf (linesOf w)
-  unfolding idsOf linesOf
-  part-ids ids e = rw e (take-map (λ l. l .id) (w .count) (w .lines))
-
-  part-marks : (marks : List ℕ) → marks ≡ marksOf (w .lines) → take (w .count) marks ≡ marksOf (linesOf w)
-  unfolding marksOf linesOf
-  part-marks marks e = rw e (take-map (λ l. markIn (l .kind) (l .id)) (w .count) (w .lines))
-
-  pub codes-length : (codes : List ℕ) → codes ≡ codesOf (w .lines) → length codes ≡ 1616
-  codes-length codes e = ap length e ∙ length-codes (w .lines) ∙ given-cells g
-
-  pub ids-length : (ids : List ℕ) → ids ≡ idsOf (w .lines) → length ids ≡ 1616
-  unfolding idsOf
-  ids-length ids e = ap length e ∙ length-map (w .lines) (λ l. l .id) ∙ given-cells g
-
-  pub marks-length : (marks : List ℕ) → marks ≡ marksOf (w .lines) → length marks ≡ 1616
-  unfolding marksOf
-  marks-length marks e = ap length e ∙ length-map (w .lines) (λ l. markIn (l .kind) (l .id)) ∙ given-cells g
-
-  pub numbers-length : (words : List ℕ) → words ≡ numbers 1616 → length words ≡ 1616
-  numbers-length words e = ap length e ∙ length-numbersFrom 0 1616
+  codes-told : tableCodes words ≡ codesOf (linesOf w)
+  codes-told = ap tableCodes e ∙ table-codes (linesOf w)
 
   -- ids, with nothing marked
-  module _ (codes ids : List ℕ) (c : codes ≡ codesOf (w .lines)) (i : ids ≡ idsOf (w .lines)) where
-    zeros : List ℕ
-    zeros = take 1 (replicate 1 0)
+  id-fit : Tables AnyLines IdWord noMark (linesOf w) (tableIds words) []
+  unfolding statementOf
+  id-fit =
+      record {
+        word = λ at l k there st any.
+            let lawful = accepted-lines (g .text) (linesOf w) (given-read g) k l (getElem?-member (linesOf w) at there) st in
+            ap (λ (t : List ℕ). getD (tableIds t) at 0) e ∙ id-told (linesOf w) at there (omega (arith, lawful .id));
+        marked = λ at l k there st. refl;
+      }
 
-    id-fit : Tables AnyLines IdWord noMark (linesOf w) (take (w .count) ids) zeros
-    unfolding zeros
-    id-fit = rw (part-ids ids i) (id-tables (linesOf w) zeros (no-marks 1 1))
-
-    pub ready-ids : Ready (take (w .count) codes) (take (w .count) ids) (take 1 (replicate 1 0))
-    unfolding zeros
-    ready-ids =
-        rw (part-codes codes c) (ready (λ number. AnyLines) (λ number. IdWord) noMark (linesOf w) (take (w .count) ids) zeros
-        (λ number. id-fit) (λ i begins. any-along _ _))
-
-    pub settled-ids : (before : List ℕ) (r : Unfolded) (area : List ℕ)
-        → Tabled (take (w .count) codes) (take (w .count) ids) (take 1 (replicate 1 0)) before r area → Settled w before r area
-    unfolding zeros
-    settled-ids before r area u =
-        let s = settled-tables (λ number. AnyLines) (λ number. IdWord) noMark w g (take (w .count) ids) zeros
-        (λ number. id-fit) (λ i begins. any-along _ _) before
-        (λ end. end ≡ idsIn (nodesOf (linesOf w)) ++ drop (length (idsIn (nodesOf (linesOf w)))) before)
-        (λ pieces h. rw (flat-ids (nodesOf (linesOf w)) pieces h) refl) r area (rw (part-codes codes c) at u) in
-        record { refusal = s .refusal; refused = s .refused; unfolded = s .unfolded }
+  pub settled-ids : (before : List ℕ) (r : Unfolded) (area : List ℕ)
+      → Tabled (tableCodes words) (tableIds words) [] before r area → Settled w before r area
+  settled-ids before r area u =
+      let s = settled-tables (λ number. AnyLines) (λ number. IdWord) noMark w g (tableIds words) []
+      (λ number. id-fit) (λ i begins. any-along _ _) before
+      (λ end. end ≡ idsIn (nodesOf (linesOf w)) ++ drop (length (idsIn (nodesOf (linesOf w)))) before)
+      (λ pieces h. rw (flat-ids (nodesOf (linesOf w)) pieces h) refl) r area (rw codes-told at u) in
+      record { refusal = s .refusal; refused = s .refused; unfolded = s .unfolded }
 
   -- line numbers, with the kinds marked that shield
-  module _ (codes words marks : List ℕ) (c : codes ≡ codesOf (w .lines)) (n : words ≡ numbers 1616) (m : marks ≡ marksOf (w .lines)) where
-    own-number : (i : ℕ) → i < length (linesOf w) → getD (take (w .count) words) i 0 ≡ i
-    own-number i h =
-        getD-take (w .count) words i 0 (omega (arith, lines-length)) ∙ rw n (sym (number-at 1616 i (omega (arith, lines-length, given-fits g))))
+  many-lines : linesIn words ≡ length (linesOf w)
+  many-lines = ap linesIn e ∙ lines-many (linesOf w)
 
-    place-fit : (number : ℕ)
-        → Tables (OwnHere (linesOf w) number) (OwnWord (linesOf w) number) markOf (linesOf w) (take (w .count) words) (take (w .count) marks)
-    place-fit number =
-        rw (part-marks marks m) (own-tables (linesOf w) (take (w .count) words) (omega (arith, lines-length, given-fits g)) own-number number)
+  place-fit : (number : ℕ)
+      → Tables (OwnHere (linesOf w) number) (OwnWord (linesOf w) number) markOf (linesOf w) (numbers (linesIn words)) (tableMarks words)
+  place-fit number =
+      rw (ap tableMarks e ∙ table-marks (linesOf w)) (own-tables (linesOf w) (numbers (linesIn words)) (omega (arith, lines-length))
+      (λ i h. sym (number-at (linesIn words) i (omega (arith, many-lines)))) number)
 
-    place-along : AlongPrograms (OwnHere (linesOf w)) (linesOf w)
-    place-along = own-along (g .text) (linesOf w) (given-read g)
+  pub settled-places : (before : List ℕ) (r : Unfolded) (area : List ℕ)
+      → Tabled (tableCodes words) (numbers (linesIn words)) (tableMarks words) before r area → PlacesSettled w before r area
+  settled-places before r area u =
+      let s = settled-tables (OwnHere (linesOf w)) (OwnWord (linesOf w)) markOf w g
+      (numbers (linesIn words)) (tableMarks words) place-fit (own-along (g .text) (linesOf w) (given-read g)) before
+      (λ end. end ≡ placeWords (linesOf w) (nodesOf (linesOf w)) ++ drop (length (placeWords (linesOf w) (nodesOf (linesOf w)))) before)
+      (λ pieces h. rw (flat-own (linesOf w) (nodesOf (linesOf w)) pieces h) refl) r area (rw codes-told at u) in
+      record { refusal = s .refusal; refused = s .refused; unfolded = s .unfolded }
 
-    pub ready-places : Ready (take (w .count) codes) (take (w .count) words) (take (w .count) marks)
-    ready-places =
-        rw (part-codes codes c) (ready (OwnHere (linesOf w)) (OwnWord (linesOf w)) markOf (linesOf w)
-        (take (w .count) words) (take (w .count) marks) place-fit place-along)
+-- the open promises over a table
+module _ (words before : List ℕ) (r : Unfolded) (area : List ℕ) where
+  pub settled-lines : Tabled (tableCodes words) (tableIds words) [] before r area → LinesSettled words before r area
+  settled-lines u =
+      record {
+        tabled = u;
+        settled = λ lines e g. settled-ids (valueOf lines) g words (e ∙ ap lineTable (sym (lines-of-value lines))) before r area u;
+      }
 
-    pub settled-places : (before : List ℕ) (r : Unfolded) (area : List ℕ)
-        → Tabled (take (w .count) codes) (take (w .count) words) (take (w .count) marks) before r area → PlacesSettled w before r area
-    settled-places before r area u =
-        let s = settled-tables (OwnHere (linesOf w)) (OwnWord (linesOf w)) markOf w g
-        (take (w .count) words) (take (w .count) marks) place-fit place-along before
-        (λ end. end ≡ placeWords (linesOf w) (nodesOf (linesOf w)) ++ drop (length (placeWords (linesOf w) (nodesOf (linesOf w)))) before)
-        (λ pieces h. rw (flat-own (linesOf w) (nodesOf (linesOf w)) pieces h) refl) r area (rw (part-codes codes c) at u) in
-        record { refusal = s .refusal; refused = s .refused; unfolded = s .unfolded }
+  pub settled-line-places : Tabled (tableCodes words) (numbers (linesIn words)) (tableMarks words) before r area
+      → LinePlacesSettled words before r area
+  settled-line-places u =
+      record {
+        tabled = u;
+        settled = λ lines e g. settled-places (valueOf lines) g words (e ∙ ap lineTable (sym (lines-of-value lines))) before r area u;
+      }

@@ -6,8 +6,8 @@ use native.Mathlib.Omega.{arith}
 use lib.ListN.{length, take, drop, length-append, length-drop, drop-of-length-le}
 use lib.Seq.{take-at, drop-at, take-all, drop-drop}
 use borrow.Rule.Slice.PartMut.{putMid}
-use Rattle.unfold_write.specs.Laid.{Laid}
-use Rattle.unfold_write.proofs.LaidLaws.{laid-fits}
+use Rattle.unfold.specs.Laid.{Laid}
+use Rattle.unfold.proofs.LaidLaws.{laid-fits}
 use Rattle.unfold.specs.Written.{Wrote}
 
 -- nothing is written

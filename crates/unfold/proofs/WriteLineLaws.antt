@@ -12,13 +12,15 @@ use lib.Dec.{eqb}
 use borrow.Author.Tests.{eq-eqb, ne-eqb}
 use borrow.Rule.Slice.PartMut.{putMid}
 use Rattle.unfold_laws.specs.declared.Counted.{Counted}
-use Rattle.unfold_laws.specs.declared.UnfoldingTable.{UnfoldingTable}
+use Rattle.unfold.specs.PieceTable.{UnfoldingTable}
 use Rattle.unfold_laws.specs.CodesLaws.{count-positive}
 use Rattle.unfold_laws.specs.Pieces.{Piece, flat, tabulate, row, countedAfter, linePrograms, linePieces, programsBefore, piecesBefore}
-use Rattle.unfold.specs.PieceTable.{addAll, table}
-use Rattle.unfold.specs.PieceTableLaws.{addAll-append, flat-append, from-nothing}
+use Rattle.unfold.specs.PieceTable.{Wide, addAll, table}
+use Rattle.unfold.specs.PieceTableLaws.{addAll-append, flat-append, from-nothing, wide-all, wide-empty}
 use Rattle.unfold_count.specs.Counted.{RunCounted}
-use Rattle.unfold.specs.Written.{Wrote, Rows, Rowed, LineFits, Lined, AllFit}
+use Rattle.unfold.specs.Written.{Wrote, Rows, Rowed, LineFits, Lined, AllFit, AllTold}
+use Rattle.unfold.specs.UnfoldSteps.{tableTold}
+use Rattle.unfold.specs.declared.Unfolded.{Unfolded}
 
 -- no rows
 pub lined-none : (codes words marks : List ℕ) (i program : ℕ) (t : UnfoldingTable) (before : List ℕ) → (getD codes i 0 ≡ 3 → ⊥)
@@ -28,11 +30,11 @@ lined-none codes words marks i program t before h =
     rw (ne-eqb (getD codes i 0) 3 h) (record { same = refl; stands = rw add-zero (sym (take-append-drop (t .used) before)) })
 
 -- the rows of a program
-pub line-rows : (codes words marks : List ℕ) (i program : ℕ) (c : Counted) → getD codes i 0 ≡ 3
-    → RunCounted (length codes - (i + 1)) codes (i + 1) c
-    → linePieces codes words marks i program ≡ tabulate (row program codes words marks (i + 1) (length codes - (i + 1))) 0 (c .count - 0)
+pub line-rows : (codes words marks : List ℕ) (i program left : ℕ) (c : Counted) → left ≡ length codes - (i + 1) → getD codes i 0 ≡ 3
+    → RunCounted left codes (i + 1) c
+    → linePieces codes words marks i program ≡ tabulate (row program codes words marks (i + 1) left) 0 (c .count - 0)
 unfolding linePieces countedAfter
-line-rows codes words marks i program c h p = rw (eq-eqb (getD codes i 0) 3 h, ← p .counting .same, sub-zero)
+line-rows codes words marks i program left c e h p = rw (eq-eqb (getD codes i 0) 3 h, ← e, ← p .counting .same, sub-zero)
 
 module _ (rows same : List Piece) (e : rows ≡ same) (t : UnfoldingTable) (area : List ℕ) (h : LineFits rows t area) where
   rest-length : length (take (length area - t .used) (drop (t .used) area)) ≡ length area - t .used
@@ -41,6 +43,7 @@ module _ (rows same : List Piece) (e : rows ≡ same) (t : UnfoldingTable) (area
   pub line-rows-fit : length area < 18446744073709551616 → Rows same t (take (length area - t .used) (drop (t .used) area))
   line-rows-fit small =
       record {
+        wide = h .wide;
         room = rw rest-length (omega (arith, h .places, ap (λ (l : List Piece). length (flat l)) e));
         cells = omega (arith, h .cells, ap length e);
         places = rw rest-length (omega (arith, h .places));
@@ -123,6 +126,15 @@ unfolding piecesBefore programsBefore flat addAll
 going-start codes words marks before t e =
     record { inside = omega arith; filled = e; number = refl; stands = record { many = refl; inside = omega arith; stands = refl } }
 
+-- the table keeps its room
+pub going-wide : (codes words marks before : List ℕ) (i : ℕ) (area : List ℕ) (t : UnfoldingTable) (program : ℕ)
+    → Going codes words marks before i area t program → Wide t
+going-wide codes words marks before i area t program g =
+    rw (g .filled) (wide-all (table []) (piecesBefore codes words marks i) wide-empty)
+
+pub less-lines : (i n m : ℕ) → n ≡ m → i < n → i < m
+less-lines i n m e h = omega arith
+
 module _ (codes words marks before : List ℕ) (all : AllFit (piecesBefore codes words marks (length codes)) before) where
   module _ (i : ℕ) (area : List ℕ) (t : UnfoldingTable) (program : ℕ) (g : Going codes words marks before i area t program) where
     ps : List Piece
@@ -189,6 +201,7 @@ module _ (codes words marks before : List ℕ) (all : AllFit (piecesBefore codes
       unfolding new
       going-fits =
           record {
+            wide = going-wide codes words marks before i area t program g;
             cells = omega (arith, cells-fit, counted);
             places = omega (arith, places-fit, used, same-length);
           }
@@ -214,7 +227,7 @@ module _ (codes words marks before : List ℕ) (all : AllFit (piecesBefore codes
   going-length i area t program g = same-length i area t program g
 
   pub going-end : (i : ℕ) (area : List ℕ) (t : UnfoldingTable) (program : ℕ) → Going codes words marks before i area t program → length codes ≤ i
-      → Rowed (piecesBefore codes words marks (length codes)) (table []) before t area
-  going-end i area t program g h =
+      → (r : Unfolded) → r ≡ tableTold t → AllTold (piecesBefore codes words marks (length codes)) before r area
+  going-end i area t program g h r told =
       let e : length codes ≡ i = omega (arith, g .inside) in
-      record { same = rw e (g .filled); stands = rw e (g .stands) }
+      record { tells = told ∙ ap tableTold (rw e (g .filled)); stands = rw e (g .stands) }

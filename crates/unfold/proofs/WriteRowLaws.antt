@@ -5,10 +5,11 @@ use Prim.Native.Nat.{ℕ, suc, _+_, _-_, _≤_, _<_}
 use native.Mathlib.Omega.{arith}
 use lib.ListN.{length, take, drop, length-append, length-take, length-drop}
 use borrow.Rule.Slice.PartMut.{putMid}
-use Rattle.unfold_laws.specs.declared.UnfoldingTable.{UnfoldingTable}
+use Rattle.unfold.specs.PieceTable.{UnfoldingTable}
 use Rattle.unfold_laws.specs.Pieces.{Piece, flat, tabulate}
-use Rattle.unfold.specs.PieceTable.{added, addAll}
-use Rattle.unfold_write.specs.Laid.{Laid}
+use Rattle.unfold.specs.PieceTable.{Wide, added, addAll}
+use Rattle.unfold.specs.PieceTableLaws.{wide-added, wide-all}
+use Rattle.unfold.specs.Laid.{Laid}
 use Rattle.unfold.specs.Written.{Wrote, Rows, Rowed}
 use Rattle.unfold.proofs.WriteLaws.{wrote-nothing, wrote-laid, room-left, room-right, wrote-both}
 
@@ -23,6 +24,11 @@ rows-step f k n h = let z : n - k ≡ suc (n - (k + 1)) = omega arith in rw z
 pub rowed-nothing : (rows : List Piece) (t : UnfoldingTable) (before : List ℕ) → rows ≡ [] → Rowed rows t before t before
 unfolding flat addAll
 rowed-nothing rows t before e = rw e (record { same = refl; stands = wrote-nothing [] before refl })
+
+-- a table that keeps its room
+pub rowed-wide : (rows : List Piece) (t : UnfoldingTable) (before : List ℕ) (r : UnfoldingTable) (area : List ℕ) → Wide t
+    → Rowed rows t before r area → Wide r
+rowed-wide rows t before r area h s = rw (s .same) (wide-all t rows h)
 
 wrote-length : (w before : List ℕ) (r : ℕ) (area : List ℕ) → Wrote w before r area → Wrote w before (length w) area
 wrote-length w before r area h = rw (h .many) at h
@@ -67,6 +73,7 @@ module _ (f : ℕ → Piece) (k n : ℕ) (less : k < n) (t : UnfoldingTable) (ar
     unfolding added
     more-rows u d =
         record {
+          wide = rw d (wide-added t (p .program) m (h .wide));
           room = room-right (p .words) (flat rest) (flat rows) area flat-parts (h .room) m mid first;
           cells = omega (arith, h .cells, ap length e, ap (λ (x : UnfoldingTable). x .count) d);
           places = omega (

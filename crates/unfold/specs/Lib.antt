@@ -1,3 +1,5 @@
+pub mod Laid
+pub mod LineWords
 pub mod Written
 pub mod UnfoldTold
 pub mod PieceTable
@@ -6,4 +8,5 @@ pub mod UnfoldSteps
 pub mod OwnLaws
 pub mod Stand
 pub mod UnfoldSettled
+pub mod UnfoldLines
 pub mod NotGiven

@@ -1,10 +1,24 @@
 -- The table of what is written: each piece's program, start and length.
 use mathlib.Core.List.{List, [], _∷_, map}
+use mathlib.Core.Path.{_≡_}
 use Prim.Native.Nat.{ℕ, _+_}
 use lib.ListN.{length, set}
-use Rattle.unfold_laws.specs.declared.UnfoldingTable.{UnfoldingTable}
 use Rattle.unfold_laws.specs.Pieces.{Piece, flat}
 use Rattle.unfold.specs.UnfoldTold.{cells}
+
+-- how many rows, how many places they take, and of each row its program, start and length
+pub record UnfoldingTable : Type 0 where
+  pub count : ℕ
+  pub used : ℕ
+  pub program : List ℕ
+  pub start : List ℕ
+  pub length : List ℕ
+
+-- with room for 64 rows
+pub record Wide (t : UnfoldingTable) : Type 0 where
+  pub programs : length (t .program) ≡ 64
+  pub starts : length (t .start) ≡ 64
+  pub lengths : length (t .length) ≡ 64
 
 -- one row more
 unfoldable pub added : UnfoldingTable → ℕ → ℕ → UnfoldingTable

@@ -4,12 +4,31 @@ use mathlib.Core.Path.{_≡_, refl, sym, ap, _∙_}
 use Prim.Native.Nat.{ℕ, suc, _+_, _-_, _<_, _≤_}
 use native.Mathlib.Nat.{zero-add, add-zero}
 use native.Mathlib.Omega.{arith}
-use lib.ListN.{length, set, replicate, length-append, length-map}
+use lib.ListN.{length, set, replicate, length-append, length-map, length-set}
 use lib.Seq.{set-append-seam}
-use Rattle.unfold_laws.specs.declared.UnfoldingTable.{UnfoldingTable}
+use Rattle.unfold.specs.PieceTable.{UnfoldingTable}
 use Rattle.unfold_laws.specs.Pieces.{Piece, flat}
 use Rattle.unfold.specs.UnfoldTold.{cells}
-use Rattle.unfold.specs.PieceTable.{added, addAll, starts, table}
+use Rattle.unfold.specs.PieceTable.{Wide, added, addAll, starts, table}
+
+-- a table keeps its room
+pub wide-added : (t : UnfoldingTable) (program n : ℕ) → Wide t → Wide (added t program n)
+unfolding added
+wide-added t program n h =
+    record {
+      programs = length-set (t .program) (t .count) program ∙ h .programs;
+      starts = length-set (t .start) (t .count) (t .used) ∙ h .starts;
+      lengths = length-set (t .length) (t .count) n ∙ h .lengths;
+    }
+
+pub wide-all : (t : UnfoldingTable) (ps : List Piece) → Wide t → Wide (addAll t ps)
+unfolding addAll
+wide-all t [] h = h
+wide-all t (p ∷ ps) h = wide-all (added t (p .program) (length (p .words))) ps (wide-added t (p .program) (length (p .words)) h)
+
+pub wide-empty : Wide (table [])
+unfolding table cells starts
+wide-empty = record { programs = refl; starts = refl; lengths = refl }
 
 -- rows after rows
 pub addAll-append : (t : UnfoldingTable) (ps qs : List Piece) → addAll t (ps ++ qs) ≡ addAll (addAll t ps) qs

@@ -5,11 +5,10 @@ use mathlib.Core.Path.{_≡_}
 use Prim.Native.Nat.{ℕ, _≤_}
 use lib.Dec.{ltb}
 use lib.ListN.{length, drop}
-use Rattle.unfold_laws.specs.declared.UnfoldingTable.{UnfoldingTable}
 use Rattle.unfold_laws.specs.Pieces.{Piece, flat, totalsBefore, piecesBefore}
 use Rattle.unfold.specs.declared.Unfolded.{Unfolded}
 use Rattle.unfold.specs.UnfoldTold.{refusedWith}
-use Rattle.unfold.specs.PieceTable.{table}
+use Rattle.unfold.specs.PieceTable.{UnfoldingTable, table}
 
 -- a table told
 unfoldable pub tableTold : UnfoldingTable → Unfolded

@@ -1,11 +1,18 @@
 -- What the writing functions ask for and say of their results.
-use mathlib.Core.List.{List, _++_}
+use mathlib.Core.List.{List, [], _++_}
 use mathlib.Core.Path.{_≡_}
 use Prim.Native.Nat.{ℕ, _+_, _≤_, _<_}
 use lib.ListN.{length, take, drop}
-use Rattle.unfold_laws.specs.declared.UnfoldingTable.{UnfoldingTable}
+use Rattle.unfold.specs.PieceTable.{UnfoldingTable}
 use Rattle.unfold_laws.specs.Pieces.{Piece, flat}
-use Rattle.unfold.specs.PieceTable.{addAll}
+use Rattle.unfold.specs.PieceTable.{Wide, addAll, table}
+use Rattle.unfold.specs.declared.Used.{Used}
+use Rattle.unfold.specs.declared.Unfolded.{Unfolded}
+use Rattle.unfold.specs.UnfoldSteps.{tableTold}
+
+-- the table whose parts are lent apart
+abbrev pub tableAt : Used → List ℕ → List ℕ → List ℕ → UnfoldingTable
+tableAt t program start length = record { count = t .count; used = t .used; program = program; start = start; length = length }
 
 -- numbers stand at the start of an area, which is otherwise as it was; the result is how many
 pub record Wrote (written before : List ℕ) (r : ℕ) (area : List ℕ) : Type 0 where
@@ -15,6 +22,7 @@ pub record Wrote (written before : List ℕ) (r : ℕ) (area : List ℕ) : Type 
 
 -- the table and the area have room for rows
 pub record Rows (rows : List Piece) (t : UnfoldingTable) (area : List ℕ) : Type 0 where
+  pub wide : Wide t
   pub room : length (flat rows) ≤ length area
   pub cells : t .count + length rows ≤ 64
   pub places : t .used + length area < 18446744073709551616
@@ -26,6 +34,7 @@ pub record Rowed (rows : List Piece) (t : UnfoldingTable) (before : List ℕ) (r
 
 -- the table and the area have room for a line's rows after those that stand there
 pub record LineFits (rows : List Piece) (t : UnfoldingTable) (area : List ℕ) : Type 0 where
+  pub wide : Wide t
   pub cells : t .count + length rows ≤ 64
   pub places : t .used + length (flat rows) ≤ length area
 
@@ -38,3 +47,8 @@ pub record Lined (rows : List Piece) (t : UnfoldingTable) (before : List ℕ) (r
 pub record AllFit (rows : List Piece) (area : List ℕ) : Type 0 where
   pub cells : length rows ≤ 64
   pub places : length (flat rows) ≤ length area
+
+-- all pieces stand from an area's start on and are told
+pub record AllTold (rows : List Piece) (before : List ℕ) (r : Unfolded) (area : List ℕ) : Type 0 where
+  pub tells : r ≡ tableTold (addAll (table []) rows)
+  pub stands : Wrote (flat rows) before (length (flat rows)) area

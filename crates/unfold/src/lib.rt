@@ -1,25 +1,45 @@
 // The unfoldings of a workload, written into a lent area: as statement ids, or as words that tell each place's line and what is seen there.
+// They are read off a table of lines; how many unfoldings the run at each line has is counted once, from the last line to the first.
 
+use spec_text::CELLS;
 use spec_text::Workload;
+use unfold_bounds::line_after;
 use unfold_bounds::totals_refused;
 use unfold_count::count_all;
-use unfold_count::count_run;
+use unfold_count::measure;
+use unfold_count::run_at;
+use unfold_laws::BRANCH;
+use unfold_laws::LOOP;
 use unfold_laws::PROGRAM;
+use unfold_laws::STATEMENT;
 use unfold_laws::UNFOLDINGS;
-use unfold_laws::UnfoldingTable;
-use unfold_write::write_run;
+use unfold_laws::UnfoldingTotals;
+use unfold_laws::WORD_LINES;
 use value_given::is_given;
-use value_tables::write_tables;
-ghost use mathlib.Core.List.{[]};
+use value_tables::LINE_WORDS;
+use value_tables::code_at;
+use value_tables::id_at;
+use value_tables::line_table;
+use value_tables::lines_in;
+use value_tables::mark_at;
+ghost use mathlib.Core.List.{[], _∷_};
 ghost use mathlib.Core.Path.{_≡_};
 ghost use Prim.Native.Nat.{_+_, _-_, _<_};
-ghost use lib.ListN.{length};
+ghost use lib.ListN.{length, getD};
+ghost use Rattle.unfold_laws.specs.Codes.{itemAt, countAt};
 ghost use Rattle.unfold_laws.specs.Pieces.{row, tabulate, linePieces, linePrograms, piecesBefore};
-ghost use Rattle.unfold.specs.Written.{Rows, Rowed, LineFits, Lined, AllFit};
+ghost use Rattle.unfold_laws.specs.WordCode.{packed};
+ghost use Rattle.unfold_laws.specs.Writing.{writeBlock, writeAt};
+ghost use Rattle.unfold_count.specs.Counted.{AllCounted};
+ghost use Rattle.unfold_count.specs.CountWords.{Held};
+ghost use Rattle.value_tables.specs.Lines.{tableCodes};
+ghost use Rattle.unfold.specs.LineWords.{wordsBy, marksBy};
+ghost use Rattle.unfold.specs.Laid.{Laid, Known};
+ghost use Rattle.unfold.specs.Written.{tableAt, Rows, Rowed, LineFits, Lined, AllFit, AllTold};
 ghost use Rattle.unfold.specs.UnfoldTold.{refusedWith};
 ghost use Rattle.unfold.specs.UnfoldSettled.{Settled, PlacesSettled};
-ghost use Rattle.unfold.specs.UnfoldSteps.{tableTold, Ready, Tabled};
-ghost use Rattle.unfold.specs.PieceTable.{added, table};
+ghost use Rattle.unfold.specs.UnfoldLines.{LinesSettled, LinePlacesSettled};
+ghost use Rattle.unfold.specs.UnfoldSteps.{Tabled};
 
 // The unfoldings of a workload: the number of the refusal, or 0 and how many there are, with each one's program, start and length.
 pub struct Unfolded {
@@ -30,130 +50,282 @@ pub struct Unfolded {
     pub length: [u64; UNFOLDINGS],
 }
 
-// One row more of the table.
-fn add(t: UnfoldingTable, program: u8, n: usize) -> UnfoldingTable
-    requires { ⌜ (t .count < 64) × (t .used + n < 18446744073709551616) ⌝ }
-    ensures { λ r. ⌜ r ≡ added t program n ⌝ }
-{
-    let mut f = t;
-    let j = t.count;
-    f.program[j] = program;
-    f.start[j] = t.used as u64;
-    f.length[j] = n as u64;
-    f.count = j + 1;
-    f.used = t.used + n;
-    f
+// What is written so far: how many unfoldings, and how many places they take.
+struct Used {
+    count: usize,
+    used: usize,
 }
 
-// Writes the unfoldings k to n - 1 of the run at a place one after the other, the rest of the area lent on each time.
+// The word of a line with what is seen there: by its id, or by its number.
+fn place_word(lines: &[u64], ids: bool, at: usize, seen: u32) -> u64
+    requires { ⌜ at < length (tableCodes (now lines)) ⌝ }
+    ensures { λ r. ⌜ r ≡ packed (getD (wordsBy ids (now (lines .entry))) at 0) seen ⌝ }
+{
+    if ids {
+        return id_at(lines, at) as u64 + seen as u64 * WORD_LINES;
+    }
+    at as u64 + seen as u64 * WORD_LINES
+}
+
+// The mark of a line; where ids are written, no line is marked.
+fn mark_by(lines: &[u64], ids: bool, at: usize) -> u32
+    ensures { λ r. ⌜ r ≡ getD (marksBy ids (now (lines .entry))) at 0 ⌝ }
+{
+    if ids {
+        return 0;
+    }
+    mark_at(lines, at)
+}
+
+// Lays one word over an area; answers how many found room.
+fn lay_word(word: u64, out: &mut [u64]) -> usize
+    ensures { λ r. ⌜ Laid (word ∷ []) (now (out .entry)) r (now (out .exit)) ⌝ }
+{
+    if out.len() == 0 {
+        return 0;
+    }
+    out[0] = word;
+    1
+}
+
+// The line after the block at a place.
+fn block_end(lines: &[u64], counts: &[u32], at: usize, left: usize) -> usize
+    requires { ⌜ (at < length (tableCodes (now lines))) × (getD (tableCodes (now lines)) at 0 ≡ 0 → ⊥)
+        × Known (tableCodes (now lines)) (now counts) (at + 1) left ⌝ }
+    ensures { λ r. ⌜ r ≡ itemAt (countAt left (tableCodes (now (lines .entry)))) (tableCodes (now (lines .entry))) at .end ⌝ }
+{
+    let n = lines_in(lines);
+    let body = run_at(lines, counts, at + 1, left);
+    let second = line_after(n, body.end);
+    if code_at(lines, at) == LOOP {
+        return second;
+    }
+    let two = run_at(lines, counts, second, left);
+    line_after(n, two.end)
+}
+
+// Lays the words of unfolding number k of the run at a place over an area, as far as it reaches; answers how many found room.
+// The leftmost choice changes slowest: a block takes the quotient by what the run after it counts, that run the remainder.
+// After a statement its mark is seen too; what is seen inside a block is not seen after it.
+fn write_run(
+    lines: &[u64],
+    counts: &[u32],
+    ids: bool,
+    seen: u32,
+    at: usize,
+    left: usize,
+    k: u64,
+    out: &mut [u64],
+) -> usize
+    requires { ⌜ Known (tableCodes (now lines)) (now counts) at left ⌝ }
+    ensures { λ r. ⌜ Laid (writeAt left (tableCodes (now (lines .entry))) (wordsBy ids (now (lines .entry)))
+        (marksBy ids (now (lines .entry))) seen at k) (now (out .entry)) r (now (out .exit)) ⌝ }
+{
+    if left == 0 {
+        return 0;
+    }
+    if lines_in(lines) <= at {
+        return 0;
+    }
+    let code = code_at(lines, at);
+    if code > BRANCH {
+        return 0;
+    }
+    let rest = left - 1;
+    if code == STATEMENT {
+        let m = lay_word(place_word(lines, ids, at, seen), out);
+        let sees = seen | mark_by(lines, ids, at);
+        return m + write_run(lines, counts, ids, sees, at + 1, rest, k, &mut out[m..]);
+    }
+    let end = block_end(lines, counts, at, rest);
+    let more = run_at(lines, counts, end, rest);
+    let n = more.count;
+    let m = write_block(lines, counts, ids, seen, at, rest, k / n, out);
+    m + write_run(lines, counts, ids, seen, end, rest, k % n, &mut out[m..])
+}
+
+// The same for the block at a place: of a loop no turn, one turn of each, two turns of each; of a branch the first arm's, then the second's.
+fn write_block(
+    lines: &[u64],
+    counts: &[u32],
+    ids: bool,
+    seen: u32,
+    at: usize,
+    left: usize,
+    k: u64,
+    out: &mut [u64],
+) -> usize
+    requires { ⌜ (at < length (tableCodes (now lines))) × Known (tableCodes (now lines)) (now counts) (at + 1) left ⌝ }
+    ensures { λ r. ⌜ Laid (writeBlock (writeAt left (tableCodes (now (lines .entry))) (wordsBy ids (now (lines .entry)))
+        (marksBy ids (now (lines .entry))) seen) (countAt left (tableCodes (now (lines .entry)))) (tableCodes (now (lines .entry))) at k)
+        (now (out .entry)) r (now (out .exit)) ⌝ }
+{
+    let first = at + 1;
+    let body = run_at(lines, counts, first, left);
+    let n = body.count;
+    if code_at(lines, at) == LOOP {
+        if k == 0 {
+            return 0;
+        }
+        if k <= n {
+            return write_run(lines, counts, ids, seen, first, left, k - 1, out);
+        }
+        let j = k - 1 - n;
+        let m = write_run(lines, counts, ids, seen, first, left, j / n, out);
+        return m + write_run(lines, counts, ids, seen, first, left, j % n, &mut out[m..]);
+    }
+    if k < n {
+        return write_run(lines, counts, ids, seen, first, left, k, out);
+    }
+    let second = line_after(lines_in(lines), body.end);
+    write_run(lines, counts, ids, seen, second, left, k - n, out)
+}
+
+// Writes the unfoldings k to n - 1 of the run at a place one after the other, the rest of the area lent on each time, and tells each.
 fn write_rows(
-    codes: &[u8],
-    words: &[u16],
-    marks: &[u32],
+    lines: &[u64],
+    counts: &[u32],
+    ids: bool,
     at: usize,
     left: usize,
     k: u64,
     n: u64,
-    program: u8,
-    t: UnfoldingTable,
+    number: u8,
+    t: Used,
+    programs: &mut [u8],
+    starts: &mut [u64],
+    lengths: &mut [u64],
     area: &mut [u64],
-) -> UnfoldingTable
-    requires { ⌜ Rows (tabulate (row program (now codes) (now words) (now marks) at left) k (n - k)) t (now area) ⌝ }
-    ensures { λ r. ⌜ Rowed (tabulate (row program (now (codes .entry)) (now (words .entry)) (now (marks .entry)) at left) k (n - k)) t
-        (now (area .entry)) r (now (area .exit)) ⌝ }
+) -> Used
+    requires { ⌜ Known (tableCodes (now lines)) (now counts) at left ⌝ }
+    requires { ⌜ Rows (tabulate (row number (tableCodes (now lines)) (wordsBy ids (now lines)) (marksBy ids (now lines)) at left) k (n - k))
+        (tableAt t (now programs) (now starts) (now lengths)) (now area) ⌝ }
+    ensures { λ r. ⌜ Rowed (tabulate (row number (tableCodes (now (lines .entry))) (wordsBy ids (now (lines .entry)))
+        (marksBy ids (now (lines .entry))) at left) k (n - k))
+        (tableAt t (now (programs .entry)) (now (starts .entry)) (now (lengths .entry))) (now (area .entry))
+        (tableAt r (now (programs .exit)) (now (starts .exit)) (now (lengths .exit))) (now (area .exit)) ⌝ }
 {
     if n <= k {
         return t;
     }
-    let m = write_run(codes, words, marks, 0, at, left, k, area);
-    let u = add(t, program, m);
+    let m = write_run(lines, counts, ids, 0, at, left, k, area);
+    let j = t.count;
+    programs[j] = number;
+    starts[j] = t.used as u64;
+    lengths[j] = m as u64;
+    let u = Used {
+        count: j + 1,
+        used: t.used + m,
+    };
     write_rows(
-        codes,
-        words,
-        marks,
+        lines,
+        counts,
+        ids,
         at,
         left,
         k + 1,
         n,
-        program,
+        number,
         u,
+        programs,
+        starts,
+        lengths,
         &mut area[m..],
     )
 }
 
 // Writes the unfoldings of the program after a `pr` line into the rest of the area; another line has none.
 fn write_line(
-    codes: &[u8],
-    words: &[u16],
-    marks: &[u32],
+    lines: &[u64],
+    counts: &[u32],
+    ids: bool,
     i: usize,
-    program: u8,
-    t: UnfoldingTable,
+    number: u8,
+    t: Used,
+    programs: &mut [u8],
+    starts: &mut [u64],
+    lengths: &mut [u64],
     area: &mut [u64],
-) -> UnfoldingTable
-    requires { ⌜ i < length (now codes) ⌝ }
-    requires { ⌜ LineFits (linePieces (now codes) (now words) (now marks) i program) t (now area) ⌝ }
-    ensures { λ r. ⌜ Lined (linePieces (now (codes .entry)) (now (words .entry)) (now (marks .entry)) i program) t
-        (now (area .entry)) r (now (area .exit)) ⌝ }
+) -> Used
+    requires { ⌜ (i < length (tableCodes (now lines))) × Held (tableCodes (now lines)) (now counts) 0 ⌝ }
+    requires { ⌜ LineFits (linePieces (tableCodes (now lines)) (wordsBy ids (now lines)) (marksBy ids (now lines)) i number)
+        (tableAt t (now programs) (now starts) (now lengths)) (now area) ⌝ }
+    ensures { λ r. ⌜ Lined (linePieces (tableCodes (now (lines .entry))) (wordsBy ids (now (lines .entry)))
+        (marksBy ids (now (lines .entry))) i number)
+        (tableAt t (now (programs .entry)) (now (starts .entry)) (now (lengths .entry))) (now (area .entry))
+        (tableAt r (now (programs .exit)) (now (starts .exit)) (now (lengths .exit))) (now (area .exit)) ⌝ }
 {
-    if codes[i] != PROGRAM {
+    if code_at(lines, i) != PROGRAM {
         return t;
     }
-    let left = codes.len() - (i + 1);
-    let c = count_run(codes, i + 1, left);
+    let left = lines_in(lines) - (i + 1);
+    let c = run_at(lines, counts, i + 1, left);
     let used = t.used;
     write_rows(
-        codes,
-        words,
-        marks,
+        lines,
+        counts,
+        ids,
         i + 1,
         left,
         0,
         c.count,
-        program,
+        number,
         t,
+        programs,
+        starts,
+        lengths,
         &mut area[used..],
     )
 }
 
 // The number of the program that the next `pr` line begins.
-fn next_program(codes: &[u8], i: usize, program: u8) -> u8
-    requires { ⌜ (i < length (now codes)) × (program < 255) ⌝ }
-    ensures { λ r. ⌜ r ≡ linePrograms (now (codes .entry)) i program ⌝ }
+fn next_program(lines: &[u64], i: usize, number: u8) -> u8
+    requires { ⌜ (i < length (tableCodes (now lines))) × (number < 255) ⌝ }
+    ensures { λ r. ⌜ r ≡ linePrograms (tableCodes (now (lines .entry))) i number ⌝ }
 {
-    if codes[i] == PROGRAM {
-        return program + 1;
+    if code_at(lines, i) == PROGRAM {
+        return number + 1;
     }
-    program
-}
-
-fn empty_table() -> UnfoldingTable
-    ensures { λ r. ⌜ r ≡ table [] ⌝ }
-{
-    UnfoldingTable {
-        count: 0,
-        used: 0,
-        program: [0u8; UNFOLDINGS],
-        start: [0u64; UNFOLDINGS],
-        length: [0u64; UNFOLDINGS],
-    }
+    number
 }
 
 // Writes the unfoldings of all programs one after the other from the area's start.
-fn write_all(codes: &[u8], words: &[u16], marks: &[u32], area: &mut [u64]) -> UnfoldingTable
-    requires { ⌜ AllFit (piecesBefore (now codes) (now words) (now marks) (length (now codes))) (now area) ⌝ }
-    ensures { λ r. ⌜ Rowed (piecesBefore (now (codes .entry)) (now (words .entry)) (now (marks .entry)) (length (now (codes .entry)))) (table [])
-        (now (area .entry)) r (now (area .exit)) ⌝ }
+fn write_all(lines: &[u64], counts: &[u32], ids: bool, area: &mut [u64]) -> Unfolded
+    requires { ⌜ Held (tableCodes (now lines)) (now counts) 0 ⌝ }
+    requires { ⌜ AllFit (piecesBefore (tableCodes (now lines)) (wordsBy ids (now lines)) (marksBy ids (now lines))
+        (length (tableCodes (now lines)))) (now area) ⌝ }
+    ensures { λ r. ⌜ AllTold (piecesBefore (tableCodes (now (lines .entry))) (wordsBy ids (now (lines .entry)))
+        (marksBy ids (now (lines .entry))) (length (tableCodes (now (lines .entry))))) (now (area .entry)) r (now (area .exit)) ⌝ }
 {
-    let mut t = empty_table();
-    let mut program: u8 = 0;
+    let mut program = [0u8; UNFOLDINGS];
+    let mut start = [0u64; UNFOLDINGS];
+    let mut length = [0u64; UNFOLDINGS];
+    let mut t = Used { count: 0, used: 0 };
+    let mut number: u8 = 0;
     let mut i: usize = 0;
-    while i < codes.len() {
-        t = write_line(codes, words, marks, i, program, t, area);
-        program = next_program(codes, i, program);
+    while i < lines_in(lines) {
+        t = write_line(
+            lines,
+            counts,
+            ids,
+            i,
+            number,
+            t,
+            &mut program,
+            &mut start,
+            &mut length,
+            area,
+        );
+        number = next_program(lines, i, number);
         i += 1;
     }
-    t
+    Unfolded {
+        refusal: 0,
+        count: t.count as u64,
+        program: program,
+        start: start,
+        length: length,
+    }
 }
 
 fn refused(number: u8) -> Unfolded
@@ -168,62 +340,74 @@ fn refused(number: u8) -> Unfolded
     }
 }
 
-fn told(f: UnfoldingTable) -> Unfolded
-    ensures { λ r. ⌜ r ≡ tableTold f ⌝ }
+// Writes the unfoldings of lines whose totals and runs are counted, or refuses 22 or 20.
+fn unfold_counted(
+    lines: &[u64],
+    counts: &[u32],
+    ids: bool,
+    t: UnfoldingTotals,
+    area: &mut [u64],
+) -> Unfolded
+    requires { ⌜ Held (tableCodes (now lines)) (now counts) 0 × AllCounted (tableCodes (now lines)) t ⌝ }
+    ensures { λ r. ⌜ Tabled (tableCodes (now (lines .entry))) (wordsBy ids (now (lines .entry))) (marksBy ids (now (lines .entry)))
+        (now (area .entry)) r (now (area .exit)) ⌝ }
 {
-    let program = f.program;
-    let start = f.start;
-    let length = f.length;
-    Unfolded {
-        refusal: 0,
-        count: f.count as u64,
-        program: program,
-        start: start,
-        length: length,
-    }
-}
-
-// Writes the unfoldings over the lines' numbers and tables, or refuses 22 or 20.
-fn unfold_tables(codes: &[u8], words: &[u16], marks: &[u32], area: &mut [u64]) -> Unfolded
-    requires { ⌜ Ready (now codes) (now words) (now marks) ⌝ }
-    ensures { λ r. ⌜ Tabled (now (codes .entry)) (now (words .entry)) (now (marks .entry)) (now (area .entry)) r (now (area .exit)) ⌝ }
-{
-    let t = count_all(codes);
     let number = totals_refused(t, area.len() as u64);
     if number != 0 {
         return refused(number);
     }
-    let f = write_all(codes, words, marks, area);
-    told(f)
+    write_all(lines, counts, ids, area)
 }
 
-// Writes the unfoldings of a workload value as statement ids, one after the other from the area's start, or refuses 21, 22 or 20.
-// No line is marked: a line that the table of marks lacks has none.
+// Counts the runs of a table of lines and writes its unfoldings, or refuses 22 or 20. Of more lines than a workload has, each run is counted anew.
+fn unfold_by(lines: &[u64], ids: bool, area: &mut [u64]) -> Unfolded
+    ensures { λ r. ⌜ Tabled (tableCodes (now (lines .entry))) (wordsBy ids (now (lines .entry))) (marksBy ids (now (lines .entry)))
+        (now (area .entry)) r (now (area .exit)) ⌝ }
+{
+    let mut counts = [0u32; CELLS];
+    let n = lines_in(lines);
+    if CELLS < n {
+        let all = count_all(lines);
+        return unfold_counted(lines, &counts[..0], ids, all, area);
+    }
+    let t = measure(lines, &mut counts[..n]);
+    unfold_counted(lines, &counts[..n], ids, t, area)
+}
+
+// Writes the unfoldings of a table of lines as statement ids, one after the other from the area's start, or refuses 22 or 20.
+pub fn unfold_lines(lines: &[u64], area: &mut [u64]) -> Unfolded
+    ensures { λ r. ⌜ LinesSettled (now (lines .entry)) (now (area .entry)) r (now (area .exit)) ⌝ }
+{
+    unfold_by(lines, true, area)
+}
+
+// The same as words that tell the own line of each place's statement and which parents that shield are seen there.
+pub fn unfold_line_places(lines: &[u64], area: &mut [u64]) -> Unfolded
+    ensures { λ r. ⌜ LinePlacesSettled (now (lines .entry)) (now (area .entry)) r (now (area .exit)) ⌝ }
+{
+    unfold_by(lines, false, area)
+}
+
+// The unfoldings of a workload value as statement ids, or refuses 21, 22 or 20.
 pub fn unfold(w: Workload, area: &mut [u64]) -> Unfolded
     ensures { λ r. ⌜ Settled w (now (area .entry)) r (now (area .exit)) ⌝ }
 {
     if !is_given(w) {
         return refused(21);
     }
-    let n = w.count;
-    let t = write_tables(w);
-    let codes = t.codes;
-    let words = t.ids;
-    let marks = [0u32; 1];
-    unfold_tables(&codes[..n], &words[..n], &marks[..1], area)
+    let n = w.count * LINE_WORDS;
+    let lines = line_table(w);
+    unfold_lines(&lines[..n], area)
 }
 
-// The same as words that tell the own line of each place's statement and which parents that shield are seen there.
+// The same as words for places.
 pub fn unfold_places(w: Workload, area: &mut [u64]) -> Unfolded
     ensures { λ r. ⌜ PlacesSettled w (now (area .entry)) r (now (area .exit)) ⌝ }
 {
     if !is_given(w) {
         return refused(21);
     }
-    let n = w.count;
-    let t = write_tables(w);
-    let codes = t.codes;
-    let words = t.numbers;
-    let marks = t.marks;
-    unfold_tables(&codes[..n], &words[..n], &marks[..n], area)
+    let n = w.count * LINE_WORDS;
+    let lines = line_table(w);
+    unfold_line_places(&lines[..n], area)
 }

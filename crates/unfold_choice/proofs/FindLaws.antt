@@ -38,6 +38,10 @@ pub find-start : (codes : List ℕ) (node : ℕ) → Passed codes node 0 node
 unfolding passedBy unfoldingsFrom
 find-start codes node lines e few = zero-add node
 
+pub counted-lines : (codes : List ℕ) (i n : ℕ) (c : Counted) → n ≡ length codes → RunCounted (n - (i + 1)) codes (i + 1) c
+    → RunCounted (length codes - (i + 1)) codes (i + 1) c
+counted-lines codes i n c e h = rw e at h
+
 module _ (codes : List ℕ) (node k i number : ℕ) (line : ProgramLine codes k i) (passed : Passed codes node k number) where
   -- no program is left
   pub find-none : length codes ≤ i → NodeFound codes node (record { found = false; line = 0; program = 0; number = 0 })

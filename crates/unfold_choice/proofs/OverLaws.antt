@@ -157,10 +157,10 @@ module _ (codes : List ℕ) (node : ℕ) (t : UnfoldingTotals) (all : AllCounted
         }
 
     pub over-told : (empty c : ChoiceTable) → f .found ≡ true → empty ≡ tableOf []
-        → c ≡ putAll empty (tellAt (length codes - (f .line + 1)) codes (f .line + 1) (f .number))
+        → (n : ℕ) → n ≡ length codes → c ≡ putAll empty (tellAt (n - (f .line + 1)) codes (f .line + 1) (f .number))
         → ChoicesOver codes node
         (record { refusal = 0; found = true; program = f .program; number = f .number; count = c .count; words = c .words })
-    over-told empty c is-found start put =
+    over-told empty c is-found start n many put =
         record {
           many = λ lines e h. absurd (few-told lines e h);
           missing = λ lines e few n. absurd (Option·none-ne-some _ (sym n ∙ own-there lines node f (found .there lines e few is-found)));
@@ -169,7 +169,7 @@ module _ (codes : List ℕ) (node : ℕ) (t : UnfoldingTotals) (all : AllCounted
       where
         over : (lines : List Line) → codes ≡ codesOf lines
             → c ≡ putAll (tableOf []) (tellAt (length lines - (f .line + 1)) (codesOf lines) (f .line + 1) (f .number))
-        over lines e = let many : length codes ≡ length lines = ap length e ∙ length-codes lines in rw (start, many, e) at put
+        over lines e = let same : n ≡ length lines = many ∙ ap length e ∙ length-codes lines in rw (start, same, e) at put
 
 -- ---- the promise
 

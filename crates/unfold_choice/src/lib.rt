@@ -12,12 +12,16 @@ use unfold_laws::STATEMENT;
 use unfold_laws::STATEMENTS;
 use unfold_program::program_line;
 use value_given::is_given;
-use value_tables::write_tables;
+use value_tables::LINE_WORDS;
+use value_tables::code_at;
+use value_tables::line_table;
+use value_tables::lines_in;
 ghost use mathlib.Core.List.{[]};
 ghost use mathlib.Core.Path.{_≡_};
 ghost use Prim.Native.Nat.{_≤_, _<_};
 ghost use lib.ListN.{length};
 ghost use Rattle.unfold_laws.specs.Codes.{countAt};
+ghost use Rattle.value_tables.specs.Lines.{tableCodes};
 ghost use Rattle.unfold_choice.specs.ChoiceWord.{choiceWord};
 ghost use Rattle.unfold_choice.specs.ChoicesSettled.{ChoicesSettled, noChoices};
 ghost use Rattle.unfold_choice.specs.ChoiceTable.{putWord, putAll, tableOf};
@@ -73,59 +77,60 @@ fn put(t: ChoiceTable, at: usize, taken: u64) -> ChoiceTable
 
 // Puts the choices of unfolding number k of the run at a place.
 // The leftmost choice changes slowest: a block takes the quotient by what the run after it counts, that run the remainder.
-fn tell_run(codes: &[u8], at: usize, left: usize, k: u64, t: ChoiceTable) -> ChoiceTable
-    requires { ⌜ length (now codes) ≤ 2048 ⌝ }
-    ensures { λ r. ⌜ r ≡ putAll t (tellAt left (now (codes .entry)) at k) ⌝ }
+fn tell_run(lines: &[u64], at: usize, left: usize, k: u64, t: ChoiceTable) -> ChoiceTable
+    requires { ⌜ length (tableCodes (now lines)) ≤ 2048 ⌝ }
+    ensures { λ r. ⌜ r ≡ putAll t (tellAt left (tableCodes (now (lines .entry))) at k) ⌝ }
 {
     if left == 0 {
         return t;
     }
-    if codes.len() <= at {
+    if lines_in(lines) <= at {
         return t;
     }
-    let code = codes[at];
+    let code = code_at(lines, at);
     if code > BRANCH {
         return t;
     }
     let rest = left - 1;
     if code == STATEMENT {
-        return tell_run(codes, at + 1, rest, k, t);
+        return tell_run(lines, at + 1, rest, k, t);
     }
-    let x = count_place(codes, at, rest);
-    let more = count_run(codes, x.end, rest);
+    let x = count_place(lines, at, rest);
+    let more = count_run(lines, x.end, rest);
     let n = more.count;
-    let c = tell_block(codes, at, rest, k / n, t);
-    tell_run(codes, x.end, rest, k % n, c)
+    let c = tell_block(lines, at, rest, k / n, t);
+    tell_run(lines, x.end, rest, k % n, c)
 }
 
 // The same for the block at a place: of a loop no turn, one turn of each, two turns of each; of a branch the first arm's, then the second's.
-fn tell_block(codes: &[u8], at: usize, left: usize, k: u64, t: ChoiceTable) -> ChoiceTable
-    requires { ⌜ (at < length (now codes)) × (length (now codes) ≤ 2048) ⌝ }
-    ensures { λ r. ⌜ r ≡ putAll t (tellBlock (tellAt left (now (codes .entry))) (countAt left (now (codes .entry))) (now (codes .entry)) at k) ⌝ }
+fn tell_block(lines: &[u64], at: usize, left: usize, k: u64, t: ChoiceTable) -> ChoiceTable
+    requires { ⌜ (at < length (tableCodes (now lines))) × (length (tableCodes (now lines)) ≤ 2048) ⌝ }
+    ensures { λ r. ⌜ r ≡ putAll t (tellBlock (tellAt left (tableCodes (now (lines .entry)))) (countAt left (tableCodes (now (lines .entry))))
+        (tableCodes (now (lines .entry))) at k) ⌝ }
 {
     let first = at + 1;
-    let body = count_run(codes, first, left);
+    let body = count_run(lines, first, left);
     let n = body.count;
-    if codes[at] == LOOP {
+    if code_at(lines, at) == LOOP {
         if k == 0 {
             return put(t, at, 0);
         }
         if k <= n {
             let once = put(t, at, 1);
-            return tell_run(codes, first, left, k - 1, once);
+            return tell_run(lines, first, left, k - 1, once);
         }
         let j = k - 1 - n;
         let twice = put(t, at, 2);
-        let turn = tell_run(codes, first, left, j / n, twice);
-        return tell_run(codes, first, left, j % n, turn);
+        let turn = tell_run(lines, first, left, j / n, twice);
+        return tell_run(lines, first, left, j % n, turn);
     }
     if k < n {
         let one = put(t, at, 1);
-        return tell_run(codes, first, left, k, one);
+        return tell_run(lines, first, left, k, one);
     }
-    let second = line_after(codes.len(), body.end);
+    let second = line_after(lines_in(lines), body.end);
     let two = put(t, at, 2);
-    tell_run(codes, second, left, k - n, two)
+    tell_run(lines, second, left, k - n, two)
 }
 
 fn empty_table() -> ChoiceTable
@@ -138,14 +143,14 @@ fn empty_table() -> ChoiceTable
 }
 
 // Finds a node: program after program its unfoldings are passed, until those of a program reach it.
-fn find_node(codes: &[u8], node: u64) -> NodePlace
-    ensures { λ r. ⌜ NodeFound (now (codes .entry)) node r ⌝ }
+fn find_node(lines: &[u64], node: u64) -> NodePlace
+    ensures { λ r. ⌜ NodeFound (tableCodes (now (lines .entry))) node r ⌝ }
 {
     let mut program: u64 = 0;
     let mut number = node;
-    let mut i = program_line(codes, 0);
-    while i < codes.len() {
-        let c = count_run(codes, i + 1, codes.len() - (i + 1));
+    let mut i = program_line(lines, 0);
+    while i < lines_in(lines) {
+        let c = count_run(lines, i + 1, lines_in(lines) - (i + 1));
         let n = c.count;
         if number < n {
             return NodePlace {
@@ -157,7 +162,7 @@ fn find_node(codes: &[u8], node: u64) -> NodePlace
         }
         number -= n;
         program += 1;
-        i = program_line(codes, program);
+        i = program_line(lines, program);
     }
     NodePlace {
         found: false,
@@ -180,22 +185,28 @@ fn no_choices(refusal: u8) -> Choices
     }
 }
 
-// The choices of a node over the codes of the lines, or refuses 22. No lent area can be too short: the totals that pass 22 have room in 512.
-fn choices_over(codes: &[u8], node: u64) -> Choices
-    requires { ⌜ length (now codes) ≤ 2048 ⌝ }
-    ensures { λ r. ⌜ ChoicesOver (now (codes .entry)) node r ⌝ }
+// The choices of a node over a table of lines, or refuses 22. No lent area can be too short: the totals that pass 22 have room in 512.
+fn choices_over(lines: &[u64], node: u64) -> Choices
+    requires { ⌜ length (tableCodes (now lines)) ≤ 2048 ⌝ }
+    ensures { λ r. ⌜ ChoicesOver (tableCodes (now (lines .entry))) node r ⌝ }
 {
-    let t = count_all(codes);
+    let t = count_all(lines);
     let refusal = totals_refused(t, STATEMENTS);
     if refusal != 0 {
         return no_choices(22);
     }
-    let f = find_node(codes, node);
+    let f = find_node(lines, node);
     if !f.found {
         return no_choices(0);
     }
     let first = f.line + 1;
-    let c = tell_run(codes, first, codes.len() - first, f.number, empty_table());
+    let c = tell_run(
+        lines,
+        first,
+        lines_in(lines) - first,
+        f.number,
+        empty_table(),
+    );
     let words = c.words;
     Choices {
         refusal: 0,
@@ -214,8 +225,7 @@ pub fn choices_of(w: Workload, node: u64) -> Choices
     if !is_given(w) {
         return no_choices(21);
     }
-    let n = w.count;
-    let t = write_tables(w);
-    let codes = t.codes;
-    choices_over(&codes[..n], node)
+    let n = w.count * LINE_WORDS;
+    let lines = line_table(w);
+    choices_over(&lines[..n], node)
 }

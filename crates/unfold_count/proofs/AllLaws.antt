@@ -19,13 +19,13 @@ pub line-none : (codes : List ℕ) (i : ℕ) (t : UnfoldingTotals) → (getD cod
 unfolding lineTotals
 line-none codes i t h few short = record { same = sym (simp (ne-eqb (getD codes i 0) 3 h)); few = few; short = short }
 
-pub line-program : (codes : List ℕ) (i : ℕ) (t : UnfoldingTotals) (c : Counted) (a b : ℕ) → getD codes i 0 ≡ 3
-    → RunCounted (length codes - (i + 1)) codes (i + 1) c
+pub line-program : (codes : List ℕ) (i : ℕ) (t : UnfoldingTotals) (left : ℕ) → left ≡ length codes - (i + 1) → (c : Counted) (a b : ℕ)
+    → getD codes i 0 ≡ 3 → RunCounted left codes (i + 1) c
     → Small (plus (t .count) (c .count)) a → Small (plus (t .statements) (c .statements)) b
     → Totalled (lineTotals codes i t) (record { count = a; statements = b })
 unfolding lineTotals countedAfter
-line-program codes i t c a b h p q s =
-    record { same = sym (simp (eq-eqb (getD codes i 0) 3 h, ← p .counting .same, ← q .same, ← s .same)); few = q .few; short = s .few }
+line-program codes i t left e c a b h p q s =
+    record { same = sym (simp (eq-eqb (getD codes i 0) 3 h, ← e, ← p .counting .same, ← q .same, ← s .same)); few = q .few; short = s .few }
 
 pub lines-none : (codes : List ℕ) → Totalled (totalsBefore codes 0) (record { count = 0; statements = 0 })
 unfolding totalsBefore

@@ -1,2 +1,3 @@
 pub mod RunLaws
 pub mod AllLaws
+pub mod WordLaws

@@ -39,7 +39,7 @@ counting : (counted made r : Counted) → r ≡ made → counted ≡ made
 counting counted made r e d positive few short = rw e (record { same = sym d; positive = positive; few = few; short = short })
 
 -- what is counted is what the run read off the lines counts
-counted-run : (codes : List ℕ) (at left : ℕ) (r : Counted) → Counting (countAt left codes at) r → RunCounted left codes at r
+pub counted-run : (codes : List ℕ) (at left : ℕ) (r : Counted) → Counting (countAt left codes at) r → RunCounted left codes at r
 counted-run codes at left r h =
     record { counting = h; means = λ lines e. rw (h .same, e) (counts-run lines left at) }
 
@@ -103,25 +103,25 @@ module _ (codes : List ℕ) (at : ℕ) where
         short = omega arith;
       }
 
-  pub block-loop : (left : ℕ) (body r : Counted) → getD codes at 0 ≡ 1
-      → RunCounted left codes (at + 1) body → r ≡ loopCounted (length codes) body
+  pub block-loop : (left : ℕ) (body r : Counted) (n : ℕ) → n ≡ length codes → getD codes at 0 ≡ 1
+      → RunCounted left codes (at + 1) body → r ≡ loopCounted n body
       → Counting (itemAt (countAt left codes) codes at) r
   unfolding loopCounted
-  block-loop left body r k p e =
-      counting (itemAt (countAt left codes) codes at) (loopCounted (length codes) body) r e
+  block-loop left body r n m k p e =
+      counting (itemAt (countAt left codes) codes at) (loopCounted (length codes) body) r (e ∙ ap (λ (x : ℕ). loopCounted x body) m)
       (item-loop codes at (countAt left codes) k ∙ ap (loopCounted (length codes)) (sym (p .counting .same)))
       (positive-cap _ (omega arith)) (cap-le (1 + plus (body .count) (times (body .count) (body .count))))
       (cap-le (body .statements + plus (times (body .statements) (body .count)) (times (body .count) (body .statements))))
 
-  pub block-branch : (left other : ℕ) (body two r : Counted) → other ≡ after (length codes) (body .end)
+  pub block-branch : (left other : ℕ) (body two r : Counted) (n : ℕ) → n ≡ length codes → other ≡ after n (body .end)
       → (getD codes at 0 ≡ 0 → ⊥) → (getD codes at 0 ≡ 1 → ⊥)
       → RunCounted left codes (at + 1) body → RunCounted left codes other two
-      → r ≡ branchCounted (length codes) body two
+      → r ≡ branchCounted n body two
       → Counting (itemAt (countAt left codes) codes at) r
   unfolding branchCounted
-  block-branch left other body two r o k j p q e =
-      counting (itemAt (countAt left codes) codes at) (branchCounted (length codes) body two) r e
-      (item-branch codes at (countAt left codes) k j ∙ rw (← p .counting .same, ← o, ← q .counting .same))
+  block-branch left other body two r n m o k j p q e =
+      counting (itemAt (countAt left codes) codes at) (branchCounted (length codes) body two) r (e ∙ ap (λ (x : ℕ). branchCounted x body two) m)
+      (item-branch codes at (countAt left codes) k j ∙ rw (← p .counting .same, ← m, ← o, ← q .counting .same))
       (positive-cap _ (omega (arith, p .counting .positive))) (cap-le (body .count + two .count)) (cap-le (body .statements + two .statements))
 
   pub place-past : (left : ℕ) (r : Counted) → length codes ≤ at → r ≡ nothingAt at → PlaceCounted left codes at r

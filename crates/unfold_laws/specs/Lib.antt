@@ -4,6 +4,7 @@ pub mod ChoosingLaws
 pub mod Cap
 pub mod Codes
 pub mod CodesLaws
+pub mod CountEnds
 pub mod Writing
 pub mod WritingLaws
 pub mod Pieces

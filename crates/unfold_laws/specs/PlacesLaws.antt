@@ -55,7 +55,6 @@ id-tables lines marks h =
     record {
       word = λ at l k there e any. map-there (λ x. x .id) lines at there;
       marked = λ at l k there e. h at;
-      unmarked = λ at l there e. h at;
     }
 
 none-shown : (before : List Occurrence) (path : List Around) → shown noMark before path ≡ 0
@@ -92,18 +91,6 @@ mark-there : (k : StatementKind) (l : Line) → l .kind ≡ St k → markIn (l .
 unfolding markIn bitIn markOf statementOf
 mark-there k l e = rw e
 
-no-mark : (k : LineKind) (id : ℕ) → (codeOf k ≡ 0 → ⊥) → markIn k id ≡ 0
-unfolding markIn codeOf
-no-mark (St k) id h = absurd (h refl)
-no-mark Rl id h = refl
-no-mark Fk id h = refl
-no-mark Pr id h = refl
-no-mark Lo id h = refl
-no-mark Br id h = refl
-no-mark El id h = refl
-no-mark En id h = refl
-no-mark Li id h = refl
-
 pub place-tables : (lines : List Line) (words : List ℕ) → length lines ≤ 2048 → ((i : ℕ) → i < length lines → getD words i 0 ≡ i)
     → Tables AnyLines (LineWord lines) markOf lines words (marksOf lines)
 unfolding marksOf
@@ -113,7 +100,6 @@ place-tables lines words few h =
           let inner : at < length lines = getElem?-lt lines at there in
           rw (h at inner) (record { small = omega arith; there = statement-there lines at l k there e });
       marked = λ at l k there e. map-there (λ x. markIn (x .kind) (x .id)) lines at there ∙ mark-there k l e;
-      unmarked = λ at l there e. map-there (λ x. markIn (x .kind) (x .id)) lines at there ∙ no-mark (l .kind) (l .id) e;
     }
 
 shown-seen : (before : List Occurrence) (o : Occurrence) → shown markOf before (o .path) ≡ seenAt before o
@@ -155,7 +141,6 @@ own-tables lines words few h number =
       word = λ at l k there e own.
           record { line = fit .word at l k there e _; same = h at (getElem?-lt lines at there) ∙ sym (own at l refl there) };
       marked = fit .marked;
-      unmarked = fit .unmarked;
     }
 
 -- words of one sort are words of another

@@ -55,13 +55,12 @@ use Rattle.unfold_laws.specs.Along.{Along}
 use Rattle.unfold_laws.specs.AlongLaws.{along-statement, along-loop, along-branch}
 use Rattle.unfold_laws.specs.Writing.{writeLoop, writeBranch, writeBlock, writeAt}
 
--- the lines' tables: at a statement's line where P holds of the lines its own word, and its mark, at every other line no mark
+-- the lines' tables: at a statement's line where P holds of the lines its own word, and its mark
 pub record Tables (P : List Line → Type 0) (Word : Statement → ℕ → Type 0) (mark : Statement → ℕ) (lines : List Line) (words marks : List ℕ)
     : Type 0 where
   pub word : (at : ℕ) (l : Line) (k : StatementKind) → getElem? lines at ≡ some l → l .kind ≡ St k → P (drop at lines)
       → Word (statementOf k l) (getD words at 0)
   pub marked : (at : ℕ) (l : Line) (k : StatementKind) → getElem? lines at ≡ some l → l .kind ≡ St k → getD marks at 0 ≡ mark (statementOf k l)
-  pub unmarked : (at : ℕ) (l : Line) → getElem? lines at ≡ some l → (codeOf (l .kind) ≡ 0 → ⊥) → getD marks at 0 ≡ 0
 
 -- a list at a place
 pub line-there : (lines : List Line) (at : ℕ) {l : Line} {rest : List Line} → drop at lines ≡ l ∷ rest → getElem? lines at ≡ some l

@@ -20,15 +20,6 @@ pub struct UnfoldingTotals {
     pub statements: u64,
 }
 
-// What is written so far: how many unfoldings, how many places they take, and each one's program, start and length.
-pub struct UnfoldingTable {
-    pub count: usize,
-    pub used: usize,
-    pub program: [u8; UNFOLDINGS],
-    pub start: [u64; UNFOLDINGS],
-    pub length: [u64; UNFOLDINGS],
-}
-
 // The codes of lines: a statement, `lo`, `br`, `pr`, and every other kind.
 pub const STATEMENT: u8 = 0;
 

@@ -79,15 +79,18 @@ over-none codes k i r h past e =
 
 -- program k stands after the line
 pub over-told : (codes : List ℕ) (k i : ℕ) (c : Counted) → ProgramLine codes k i → i < length codes
-    → RunCounted (length codes - (i + 1)) codes (i + 1) c
+    → (n : ℕ) → n ≡ length codes → RunCounted (n - (i + 1)) codes (i + 1) c
     → ProgramOver codes k (record { refusal = 0; found = true; line = i; count = c .count; statements = c .statements })
 unfolding programTold programAt
-over-told codes k i c h inside counted =
+over-told codes k i c h inside n many got =
     record {
       missing = λ lines e n. absurd (Option·none-ne-some _ (sym n ∙ there lines e));
       told = λ lines e p here. rw (getElem?-same (programsOf lines) k here (there lines e)) (whole lines e);
     }
   where
+    counted : RunCounted (length codes - (i + 1)) codes (i + 1) c
+    counted = rw many at got
+
     begins : (lines : List Line) → codes ≡ codesOf lines → (getD (codesOf lines) i 0 ≡ 3) × (programsBefore (codesOf lines) i ≡ k)
     begins lines e = rw (← e) (h .there inside)
 

@@ -1,28 +1,25 @@
--- The codes of a given workload value, cut to its lines: they are there, and they are those of its lines.
-use mathlib.Core.Path.{_≡_}
-use Prim.Native.Nat.{_≤_}
+-- The table of the lines of a given workload value, cut to its lines: they are there, and its codes are those of the lines.
+use mathlib.Core.List.{List}
+use mathlib.Core.Path.{_≡_, sym, ap, _∙_}
+use Prim.Native.Nat.{ℕ, _*_, _≤_}
 use native.Mathlib.Omega.{arith}
-use lib.ListN.{length, take}
+use lib.ListN.{length, take, length-take}
 use Rattle.spec_text.specs.declared.Workload.{Workload}
 use Rattle.spec_text.specs.Value.{Given, linesOf}
 use Rattle.law_text.specs.ValueLaws.{given-fits}
 use Rattle.unfold_laws.specs.Codes.{codesOf}
-use Rattle.value_tables.specs.declared.WriteTables.{WriteTables}
-use Rattle.value_tables.specs.Tables.{writeTables}
-use Rattle.unfold.proofs.UnfoldSettledLaws.{table-codes, codes-length, part-fits, part-length, part-codes}
+use Rattle.value_tables.specs.Lines.{lineTable, tableCodes}
+use Rattle.value_tables.specs.TableLaws.{codes-many, table-codes}
 
-module _ (w : Workload) (g : Given w) (t : WriteTables) (e : t ≡ writeTables (w .lines)) where
-  all-codes : length (t .codes) ≡ 1616
-  all-codes = codes-length w g (t .codes) (table-codes (w .lines) t e)
+module _ (w : Workload) (g : Given w) (words : List ℕ) (cells : length words ≡ 12928) where
+  pub table-fits : w .count * 8 ≤ length words
+  table-fits = omega (arith, given-fits g)
 
-  pub codes-fit : w .count ≤ length (t .codes)
-  codes-fit = part-fits w g (t .codes) all-codes
+  pub table-many : w .count * 8 ≡ length (take (w .count * 8) words)
+  table-many = omega (arith, given-fits g, length-take (w .count * 8) words)
 
-  pub codes-many : w .count ≡ length (take (w .count) (t .codes))
-  codes-many = part-length w g (t .codes) all-codes
+  pub codes-few : length (tableCodes (take (w .count * 8) words)) ≤ 1616
+  codes-few = omega (arith, codes-many (take (w .count * 8) words), table-many, given-fits g)
 
-  pub codes-few : length (take (w .count) (t .codes)) ≤ 1616
-  codes-few = omega (arith, codes-many, given-fits g)
-
-  pub codes-given : take (w .count) (t .codes) ≡ codesOf (linesOf w)
-  codes-given = part-codes w g (t .codes) (table-codes (w .lines) t e)
+  pub codes-given : take (w .count * 8) words ≡ lineTable (linesOf w) → tableCodes (take (w .count * 8) words) ≡ codesOf (linesOf w)
+  codes-given e = ap tableCodes e ∙ table-codes (linesOf w)

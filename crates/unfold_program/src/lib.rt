@@ -4,11 +4,15 @@ use spec_text::Workload;
 use unfold_count::count_run;
 use unfold_laws::PROGRAM;
 use value_given::is_given;
-use value_tables::write_tables;
+use value_tables::LINE_WORDS;
+use value_tables::code_at;
+use value_tables::line_table;
+use value_tables::lines_in;
 ghost use mathlib.Core.Path.{_≡_};
 ghost use Prim.Native.Nat.{_≤_, _<_};
 ghost use lib.ListN.{length};
 ghost use Rattle.unfold_laws.specs.Pieces.{linePrograms};
+ghost use Rattle.value_tables.specs.Lines.{tableCodes};
 ghost use Rattle.unfold_program.specs.ProgramSettled.{ProgramSettled, noProgram};
 ghost use Rattle.unfold_program.specs.ProgramSteps.{ProgramLine, ProgramOver};
 
@@ -23,24 +27,24 @@ pub struct ProgramUnfoldings {
 }
 
 // The programs that begin before the next line, where so many begin before this one.
-fn programs_past(codes: &[u8], i: usize, before: u64) -> u64
-    requires { ⌜ (i < length (now codes)) × (before ≤ i) ⌝ }
-    ensures { λ r. ⌜ r ≡ linePrograms (now (codes .entry)) i before ⌝ }
+fn programs_past(lines: &[u64], i: usize, before: u64) -> u64
+    requires { ⌜ (i < length (tableCodes (now lines))) × (before ≤ i) ⌝ }
+    ensures { λ r. ⌜ r ≡ linePrograms (tableCodes (now (lines .entry))) i before ⌝ }
 {
-    if codes[i] == PROGRAM {
+    if code_at(lines, i) == PROGRAM {
         return before + 1;
     }
     before
 }
 
 // The number of the `pr` line of program k; where there is none, the number of lines.
-pub fn program_line(codes: &[u8], k: u64) -> usize
-    ensures { λ r. ⌜ ProgramLine (now (codes .entry)) k r ⌝ }
+pub fn program_line(lines: &[u64], k: u64) -> usize
+    ensures { λ r. ⌜ ProgramLine (tableCodes (now (lines .entry))) k r ⌝ }
 {
     let mut before: u64 = 0;
     let mut i: usize = 0;
-    while i < codes.len() {
-        before = programs_past(codes, i, before);
+    while i < lines_in(lines) {
+        before = programs_past(lines, i, before);
         if k < before {
             return i;
         }
@@ -61,15 +65,15 @@ fn no_program(refusal: u8) -> ProgramUnfoldings
     }
 }
 
-// The same over the codes of the lines.
-fn program_over(codes: &[u8], k: u64) -> ProgramUnfoldings
-    ensures { λ r. ⌜ ProgramOver (now (codes .entry)) k r ⌝ }
+// The same over a table of lines.
+fn program_over(lines: &[u64], k: u64) -> ProgramUnfoldings
+    ensures { λ r. ⌜ ProgramOver (tableCodes (now (lines .entry))) k r ⌝ }
 {
-    let i = program_line(codes, k);
-    if codes.len() <= i {
+    let i = program_line(lines, k);
+    if lines_in(lines) <= i {
         return no_program(0);
     }
-    let c = count_run(codes, i + 1, codes.len() - (i + 1));
+    let c = count_run(lines, i + 1, lines_in(lines) - (i + 1));
     ProgramUnfoldings {
         refusal: 0,
         found: true,
@@ -86,8 +90,7 @@ pub fn program_unfoldings(w: Workload, k: u64) -> ProgramUnfoldings
     if !is_given(w) {
         return no_program(21);
     }
-    let n = w.count;
-    let t = write_tables(w);
-    let codes = t.codes;
-    program_over(&codes[..n], k)
+    let n = w.count * LINE_WORDS;
+    let lines = line_table(w);
+    program_over(&lines[..n], k)
 }

@@ -14,7 +14,6 @@ use Rattle.line_rules.specs.WordsHold.{HoldsWords}
 
 -- a line taken after others: the bytes that it is written with, or 0 where it does not fit or has a fault
 pub record Stepped (before : List ℕ) (l : Line) (r : ℕ) (after : List ℕ) : Type 0 where
-  pub size : length after ≡ length before
   pub small : r ≤ 66
   pub wrong : (lines : List Line) → HoldsWords before lines → r ≡ 0 → lineFits l ≡ true → fault lines l ≡ none → ⊥
   pub fits : (lines : List Line) → HoldsWords before lines → (r ≡ 0 → ⊥) → lineFits l ≡ true

@@ -119,7 +119,6 @@ size-decides w r cells fit rest m other = go (leb r 32768) refl
 pub step-unfit : (words : List ℕ) (l : Line) → sizeOf l ≡ none → Stepped words l 0 words
 step-unfit words l e =
     record {
-      size = refl;
       small = omega arith;
       wrong = λ lines h q f p. unfit-none l e f;
       fits = λ lines h some. absurd (some refl);
@@ -134,7 +133,6 @@ pub step-fault : (words : List ℕ) (l : Line) (number : ℕ) → (number ≡ 0 
 unfolding faultOf
 step-fault words l number other told =
     record {
-      size = refl;
       small = omega arith;
       wrong = λ lines h q f p.
           Option·some-ne-none number (ap (λ t. cond t none (Option.some number)) (sym (ne-eqb number 0 other)) ∙ told lines h ∙ p);
@@ -145,15 +143,14 @@ step-fault words l number other told =
     }
 
 -- the line is taken
-pub step-taken : (words after : List ℕ) (l : Line) (size number : ℕ) → length after ≡ length words → sizeOf l ≡ Option.some size → number ≡ 0
+pub step-taken : (words after : List ℕ) (l : Line) (size number : ℕ) → sizeOf l ≡ Option.some size → number ≡ 0
     → ((lines : List Line) → HoldsWords words lines → faultOf number ≡ fault lines l)
     → ((lines : List Line) → HoldsWords words lines → fault lines l ≡ none → HoldsWords after (lines ++ (l ∷ [])))
     → Stepped words l size after
 unfolding faultOf
-step-taken words after l size number same is zero-number told taken =
+step-taken words after l size number is zero-number told taken =
     let sized = size-told l size is in
     record {
-      size = same;
       small = sized .most;
       wrong = λ lines h q. absurd (omega (arith, sized .least));
       fits = λ lines h q. sized .fits;
@@ -169,16 +166,14 @@ step-taken words after l size number same is zero-number told taken =
 
 pub record Going (lines : List Line) (count : ℕ) (words : List ℕ) (size i : ℕ) : Type 0 where
   pub place : i ≤ count
-  pub area : length words ≡ 424
   pub holds : HoldsWords words (take i lines)
   pub sound : SoundLines [] (take i lines)
   pub bytes : size ≡ length (written (take i lines))
   pub small : size ≤ 34 + 66 * i
 
-pub going-start : (lines : List Line) (count : ℕ) (words : List ℕ) → length words ≡ 424 → HoldsWords words []
-    → Going lines count words 34 0
-going-start lines count words a h =
-    record { place = omega arith; area = a; holds = h; sound = tt; bytes = sym size-none; small = omega arith }
+pub going-start : (lines : List Line) (count : ℕ) (words : List ℕ) → HoldsWords words [] → Going lines count words 34 0
+going-start lines count words h =
+    record { place = omega arith; holds = h; sound = tt; bytes = sym size-none; small = omega arith }
 
 pub going-next : (lines : List Line) (count : ℕ) (words : List ℕ) (size i : ℕ) (d : Line) (more : ℕ) (after : List ℕ)
     → Going lines count words size i → i < count → count ≤ length lines → Stepped words (getD lines i d) more after → (more ≡ 0 → ⊥)
@@ -189,7 +184,6 @@ going-next lines count words size i d more after g h inside s some =
     let next : take (i + 1) lines ≡ front ++ (l ∷ []) = ap (λ n. take n lines) (add-one i) ∙ take-suc lines i d (omega arith) in
     record {
       place = omega arith;
-      area = s .size ∙ g .area;
       holds = rw next (s .holds front (g .holds) some);
       sound = rw next (sound-more [] front l (g .sound) (s .fits front (g .holds) some) (s .passes front (g .holds) some));
       bytes =

@@ -10,7 +10,7 @@ ghost use Rattle.value_given.specs.Decided.{Decided};
 ghost use Rattle.value_given.specs.Decide.{Stepped, Measured};
 
 // Takes the line, if it fits and passes its tests: the bytes that it is written with, else 0.
-fn step(words: &mut [u64], l: Line) -> u64
+fn step(words: &mut [u64; line_state::WORDS], l: Line) -> u64
     ensures { λ r. ⌜ Stepped (now (words .entry)) l r (now (words .exit)) ⌝ }
 {
     let found = value_length::line_size(l);

@@ -25,51 +25,10 @@ use Rattle.spec_text.specs.declared.StatementKind.{StatementKind}
 use Rattle.spec_graph.specs.Edge.{shields}
 use Rattle.value_tables.specs.Lines.{prNumber, lineNumber, markBy}
 use Rattle.value_tables.specs.LineLaws.{mark-told}
-use Rattle.value_tables.specs.Tables.{writeTables}
 
 -- a value has as many cells as its form in memory, which is known by its type
 pub cells-known : (w : Workload) → length (the-type .to w .1 .0) ≡ 1616 → length (w .lines) ≡ 1616
 cells-known w h = sym (length-map (w .lines) _) ∙ h
-
--- cells that are filled from the first on as those of another list
-abbrev pub Filled : List ℕ → List ℕ → ℕ → Type 0
-Filled xs ys i = (length xs ≡ 1616) × (take i xs ≡ take i ys)
-
-pub cell-next : (xs ys : List ℕ) (i v : ℕ) → Filled xs ys i → length ys ≡ 1616 → i < 1616 → v ≡ getD ys i 0 → Filled (set xs i v) ys (i + 1)
-cell-next xs ys i v f q h d =
-    let p = f .0 in (
-      length-set xs i v ∙ p,
-      rw add-one (take-suc-set xs i v (omega arith) ∙ rw (f .1, d) (sym (take-suc ys i 0 (omega arith)))),
-    )
-
-pub cells-all : (xs ys : List ℕ) (i : ℕ) → Filled xs ys i → length ys ≡ 1616 → 1616 ≤ i → xs ≡ ys
-cells-all xs ys i f q h = let p = f .0 in sym (take-all i xs (omega arith)) ∙ f .1 ∙ take-all i ys (omega arith)
-
--- what a function makes of a list, at a place inside
-map-at : {A : Type 0} (f : A → ℕ) (l : List A) (i : ℕ) (e : A) → i < length l → getD (map f l) i 0 ≡ f (getD l i e)
-map-at f [] i e h = absurd (omega arith)
-map-at f (x ∷ l) zero e h = refl
-map-at f (x ∷ l) (suc i) e h = map-at f l i e (omega arith)
-
--- the mark by a kind's number
-pub mark-line : (k : LineKind) (id n mark : ℕ) → n ≡ lineNumber k → mark ≡ markBy n id → mark ≡ markIn k id
-mark-line k id n mark e m = m ∙ ap (λ (x : ℕ). markBy x id) e ∙ mark-told k id
-
-module _ (lines : List Line) (i : ℕ) (e : Line) (inside : i < length lines) where
-  abbrev here : Line
-  here = getD lines i e
-
-  pub code-at : (code : ℕ) → code ≡ codeOf (here .kind) → code ≡ getD (codesOf lines) i 0
-  unfolding codesOf
-  code-at code c = c ∙ sym (map-at (λ l. codeOf (l .kind)) lines i e inside)
-
-  pub id-at : here .id ≡ getD (idsOf lines) i 0
-  unfolding idsOf
-  id-at = sym (map-at (λ l. l .id) lines i e inside)
-
-  pub mark-at : (mark : ℕ) → mark ≡ markIn (here .kind) (here .id) → mark ≡ getD (marksOf lines) i 0
-  unfolding marksOf
-  mark-at mark c = c ∙ sym (map-at (λ l. markIn (l .kind) (l .id)) lines i e inside)
 
 getD-there : (l : List ℕ) (i : ℕ) {x : ℕ} → getElem? l i ≡ some x → getD l i 0 ≡ x
 getD-there [] i {x} e = let z : _≡_ {A = Option ℕ} none (some x) = e in let y : _≡_ {A = ℕ} 0 1 = cc in absurd (omega arith)
@@ -78,21 +37,6 @@ getD-there (y ∷ l) (suc i) e = getD-there l i e
 
 pub number-at : (n i : ℕ) → i < n → i ≡ getD (numbers n) i 0
 number-at n i h = sym (getD-there (numbers n) i (getElem?-numbersFrom 0 n i h) ∙ zero-add i)
-
-pub many-numbers : length (numbers 1616) ≡ 1616
-many-numbers = length-numbersFrom 0 1616
-
-pub many-marks : (lines : List Line) → length lines ≡ 1616 → length (marksOf lines) ≡ 1616
-unfolding marksOf
-many-marks lines h = length-map lines (λ l. markIn (l .kind) (l .id)) ∙ h
-
-pub many-codes : (lines : List Line) → length lines ≡ 1616 → length (codesOf lines) ≡ 1616
-unfolding codesOf
-many-codes lines h = length-map lines (λ l. codeOf (l .kind)) ∙ h
-
-pub many-ids : (lines : List Line) → length lines ≡ 1616 → length (idsOf lines) ≡ 1616
-unfolding idsOf
-many-ids lines h = length-map lines (λ l. l .id) ∙ h
 
 -- ---- the paths to a mark
 
@@ -130,11 +74,3 @@ bit-small k id x h p e = e ∙ sym (rw (h, lt-ltb id 32 p))
 -- a shifted bit
 pub bit-shifted : (id : ℕ) → id < 32 → (1 * 2 ^ id) % 4294967296 ≡ 2 ^ id
 bit-shifted id h = rw one-mul (mod-eq-of-lt (pow-lt h))
-
--- ---- all cells
-
--- the tables put together
-pub tables-made : (lines : List Line) (codes ids own marks : List ℕ) → codes ≡ codesOf lines → ids ≡ idsOf lines → own ≡ numbers 1616
-    → marks ≡ marksOf lines → record { codes = codes; ids = ids; numbers = own; marks = marks } ≡ writeTables lines
-unfolding writeTables
-tables-made lines codes ids own marks c d n m = rw (c, d, n, m)

@@ -1,3 +1,3 @@
 pub mod Lines
 pub mod LineLaws
-pub mod Tables
+pub mod TableLaws

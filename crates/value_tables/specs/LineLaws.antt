@@ -22,7 +22,7 @@ use Rattle.line_kinds.specs.Kinds.{lineFacts, hasReads, hasWrites, hasTests}
 use Rattle.edge_kinds.specs.Kinds.{kindCount, kindNumber}
 use Rattle.edge_kinds.specs.KindLaws.{number-small, kindOf-number}
 use Rattle.unfold_laws.specs.Codes.{codeOf, markIn, bitIn}
-use Rattle.value_tables.specs.Lines.{prNumber, liNumber, lineNumber, codeBy, markBy, setIn, lineWords, lineTable, Zeros}
+use Rattle.value_tables.specs.Lines.{prNumber, liNumber, lineNumber, codeBy, markBy, setIn, lineWords, lineTable, Zeros, linePut}
 use Rattle.word_rows.specs.Put.{putAt, rowPut, row-put, putAt-length, putAt-take, putAt-rest}
 
 -- ---- what a line's number tells
@@ -115,7 +115,7 @@ number-at lines i e h = ap (λ (j : ℕ). getD (lineTable lines) j 0) (sym (add-
 
 -- ---- the table filled line by line
 
-lineTable-more : (lines : List Line) (l : Line) → lineTable (lines ++ (l ∷ [])) ≡ lineTable lines ++ lineWords l
+pub lineTable-more : (lines : List Line) (l : Line) → lineTable (lines ++ (l ∷ [])) ≡ lineTable lines ++ lineWords l
 unfolding lineTable flatMap
 lineTable-more [] l = append-nil (lineWords l)
 lineTable-more (x ∷ lines) l =
@@ -127,6 +127,16 @@ pub line-words : (l : Line) (n facts : ℕ) → n ≡ lineNumber (l .kind) → f
     → m ≡ markBy n (l .id) → n ∷ l .id ∷ l .rel ∷ l .to ∷ a ∷ b ∷ c ∷ m ∷ [] ≡ lineWords l
 unfolding lineWords
 line-words l n facts en ef a b c m ea eb ec em = rw (ea, eb, ec, em, en, ef) refl
+
+-- a line put into a table
+pub line-put : (area : List ℕ) (i : ℕ) (l : Line) {words after : List ℕ} → words ≡ lineWords l → after ≡ rowPut area (i * 8) words → i < 1616
+    → after ≡ linePut area i l
+unfolding linePut
+line-put area i l w put inside = put ∙ ap (rowPut area (i * 8)) w ∙ sym (simp (lt-ltb i 1616 inside))
+
+pub put-there : (area : List ℕ) (i : ℕ) (l : Line) → i < 1616 → i * 8 + 8 ≤ length area → linePut area i l ≡ putAt area (i * 8) (lineWords l)
+unfolding linePut
+put-there area i l inside room = rw (lt-ltb i 1616 inside) (row-put area (i * 8) (lineWords l) room)
 
 -- an area of zeros
 pub all-zeros : (n : ℕ) → Zeros 0 (replicate n 0)

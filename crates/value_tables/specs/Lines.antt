@@ -1,10 +1,12 @@
 -- A line's kind as a number, and what is read off the number; the lines of a workload as words, eight to a line.
 use mathlib.Core.Bool.{cond}
-use mathlib.Core.List.{List, [], _∷_, flatMap}
+use mathlib.Core.List.{List, [], _∷_, map, flatMap}
 use mathlib.Core.Path.{_≡_}
-use Prim.Native.Nat.{ℕ, _+_, _≤_}
+use Prim.Native.Nat.{ℕ, _+_, _*_, _/_, _%_, _≤_}
 use lib.Dec.{eqb, ltb}
-use lib.ListN.{getD}
+use lib.ListN.{length, getD}
+use Rattle.spec_base.specs.Basic.{numbers}
+use Rattle.word_rows.specs.Put.{rowPut}
 use Rattle.spec_text.specs.declared.Line.{Line}
 use Rattle.spec_text.specs.declared.LineKind.{LineKind}
 use Rattle.spec_text.specs.declared.LineKind.the-variants.{Rl, Fk, Pr, St, Lo, Br, El, En, Li}
@@ -69,3 +71,21 @@ lineTable lines = flatMap lineWords lines
 -- the words from a place on are 0
 abbrev pub Zeros : ℕ → List ℕ → Type 0
 Zeros n words = (k : ℕ) → n ≤ k → getD words k 0 ≡ 0
+
+-- the lines that words tell: eight words to a line, words that fill none tell nothing
+abbrev pub linesIn : List ℕ → ℕ
+linesIn words = length words / 8
+
+-- what is told line by line: the code, the id as a number of 16 bits, the mark as one of 32
+unfoldable pub tableCodes : List ℕ → List ℕ
+tableCodes words = map (λ i. codeBy (getD words (i * 8) 0)) (numbers (linesIn words))
+
+unfoldable pub tableIds : List ℕ → List ℕ
+tableIds words = map (λ i. getD words (i * 8 + 1) 0 % 65536) (numbers (linesIn words))
+
+unfoldable pub tableMarks : List ℕ → List ℕ
+tableMarks words = map (λ i. getD words (i * 8 + 7) 0 % 4294967296) (numbers (linesIn words))
+
+-- a line's words put into a table as line number i, one of the 1616, where it has room for them
+unfoldable pub linePut : List ℕ → ℕ → Line → List ℕ
+linePut words i l = cond (ltb i 1616) (rowPut words (i * 8) (lineWords l)) words

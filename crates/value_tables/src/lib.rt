@@ -1,4 +1,4 @@
-// A workload value as tables of numbers, each made in one pass over its lines: what unfoldings are written from, and the words of the lines.
+// The lines of a workload value as words, eight to a line, and what such words tell line by line.
 
 use edge_kinds::SHIELD;
 use edge_kinds::kind_facts;
@@ -12,11 +12,9 @@ use spec_text::Workload;
 use word_rows::put_row;
 ghost use mathlib.Core.Path.{_≡_};
 ghost use Prim.Native.Nat.{_*_};
-ghost use lib.ListN.{length, take};
+ghost use lib.ListN.{length, getD, take};
 ghost use Rattle.spec_text.specs.Value.{linesOf};
-ghost use Rattle.value_tables.specs.Lines.{lineNumber, codeBy, markBy, setIn, lineTable, Zeros};
-ghost use Rattle.unfold_laws.specs.Codes.{codeOf, markIn};
-ghost use Rattle.value_tables.specs.Tables.{writeTables};
+ghost use Rattle.value_tables.specs.Lines.{lineNumber, codeBy, markBy, setIn, lineTable, Zeros, tableCodes, tableIds, tableMarks, linePut};
 
 // The number of a line's kind: 0 to 7 for the kinds of statement (`kind_number`), then `pr`, `li`, `lo`, `br`, and one for every other.
 pub const PR: u64 = 8;
@@ -49,14 +47,6 @@ pub const MARK: usize = 7;
 
 // The words of all lines.
 pub const LINE_TABLE: usize = 12928;
-
-// What unfoldings are written from: of each line its kind as a code, its id, its own number and its mark.
-pub struct WriteTables {
-    pub codes: [u8; CELLS],
-    pub ids: [u16; CELLS],
-    pub numbers: [u16; CELLS],
-    pub marks: [u32; CELLS],
-}
 
 fn line_number(k: LineKind) -> u64
     ensures { λ r. ⌜ r ≡ lineNumber k ⌝ }
@@ -119,42 +109,28 @@ fn set_in(facts: u64, fact: u64, set: u64) -> u64
     set
 }
 
-fn line_code(l: Line) -> u8
-    ensures { λ r. ⌜ r ≡ codeOf (l .kind) ⌝ }
+// Puts the words of a line into a table of lines, as line number i, where the table has room for it.
+pub fn put_line(words: &mut [u64], i: usize, l: Line)
+    ensures { λ _. ⌜ now (words .exit) ≡ linePut (now (words .entry)) i l ⌝ }
 {
-    let kind = l.kind;
-    code_by(line_number(kind))
-}
-
-fn line_mark(l: Line) -> u32
-    ensures { λ r. ⌜ r ≡ markIn (l .kind) (l .id) ⌝ }
-{
-    let kind = l.kind;
-    mark_by(line_number(kind), l.id)
-}
-
-pub fn write_tables(w: Workload) -> WriteTables
-    ensures { λ r. ⌜ r ≡ writeTables (w .lines) ⌝ }
-{
-    let mut codes = [0u8; CELLS];
-    let mut ids = [0u16; CELLS];
-    let mut numbers = [0u16; CELLS];
-    let mut marks = [0u32; CELLS];
-    let mut i: usize = 0;
-    while i < CELLS {
-        let l = w.lines[i];
-        codes[i] = line_code(l);
-        ids[i] = l.id as u16;
-        numbers[i] = i as u16;
-        marks[i] = line_mark(l);
-        i += 1;
+    if CELLS <= i {
+        return;
     }
-    WriteTables {
-        codes: codes,
-        ids: ids,
-        numbers: numbers,
-        marks: marks,
-    }
+    let kind = l.kind;
+    let facts = line_facts(kind);
+    let number = line_number(kind);
+    put_row(
+        words,
+        i * LINE_WORDS,
+        number,
+        l.id as u64,
+        l.rel as u64,
+        l.to as u64,
+        set_in(facts, line_kinds::READS, l.reads),
+        set_in(facts, line_kinds::WRITES, l.writes),
+        set_in(facts, line_kinds::TESTS, l.tests),
+        mark_by(number, l.id) as u64,
+    );
 }
 
 // The words of the lines of a workload value, from the table's start on.
@@ -186,4 +162,41 @@ pub fn line_table(w: Workload) -> [u64; LINE_TABLE]
         i += 1;
     }
     words
+}
+
+// How many lines words tell.
+pub fn lines_in(lines: &[u64]) -> usize
+    ensures { λ r. ⌜ r ≡ length (tableCodes (now (lines .entry))) ⌝ }
+{
+    lines.len() / LINE_WORDS
+}
+
+// The code of a line; past the lines 0.
+pub fn code_at(lines: &[u64], at: usize) -> u8
+    ensures { λ r. ⌜ r ≡ getD (tableCodes (now (lines .entry))) at 0 ⌝ }
+{
+    if lines.len() / LINE_WORDS <= at {
+        return 0;
+    }
+    code_by(lines[at * LINE_WORDS])
+}
+
+// The id of a line; past the lines 0.
+pub fn id_at(lines: &[u64], at: usize) -> u16
+    ensures { λ r. ⌜ r ≡ getD (tableIds (now (lines .entry))) at 0 ⌝ }
+{
+    if lines.len() / LINE_WORDS <= at {
+        return 0;
+    }
+    (lines[at * LINE_WORDS + ID] % 65536) as u16
+}
+
+// The mark of a line; past the lines 0.
+pub fn mark_at(lines: &[u64], at: usize) -> u32
+    ensures { λ r. ⌜ r ≡ getD (tableMarks (now (lines .entry))) at 0 ⌝ }
+{
+    if lines.len() / LINE_WORDS <= at {
+        return 0;
+    }
+    (lines[at * LINE_WORDS + MARK] % 4294967296) as u32
 }

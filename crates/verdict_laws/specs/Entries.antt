@@ -7,8 +7,8 @@ use mathlib.Core.List.List·Memᴰ.{List·Memᴰ·head, List·Memᴰ·tail}
 use Prim.Native.Nat.{ℕ, _+_, _*_, _/_, _%_, _≤_, _<_, max}
 use native.Mathlib.Omega.{arith}
 use lib.Dec.{eqb, ltb, leb}
-use lib.ListN.{length}
-use borrow.Author.Tests.{eqb-true, eq-eqb, lt-ltb, leb-true, leb-false}
+use lib.ListN.{length, List·getD-eq-default}
+use borrow.Author.Tests.{eqb-true, eq-eqb, lt-ltb, ltb-true, ltb-false, leb-true, leb-false}
 use Rattle.law_base.specs.BoolLaws.{decide, and-true, and-of}
 use Rattle.law_base.specs.ListLaws.{map-member}
 use Rattle.spec_text.specs.declared.Line.{Line}
@@ -24,7 +24,7 @@ use Rattle.place_row.specs.RowTableLaws.{place-lawful, place-keys, forward-rows
 use Rattle.edge_word.specs.Coding.{forwardWord, backWord, entry}
 use Rattle.edge_word.specs.Greatest.{GreatestWords, Small}
 use Rattle.walk_pick.specs.Picks.{rowForwardWord, rowBackWord, greatest, standsIn, wordFor, between, wordsBetween}
-use Rattle.walk_pick.specs.PickStepLaws.{words-entry}
+use Rattle.walk_pick.specs.PickStepLaws.{words-entry, words-length}
 use Rattle.verdict_laws.specs.Places.{place-found, found-place, places-few}
 
 -- ---- the greatest
@@ -120,12 +120,18 @@ module _ (test : Row → Row → Bool) (code : Row → Row → ℕ) where
       omega arith
 
 -- the entry for two nodes
-entry-between : (word : Row → Row → ℕ) (rows : List Row) (u v : ℕ) → u < 64 → v < 64
-    → entry (wordsBetween word rows) u v ≡ between word rows u v
-entry-between word rows u v h k =
+entry-between : (word : Row → Row → ℕ) (limit : ℕ) (rows : List Row) (u v : ℕ) → u < limit → v < 64
+    → entry (wordsBetween word limit rows) u v ≡ between word rows u v
+entry-between word limit rows u v h k =
     let left : (u * 64 + v) / 64 ≡ u = omega arith in
     let right : (u * 64 + v) % 64 ≡ v = omega arith in
-    words-entry word rows (u * 64 + v) (omega arith) ∙ ap₂ (between word rows) left right
+    words-entry word limit rows (u * 64 + v) (omega arith) ∙ ap₂ (between word rows) left right
+
+-- there is none past the nodes of the table
+entry-past : (word : Row → Row → ℕ) (limit : ℕ) (rows : List Row) (u v : ℕ) → limit ≤ u → entry (wordsBetween word limit rows) u v ≡ 0
+entry-past word limit rows u v h =
+    let size = words-length word limit rows in
+    List·getD-eq-default (wordsBetween word limit rows) 0 (omega arith)
 
 -- ---- the summary graph
 
@@ -159,6 +165,11 @@ module _ (nodes : List Node) where
         entersAt = r .2;
         edge = sym (ap₂ (bothPass (stands flow)) (b .2) (b .3)) ∙ h;
       }
+
+  -- an edge leaves one of the nodes
+  edge-inside : (flow : Flow) (u i v j : ℕ) → graphOf nodes .edge u i v j flow ≡ true → u < length nodes
+  unfolding graphOf
+  edge-inside flow u i v j h = regular nodes .inNodes u i v j flow h .0
 
   -- an edge between listed places is an edge of the graph
   pub ends-edge : (flow : Flow) (s t : Place) → List·Memᴰ s (placesOf 0 nodes) → List·Memᴰ t (placesOf 0 nodes)
@@ -199,23 +210,24 @@ module _ (nodes : List Node) where
 
         -- each entry is 0 or the word of an edge
         entry-from : (u v : ℕ) → u < 64 → v < 64
-            → (entry (wordsBetween flowWord (rowsOf nodes)) u v ≡ 0)
+            → (entry (wordsBetween flowWord (length nodes) (rowsOf nodes)) u v ≡ 0)
             ⊎ ((s : Place) × (t : Place) × (s .number ≡ u) × (t .number ≡ v) × List·Memᴰ s (placesOf 0 nodes)
             × (graphOf nodes .edge (s .number) (s .place) (t .number) (t .place) flow ≡ true)
-            × (entry (wordsBetween flowWord (rowsOf nodes)) u v ≡ code (rowOf s) (rowOf t)))
+            × (entry (wordsBetween flowWord (length nodes) (rowsOf nodes)) u v ≡ code (rowOf s) (rowOf t)))
         unfolding rowsOf rowOf
-        entry-from u v h k = go (between-from (rowStands flow) code (rowsOf nodes) u v)
+        entry-from u v h k = go (decide (ltb u (length nodes))) (between-from (rowStands flow) code (rowsOf nodes) u v)
           where
-            here : entry (wordsBetween flowWord (rowsOf nodes)) u v ≡ between flowWord (rowsOf nodes) u v
-            here = entry-between flowWord (rowsOf nodes) u v h k
-
-            go : (between flowWord (rowsOf nodes) u v ≡ 0) ⊎ From (rowStands flow) code (rowsOf nodes) u v (between flowWord (rowsOf nodes) u v)
-                → (entry (wordsBetween flowWord (rowsOf nodes)) u v ≡ 0)
+            go : (ltb u (length nodes) ≡ true) ⊎ (ltb u (length nodes) ≡ false)
+                → (between flowWord (rowsOf nodes) u v ≡ 0) ⊎ From (rowStands flow) code (rowsOf nodes) u v (between flowWord (rowsOf nodes) u v)
+                → (entry (wordsBetween flowWord (length nodes) (rowsOf nodes)) u v ≡ 0)
                 ⊎ ((s : Place) × (t : Place) × (s .number ≡ u) × (t .number ≡ v) × List·Memᴰ s (placesOf 0 nodes)
                 × (graphOf nodes .edge (s .number) (s .place) (t .number) (t .place) flow ≡ true)
-                × (entry (wordsBetween flowWord (rowsOf nodes)) u v ≡ code (rowOf s) (rowOf t)))
-            go (inl z) = inl (here ∙ z)
-            go (inr f) =
+                × (entry (wordsBetween flowWord (length nodes) (rowsOf nodes)) u v ≡ code (rowOf s) (rowOf t)))
+            go (inr past) some = inl (entry-past flowWord (length nodes) (rowsOf nodes) u v (ltb-false u (length nodes) past))
+            go (inl low) (inl z) =
+                inl (entry-between flowWord (length nodes) (rowsOf nodes) u v (ltb-true u (length nodes) low) k ∙ z)
+            go (inl low) (inr f) =
+                let here = entry-between flowWord (length nodes) (rowsOf nodes) u v (ltb-true u (length nodes) low) k in
                 let a = map-member rowOf (placesOf 0 nodes) (f .left) in
                 let b = map-member rowOf (placesOf 0 nodes) (f .right) in
                 inr (
@@ -232,7 +244,7 @@ module _ (nodes : List Node) where
         -- no edge has a greater word
         entry-most : (u i v j : ℕ) → graphOf nodes .edge u i v j flow ≡ true
             → (s : Place) × (t : Place) × (s .number ≡ u) × (s .place ≡ i) × (t .place ≡ j) × List·Memᴰ s (placesOf 0 nodes)
-            × (code (rowOf s) (rowOf t) ≤ entry (wordsBetween flowWord (rowsOf nodes)) u v)
+            × (code (rowOf s) (rowOf t) ≤ entry (wordsBetween flowWord (length nodes) (rowsOf nodes)) u v)
         unfolding rowsOf rowOf
         entry-most u i v j h =
             let e = edge-ends flow u i v j h in
@@ -240,20 +252,23 @@ module _ (nodes : List Node) where
             let most = between-most (rowStands flow) code (rowsOf nodes) (rowOf (e .s)) (rowOf (e .t))
             (Memᴰ·map rowOf (e .left)) (Memᴰ·map rowOf (e .right)) (sym (stands-rows flow (e .s) (e .t) (e .left) (e .right)) ∙ e .edge)
             (let q = e .leavesAt in omega (arith, small .2)) (let q = e .entersAt in omega (arith, small .3)) in
-            let there : between flowWord (rowsOf nodes) (e .s .number) (e .t .number) ≡ entry (wordsBetween flowWord (rowsOf nodes)) u v
-            = ap₂ (between flowWord (rowsOf nodes)) (e .leaves) (e .enters) ∙ sym (entry-between flowWord (rowsOf nodes) u v (small .0) (small .1)) in
+            let there : between flowWord (rowsOf nodes) (e .s .number) (e .t .number)
+            ≡ entry (wordsBetween flowWord (length nodes) (rowsOf nodes)) u v
+            = ap₂ (between flowWord (rowsOf nodes)) (e .leaves) (e .enters)
+            ∙ sym (entry-between flowWord (length nodes) (rowsOf nodes) u v (edge-inside flow u i v j h) (small .1)) in
             (e .s, e .t, e .leaves, e .leavesAt, e .entersAt, e .left, rw there at most)
 
       -- the tables picked from the rows of the nodes stand for all edges
-      pub rows-greatest : GreatestWords (graphOf nodes) (wordsBetween rowForwardWord (rowsOf nodes)) (wordsBetween rowBackWord (rowsOf nodes))
+      pub rows-greatest : GreatestWords (graphOf nodes)
+          (wordsBetween rowForwardWord (length nodes) (rowsOf nodes)) (wordsBetween rowBackWord (length nodes) (rowsOf nodes))
       unfolding rowForwardWord rowBackWord rowOf
       rows-greatest = record { forwardFrom = a-from; forwardMost = a-most; backFrom = b-from; backMost = b-most }
         where
           forwards : List ℕ
-          forwards = wordsBetween rowForwardWord (rowsOf nodes)
+          forwards = wordsBetween rowForwardWord (length nodes) (rowsOf nodes)
 
           backs : List ℕ
-          backs = wordsBetween rowBackWord (rowsOf nodes)
+          backs = wordsBetween rowBackWord (length nodes) (rowsOf nodes)
 
           forwardCode : Row → Row → ℕ
           forwardCode p q = forwardWord (loosens (p .kind)) (p .place) (q .place)

@@ -1,10 +1,12 @@
 -- A table with the rows of all places of nodes, and the edges picked from it, hold the summary graph of the nodes.
 use mathlib.Core.Path.{_≡_, sym, ap, ap₂, subst, _∙_}
 use mathlib.Core.Bool.{true, _&&_}
-use mathlib.Core.List.{List, List·Memᴰ, Memᴰ·map}
-use Prim.Native.Nat.{ℕ, _≤_}
+use mathlib.Core.List.{List, _++_, append-nil, List·Memᴰ, Memᴰ·map}
+use Prim.Native.Nat.{ℕ, _*_, _≤_}
+use native.Mathlib.Omega.{arith}
 use lib.Dec.{eqb}
-use lib.ListN.{length}
+use lib.ListN.{length, drop}
+use lib.Seq.{drop-length}
 use borrow.Author.Tests.{eqb-true, eq-eqb}
 use Rattle.spec_base.specs.Basic.{any}
 use Rattle.law_base.specs.BoolLaws.{same-test, and-true, and-of}
@@ -19,8 +21,8 @@ use Rattle.node_laws.specs.GivenNodes.{LawfulNode}
 use Rattle.place_row.specs.declared.Row.{Row}
 use Rattle.place_row.specs.RowTable.{rowOf, rowsOf, tableRows}
 use Rattle.edge_word.specs.Greatest.{GreatestWords, greatest-picked}
-use Rattle.walk_pick.specs.declared.PickedEdges.{PickedEdges}
-use Rattle.walk_pick.specs.Picks.{rowForwardWord, rowBackWord, wordsBetween, picksOf}
+use Rattle.edge_count.specs.declared.Counts.{Counts}
+use Rattle.walk_pick.specs.Picks.{rowForwardWord, rowBackWord, wordsBetween, roomIn, filledFor, PickedAs}
 use Rattle.walk_step.specs.LeastStep.{looseRow, looseAt}
 use Rattle.walk_step.specs.Tabled.{Tabled}
 use Rattle.walk_first.specs.FirstSteps.{Held}
@@ -63,21 +65,36 @@ module _ (nodes : List Node) (few : length nodes ≤ 64) (statements : statement
     loose = λ x i y j flow h. ap (any (looseRow x i)) rows ∙ loose-rows nodes flow x i y j h;
   }
 
-  module _ (r : PickedEdges) (picked : r ≡ picksOf table) where
+  module _ {forwards₀ backs₀ forwards backs : List ℕ} {r : Counts} (forwardsFor : length forwards₀ ≡ length nodes * 64)
+      (backsFor : length backs₀ ≡ length nodes * 64) (picked : PickedAs table forwards₀ backs₀ forwards backs r) where
+    room : roomIn forwards₀ backs₀ ≡ length nodes
+    unfolding roomIn
+    room = omega arith
+
+    -- areas for as many nodes are filled whole
+    filled-whole : (word : Row → Row → ℕ) (before : List ℕ) → length before ≡ length nodes * 64
+        → filledFor word (roomIn forwards₀ backs₀) (tableRows table) before ≡ wordsBetween word (length nodes) (rowsOf nodes)
+    unfolding filledFor
+    filled-whole word before size =
+        ap₂ (λ (k : ℕ) (l : List Row). wordsBetween word k l ++ drop (k * 64) before) room rows
+        ∙ ap (λ (l : List ℕ). wordsBetween word (length nodes) (rowsOf nodes) ++ l) (ap (λ (k : ℕ). drop k before) (sym size) ∙ drop-length before)
+        ∙ append-nil (wordsBetween word (length nodes) (rowsOf nodes))
+
     -- what is picked from the table stands for all edges
-    picks-greatest : GreatestWords (graphOf nodes) (r .forwards) (r .backs)
-    unfolding picksOf
+    picks-greatest : GreatestWords (graphOf nodes) forwards backs
     picks-greatest =
-        subst (λ (p : PickedEdges). GreatestWords (graphOf nodes) (p .forwards) (p .backs)) (sym picked)
-        (subst (λ (l : List Row). GreatestWords (graphOf nodes) (wordsBetween rowForwardWord l) (wordsBetween rowBackWord l)) (sym rows)
+        subst (λ (l : List ℕ). GreatestWords (graphOf nodes) l backs)
+        (sym (picked .forwardsFilled ∙ filled-whole rowForwardWord forwards₀ forwardsFor))
+        (subst (GreatestWords (graphOf nodes) (wordsBetween rowForwardWord (length nodes) (rowsOf nodes)))
+        (sym (picked .backsFilled ∙ filled-whole rowBackWord backs₀ backsFor))
         (rows-greatest nodes few statements lines lawful))
 
-    pub nodes-held : Held table (r .forwards) (r .backs) (graphOf nodes)
+    pub nodes-held : Held table forwards backs (graphOf nodes)
     unfolding graphOf
     nodes-held = record {
       isRegular = regular nodes;
       small = few;
       places = λ m i n j flow h. let s = small-graph nodes few statements m i n j flow h in (s .2, s .3);
-      picks = greatest-picked (r .forwards) (r .backs) (small-graph nodes few statements) picks-greatest;
+      picks = greatest-picked forwards backs (small-graph nodes few statements) picks-greatest;
       tabled = rows-tabled;
     }

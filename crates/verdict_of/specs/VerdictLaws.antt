@@ -3,9 +3,14 @@ use mathlib.Core.Bool.{false}
 use mathlib.Core.List.{List}
 use mathlib.Core.Option.{Option, none, some}
 use mathlib.Core.Path.{_≡_, refl, sym, ap, subst, _∙_}
-use Prim.Native.Nat.{ℕ, _*_, _/_}
+use Prim.Native.Nat.{ℕ, _*_, _/_, _≤_}
 use native.Mathlib.Omega.{arith}
+use lib.Dec.{ltb}
 use lib.ListN.{length, take}
+use lib.Seq.{take-all, length-take-le}
+use borrow.Author.Tests.{ltb-false}
+use Rattle.law_base.specs.BoolLaws.{or-false}
+use Rattle.spec_graph.specs.Unfolding.{nodesOf}
 use Rattle.spec_text.specs.declared.Line.{Line}
 use Rattle.spec_text.specs.declared.Workload.{Workload}
 use Rattle.spec_text.specs.Value.{Given, linesOf}
@@ -27,12 +32,13 @@ use Rattle.place_table.specs.declared.Rows.{Rows}
 use Rattle.place_table.specs.declared.Rows.the-variants.{Refused}
 use Rattle.place_table.specs.Rows.{RowsSettled}
 use Rattle.place_table.specs.Whole.{Whole, whole-refused}
-use Rattle.walk_pick.specs.declared.PickedEdges.{PickedEdges}
-use Rattle.walk_pick.specs.Picks.{picksOf}
+use Rattle.edge_count.specs.declared.Counts.{Counts as Edges}
+use Rattle.walk_pick.specs.Picks.{PickedAs}
 use Rattle.verdict_laws.specs.PickedVerdict.{PickedVerdict, given-picked}
 use Rattle.verdict_told.specs.Told.{Told}
 use Rattle.verdict_told.specs.Found.{toldFor}
 use Rattle.verdict_of.specs.Verdict.{Word, Judged}
+use Rattle.verdict_of.specs.Steps.{RowsWhole, RowsJudged}
 use Rattle.verdict_of.specs.Verdict.Word.{robust, danger}
 use Rattle.verdict_of.specs.Verdict.Judged.{refused, judged}
 
@@ -53,10 +59,10 @@ answer-same c (WalkFound.Shown steps) = refl
 -- ---- the verdict
 
 -- the counts told are the workload's
-counts-same : (w : Workload) (programs nodes places : ℕ) (filled table : List ℕ) (p : PickedEdges) → Whole w programs nodes places filled
-    → PickedVerdict (linesOf w) table p → counted programs nodes (p .edges) (p .back) ≡ countsOf (linesOf w)
+counts-same : (w : Workload) (programs nodes : ℕ) (rows forwards backs : List ℕ) (c : Edges) → RowsWhole w programs nodes rows
+    → PickedVerdict (linesOf w) rows forwards backs c → counted programs nodes (c .edges) (c .back) ≡ countsOf (linesOf w)
 unfolding countsOf
-counts-same w programs nodes places filled table p whole picked =
+counts-same w programs nodes rows forwards backs c whole picked =
     rw (whole .programs-are, whole .nodes-are, picked .edges, picked .back) refl
 
 module _ (w : Workload) (given : Given w) (few : tooMany (linesOf w) ≡ false) {table forwards backs : List ℕ}
@@ -80,15 +86,41 @@ pub judged-rows : (w : Workload) (table : List ℕ) (f : Rows) (filled before : 
     → Judged w before (Told.refused n) before
 judged-rows w table f filled before n settled e = refused n (whole-refused (shortForWalk (length before / 4)) settled e)
 
--- what is picked from the table, and the walk that is found in it, are the verdict
-pub judged-picked : (w : Workload) (programs nodes places : ℕ) (filled before after : List ℕ) (p : PickedEdges) (found : WalkFound) (answer : Told)
-    → Whole w programs nodes places filled → p ≡ picksOf (take (places * 8) filled)
-    → WalkAnswered (take (places * 8) filled) (p .forwards) (p .backs) 18446744073709551615 before (refusalIn found) (stepsIn found) after
-    → answer ≡ toldFor (counted programs nodes (p .edges) (p .back)) found → Judged w before answer after
-judged-picked w programs nodes places filled before after p found answer whole picked answered e =
-    let verdict = given-picked w (take (places * 8) filled) p (whole .given) (whole .few) (whole .rows) picked in
+-- the rows of a workload's places
+pub rows-whole : {w : Workload} {programs nodes places : ℕ} {filled : List ℕ} → Whole w programs nodes places filled
+    → RowsWhole w programs nodes (take (places * 8) (take (places * 8) filled))
+rows-whole {places = places} {filled} h =
+    let long = length-take-le (places * 8) filled (h .inside) in
+    record {
+      given = h .given;
+      few = h .few;
+      programs-are = h .programs-are;
+      nodes-are = h .nodes-are;
+      rows-are = take-all (places * 8) (take (places * 8) filled) (omega arith) ∙ h .rows;
+    }
+
+pub words-inside : {w : Workload} {programs nodes places : ℕ} {filled : List ℕ} → Whole w programs nodes places filled
+    → places * 8 ≤ length (take (places * 8) filled)
+words-inside {places = places} {filled} h = let long = length-take-le (places * 8) filled (h .inside) in omega arith
+
+pub nodes-few : {w : Workload} {programs nodes places : ℕ} {filled : List ℕ} → Whole w programs nodes places filled → nodes ≤ 64
+unfolding tooMany
+nodes-few {w} h =
+    let l = ltb-false 64 (length (nodesOf (linesOf w))) (or-false (ltb 64 (length (nodesOf (linesOf w)))) _ (h .few) .0) in
+    let e = h .nodes-are in
+    omega arith
+
+-- what is picked from the rows, and the walk that is found in it, are the verdict
+pub judged-picked : (programs nodes : ℕ) (rows forwards₀ backs₀ : List ℕ) {forwards backs : List ℕ} {c : Edges} {before after : List ℕ}
+    (found : WalkFound) {answer : Told}
+    → length forwards₀ ≡ nodes * 64 → length backs₀ ≡ nodes * 64 → PickedAs rows forwards₀ backs₀ forwards backs c
+    → WalkAnswered rows forwards backs 18446744073709551615 before (refusalIn found) (stepsIn found) after
+    → answer ≡ toldFor (counted programs nodes (c .edges) (c .back)) found → RowsJudged rows programs nodes before answer after
+judged-picked programs nodes rows forwards₀ backs₀ {forwards} {backs} {c} {before} {after} found f b picked answered e = λ w whole.
+    let size = ap (λ (k : ℕ). k * 64) (whole .nodes-are) in
+    let verdict = given-picked w rows forwards₀ backs₀ (whole .given) (whole .few) (whole .rows-are) (f ∙ size) (b ∙ size) picked in
     let same = e
-    ∙ ap (λ (c : Counts). toldFor c found) (counts-same w programs nodes places filled (take (places * 8) filled) p whole verdict)
+    ∙ ap (λ (k : Counts). toldFor k found) (counts-same w programs nodes rows forwards backs c whole verdict)
     ∙ answer-same (countsOf (linesOf w)) found in
     subst (λ (t : Told). Judged w before t after) (sym same) (judged-answer w (whole .given) (whole .few) (verdict .held) answered)
 

@@ -36,7 +36,8 @@ use Rattle.walk_reach.specs.Layers.{joinedRows, wideAt}
 use Rattle.walk_lead.specs.Leads.{leadRows, wrapStart}
 use Rattle.walk_lead.specs.WrapLaws.{leads-has, wrap-found, wrap-least, wrap-bound}
 use Rattle.walk_ways.specs.Ways.{firstStart}
-use Rattle.walk_ways.specs.WaysLaws.{word-opens, word-leaves, ways-has, openings-has, start-found, start-least}
+use Rattle.edge_opens.specs.OpensLaws.{word-opens, word-leaves}
+use Rattle.walk_ways.specs.WaysLaws.{ways-has, openings-has, start-found, start-least}
 use Rattle.walk_wide.specs.WideLaws.{widest-at}
 use Rattle.walk_first.specs.NeedLaws.{Worked}
 use Rattle.walk_step.specs.Tabled.{Tabled}
@@ -222,7 +223,7 @@ module _ (table forwards backs : List ℕ) (nodes n : ℕ) (full : n ≡ 64) {wh
           where
             by-later : (ltb x later ≡ true) ⊎ (ltb x later ≡ false) → s ≤ x
             by-later (inl l) =
-                wrap-least forwards backs n full d later x u w below (ltb-true x later l) in-x in-u in-w pair
+                wrap-least forwards backs n full d later x u w (ltb-true x later l) in-x in-u in-w pair
                 (exactly-reaches F n u r d w way (omega arith))
             by-later (inr l) = before (ltb-false x later l)
 

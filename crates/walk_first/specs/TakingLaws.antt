@@ -5,15 +5,17 @@ use mathlib.Core.List.{List}
 use Prim.Native.Nat.{ℕ, zero, suc, _+_, _-_, _≤_, _<_}
 use native.Mathlib.Numerals.{add-one}
 use native.Mathlib.Omega.{arith}
-use lib.ListN.{length, length-set}
+use lib.ListN.{length, length-set, take}
+use lib.Seq.{length-take-le}
 use Rattle.spec_graph.specs.Walk.{Step}
 use Rattle.spec_report.specs.Area.{flowWord}
 use Rattle.pick_laws.specs.declared.Going.{Going}
 use Rattle.pick_laws.specs.Demands.{goingAfter}
 use Rattle.walk_need.specs.Needs.{needsOf}
 use Rattle.walk_limit.specs.Limits.{limitsOf}
-use Rattle.walk_reach.specs.Layers.{joinedRows}
-use Rattle.walk_lead.specs.Leads.{leadRows, wrapStart}
+use Rattle.walk_reach.specs.Layers.{rowsIn, joinedRow, rowsFilled, joinedRows}
+use Rattle.walk_reach.specs.NodeWordLaws.{list-length}
+use Rattle.walk_lead.specs.Leads.{leadRow, leadsFilled, leadRows, wrapStart}
 use Rattle.walk_return.specs.Returns.{shortestReturn}
 use Rattle.walk_ways.specs.Ways.{waysTo, openings, firstStart}
 use Rattle.walk_wide.specs.Wide.{widestTable}
@@ -114,6 +116,26 @@ steps-length table backs p zero going x = refl
 steps-length table backs p (suc r) going x = ap suc (steps-length table backs p r _ _)
 
 -- ---- the search
+
+-- the rows that are there
+pub rows-part : (forwards : List ℕ) {n : ℕ} {rows : List ℕ} → n ≡ rowsIn forwards → rows ≡ rowsFilled forwards → take n rows ≡ joinedRows forwards
+unfolding joinedRows
+rows-part forwards a b = ap₂ (λ (k : ℕ) (l : List ℕ). take k l) a b
+
+pub rows-fit : (forwards : List ℕ) {n : ℕ} {rows : List ℕ} → n ≤ 64 → rows ≡ rowsFilled forwards → n ≡ length (take n rows)
+unfolding rowsFilled
+rows-fit forwards {n} {rows} h e =
+    let long : length rows ≡ 64 = ap length e ∙ list-length (joinedRow forwards) (rowsIn forwards) in sym (length-take-le n rows (omega arith))
+
+pub leads-fit : (forwards backs : List ℕ) {n : ℕ} {leads : List ℕ} → n ≤ 64 → leads ≡ leadsFilled forwards backs → n ≡ length (take n leads)
+unfolding leadsFilled
+leads-fit forwards backs {n} {leads} h e =
+    let long : length leads ≡ 64 = ap length e ∙ list-length (leadRow forwards backs) (rowsIn forwards) in sym (length-take-le n leads (omega arith))
+
+pub leads-part : (forwards backs : List ℕ) {n : ℕ} {leads : List ℕ} → n ≡ rowsIn forwards → leads ≡ leadsFilled forwards backs
+    → take n leads ≡ leadRows forwards backs
+unfolding leadRows
+leads-part forwards backs a b = ap₂ (λ (k : ℕ) (l : List ℕ). take k l) a b
 
 module _ (table forwards backs : List ℕ) (nodes : ℕ) (before : List ℕ) {rows leads : List ℕ} {d : ℕ} (a : rows ≡ joinedRows forwards)
     (b : leads ≡ leadRows forwards backs) (c : d ≡ shortestReturn rows leads) where

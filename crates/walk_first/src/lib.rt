@@ -17,6 +17,7 @@ use walk_lead::wrap_start;
 use walk_limit::limits_in;
 use walk_need::needs_in;
 use walk_reach::joined_rows;
+use walk_reach::rows_in;
 use walk_return::shortest_return;
 use walk_step::least_step;
 use walk_step::loose_at;
@@ -25,11 +26,14 @@ use walk_ways::openings;
 use walk_ways::ways_to;
 use walk_wide::widest_table;
 use word_list::has_bit;
+use word_list::word_at;
 ghost use mathlib.Core.Bool.{Bool, cond};
 ghost use mathlib.Core.Path.{_≡_};
 ghost use Prim.Native.Nat.{_+_, _*_, _≤_, _<_};
 ghost use lib.ListN.{length};
 ghost use Rattle.pick_laws.specs.Demands.{goingAfter};
+ghost use Rattle.walk_reach.specs.Layers.{joinedRows};
+ghost use Rattle.walk_lead.specs.Leads.{leadRows};
 ghost use Rattle.walk_first.specs.FirstSteps.{opensAt, prepared, stepsFrom, chosenWord, chosenWords, putWords, putSteps};
 ghost use Rattle.walk_first.specs.FirstSteps.{refusalIn, stepsIn, TakenAs, Searched, WalkAnswered};
 
@@ -178,7 +182,38 @@ fn put_walk(
     }
 }
 
-// Searches tables that have the edges between nodes of the word alone.
+// Searches tables that have the edges between nodes of the word alone; `rows` has for each node the nodes to which a forward edge goes from it,
+// `leads` those to which a dangerous pair leads.
+fn search_rows(
+    table: &[u64],
+    forwards: &[u64],
+    backs: &[u64],
+    rows: &[u64],
+    leads: &[u64],
+    nodes: u64,
+    out: &mut [u64],
+) -> WalkFound
+    requires { ⌜ (260 ≤ length (now out)) × (now rows ≡ joinedRows (now forwards)) × (now leads ≡ leadRows (now forwards) (now backs)) ⌝ }
+    ensures { λ r. ⌜
+        Searched (now (table .entry)) (now (forwards .entry)) (now (backs .entry)) nodes (now (out .entry)) (stepsIn r) (refusalIn r)
+        (now (out .exit))
+        ⌝ }
+{
+    let d = shortest_return(rows, leads);
+    if NODES <= d {
+        return WalkFound::NoWalk;
+    }
+    let steps = d + 2;
+    let later = first_start(rows, leads, steps);
+    let s = wrap_start(forwards, backs, rows, d, later);
+    let ways = ways_to(rows, s, steps);
+    let opened = openings(rows, leads, &ways, steps);
+    let wide = widest_table(forwards, rows, s, d + 1);
+    put_walk(table, backs, &ways, &opened, &wide, s, nodes, steps, out);
+    WalkFound::Shown(steps)
+}
+
+// The same with the rows worked out, as many as the table of forward edges has.
 fn search(table: &[u64], forwards: &[u64], backs: &[u64], nodes: u64, out: &mut [u64]) -> WalkFound
     requires { ⌜ 260 ≤ length (now out) ⌝ }
     ensures { λ r. ⌜
@@ -186,37 +221,27 @@ fn search(table: &[u64], forwards: &[u64], backs: &[u64], nodes: u64, out: &mut 
         (now (out .exit))
         ⌝ }
 {
+    let n = rows_in(forwards);
     let rows = joined_rows(forwards);
     let leads = lead_rows(forwards, backs);
-    let d = shortest_return(&rows, &leads);
-    if NODES <= d {
-        return WalkFound::NoWalk;
-    }
-    let steps = d + 2;
-    let later = first_start(&rows, &leads, steps);
-    let s = wrap_start(forwards, backs, &rows, d, later);
-    let ways = ways_to(&rows, s, steps);
-    let opened = openings(&rows, &leads, &ways, steps);
-    let wide = widest_table(forwards, &rows, s, d + 1);
-    put_walk(table, backs, &ways, &opened, &wide, s, nodes, steps, out);
-    WalkFound::Shown(steps)
+    search_rows(table, forwards, backs, &rows[..n], &leads[..n], nodes, out)
 }
 
-// The word of the edge for a pair of nodes, where both are among the nodes.
-fn chosen_word(table: &[u64; PAIRS], nodes: u64, x: usize) -> u64
+// The word of the edge for a pair of nodes, where both are among the nodes; past the end of the table there is none.
+fn chosen_word(table: &[u64], nodes: u64, x: usize) -> u64
     requires { ⌜ x < 4096 ⌝ }
     ensures { λ r. ⌜ r ≡ chosenWord (now (table .entry)) nodes x ⌝ }
 {
     if has_bit(nodes, (x / NODES) as u64) {
         if has_bit(nodes, (x % NODES) as u64) {
-            return table[x];
+            return word_at(table, x);
         }
     }
     0
 }
 
 // The words of the edges between nodes of the word.
-fn chosen_words(table: &[u64; PAIRS], nodes: u64) -> [u64; PAIRS]
+fn chosen_words(table: &[u64], nodes: u64) -> [u64; PAIRS]
     ensures { λ r. ⌜ r ≡ chosenWords (now (table .entry)) nodes ⌝ }
 {
     let mut words = [0u64; PAIRS];
@@ -228,11 +253,12 @@ fn chosen_words(table: &[u64; PAIRS], nodes: u64) -> [u64; PAIRS]
     words
 }
 
-// Shows the first dangerous closed walk of the tables among the nodes of the word, four words to a step, in an area with room for 65 steps.
+// Shows the first dangerous closed walk of the tables among the nodes of the word, four words to a step, in an area with room for 65 steps. A table
+// need only be as long as the rows of its nodes: words past its end count as 0.
 pub fn find_walk(
     table: &[u64],
-    forwards: &[u64; PAIRS],
-    backs: &[u64; PAIRS],
+    forwards: &[u64],
+    backs: &[u64],
     nodes: u64,
     out: &mut [u64],
 ) -> WalkFound

@@ -1,31 +1,24 @@
 -- What the functions compute, one law for each path of the code.
 use mathlib.Core.Path.{_≡_, refl, sym, ap, ap₂, _∙_}
-use mathlib.Core.Bool.{Bool, true, false}
+use mathlib.Core.Bool.{Bool, true, false, cond}
 use mathlib.Core.List.{List}
 use Prim.Native.Nat.{ℕ, zero, suc, _+_, _-_, _*_, _≤_, _<_, min}
 use native.Mathlib.Numerals.{add-one}
 use native.Mathlib.Omega.{arith}
 use lib.Dec.{ltb}
-use lib.ListN.{getD}
+use lib.ListN.{length, getD, List·getD-eq-default}
 use borrow.Author.Tests.{eq-eqb, ne-eqb}
 use Rattle.spec_base.specs.Basic.{has}
+use Rattle.law_base.specs.SetLaws.{has-empty}
 use Rattle.pick_laws.specs.declared.Going.{Going}
-use Rattle.pick_laws.specs.declared.Pick.{Pick}
 use Rattle.pick_laws.specs.Completing.{leastBelow, leavesAt}
 use Rattle.pick_laws.specs.Demands.{onlyIf}
-use Rattle.edge_word.specs.Coding.{backEdge, backPick}
+use Rattle.edge_word.specs.Coding.{backPick}
+use Rattle.edge_opens.specs.OpensLaws.{leaves-none}
 use Rattle.walk_reach.specs.Layers.{wideAt}
 use Rattle.walk_need.specs.Needs.{leavesFor, firstLeaving, openingNeed, endingNeed, needAt, needAmong}
 
 -- ---- where a back edge leaves
-
-pub leaves-none : (w : ℕ) → w ≡ 0 → 1024 ≡ leavesAt (backPick w)
-unfolding backPick
-leaves-none w e = rw (eq-eqb w 0 e) refl
-
-pub leaves-edge : (w : ℕ) {p : Pick} → (w ≡ 0 → ⊥) → p ≡ backEdge w → (p .leaves ≡ leavesAt (backPick w)) × (p .leaves ≤ 1024)
-unfolding backPick backEdge
-leaves-edge w e q = rw (ne-eqb w 0 e, q) (refl, omega arith)
 
 pub leaves-there : (backs : List ℕ) (nodes x y : ℕ) {b : Bool} {w l : ℕ} → b ≡ has nodes y → b ≡ true → w ≡ getD backs (x * 64 + y) 0
     → l ≡ leavesAt (backPick w) → l ≡ leavesFor backs nodes x y
@@ -35,6 +28,31 @@ leaves-there backs nodes x y h t e q = rw (sym h ∙ t) (q ∙ ap (λ (z : ℕ).
 pub leaves-not : (backs : List ℕ) (nodes x y : ℕ) {b : Bool} → b ≡ has nodes y → b ≡ false → 1024 ≡ leavesFor backs nodes x y
 unfolding leavesFor
 leaves-not backs nodes x y h t = rw (sym h ∙ t) refl
+
+-- none leaves where each would at 1024
+least-past : (f : ℕ → ℕ) (n : ℕ) → ((k : ℕ) → k < n → 1024 ≡ f k) → 1024 ≡ leastBelow f 1024 n
+unfolding leastBelow
+least-past f zero h = refl
+least-past f (suc n) h =
+    let rest = least-past f n (λ k l. h k (omega arith)) in
+    let last = h n (omega arith) in omega arith
+
+-- as past the end of the table
+pub leaving-past : (backs : List ℕ) (nodes x : ℕ) → length backs ≤ x * 64 → 1024 ≡ firstLeaving backs nodes x
+unfolding firstLeaving leavesFor
+leaving-past backs nodes x h =
+    least-past (leavesFor backs nodes x) 64
+    (λ y l. go y (has nodes y) (leaves-none (getD backs (x * 64 + y) 0) (List·getD-eq-default backs 0 (omega arith))))
+  where
+    go : (y : ℕ) (b : Bool) → 1024 ≡ leavesAt (backPick (getD backs (x * 64 + y) 0))
+        → 1024 ≡ cond b (leavesAt (backPick (getD backs (x * 64 + y) 0))) 1024
+    go y true e = e
+    go y false e = refl
+
+-- and for no node
+pub leaving-none : (backs : List ℕ) (nodes x : ℕ) → nodes ≡ 0 → 1024 ≡ firstLeaving backs nodes x
+unfolding firstLeaving leavesFor
+leaving-none backs nodes x z = least-past (leavesFor backs nodes x) 64 (λ y l. rw (ap (λ (w : ℕ). has w y) z ∙ has-empty y) refl)
 
 -- a turn of the search for the first
 pub leaving-turn : (backs : List ℕ) (nodes x y : ℕ) {best l more : ℕ} → best ≡ leastBelow (leavesFor backs nodes x) 1024 y

@@ -2,9 +2,9 @@
 // `ways` has for each number of steps the nodes from which exactly so many forward steps end the walk, `opened` those from which so many steps still
 // lead through a dangerous pair (walk_ways), `wide` how far the last of so many steps can open (walk_wide).
 
+use edge_opens::leaves_at;
 use edge_word::NODES;
 use edge_word::PLACES;
-use edge_word::back_edge;
 use pick_laws::Going;
 use word_list::has_bit;
 use word_list::word_at;
@@ -12,24 +12,12 @@ ghost use mathlib.Core.Bool.{cond};
 ghost use mathlib.Core.Path.{_≡_};
 ghost use Prim.Native.Nat.{_<_, _≤_, min};
 ghost use Rattle.spec_base.specs.Basic.{has};
-ghost use Rattle.pick_laws.specs.Completing.{leavesAt};
 ghost use Rattle.pick_laws.specs.Demands.{onlyIf};
-ghost use Rattle.edge_word.specs.Coding.{backPick, backsIn};
 ghost use Rattle.walk_reach.specs.Layers.{wideAt};
 ghost use Rattle.walk_need.specs.Needs.{leavesFor, firstLeaving, openingNeed, endingNeed, needAt, needAmong, needsOf};
 
 // Further than any edge opens: no step counts that needs so much.
 const NEVER: u64 = 1025;
-
-// The place at which the back edge of a word leaves; 1024 where there is no edge.
-fn leaves_at(word: u64) -> u64
-    ensures { λ r. ⌜ (r ≡ leavesAt (backPick word)) × (r ≤ 1024) ⌝ }
-{
-    if word == 0 {
-        return PLACES;
-    }
-    back_edge(word).leaves
-}
 
 // The place at which a back edge leaves x for y, where y is one of the nodes; else 1024.
 fn leaves_for(backs: &[u64], nodes: u64, x: usize, y: usize) -> u64
@@ -52,11 +40,18 @@ fn lesser(a: u64, b: u64) -> u64
     a
 }
 
-// The first place at which a back edge leaves x for one of the nodes, or 1024 where none does.
+// The first place at which a back edge leaves x for one of the nodes, or 1024 where none does. No word is looked at where x has no row or there is no
+// node.
 fn first_leaving(backs: &[u64], nodes: u64, x: usize) -> u64
     requires { ⌜ x < 64 ⌝ }
     ensures { λ r. ⌜ (r ≡ firstLeaving (now (backs .entry)) nodes x) × (r ≤ 1024) ⌝ }
 {
+    if backs.len() <= x * NODES {
+        return PLACES;
+    }
+    if nodes == 0 {
+        return PLACES;
+    }
     let mut best = PLACES;
     let mut y: usize = 0;
     while y < NODES {

@@ -1,67 +1,154 @@
 -- What the code does with one pair of rows, and with one row after the other.
 use mathlib.Core.Path.{_≡_, refl, sym, ap, ap₂, subst, _∙_}
-use mathlib.Core.Bool.{Bool, true, false, cond, _&&_}
-use mathlib.Core.List.{List}
+use mathlib.Core.Bool.{Bool, true, false, cond, not, _&&_, _||_}
+use mathlib.Core.List.{List, _++_}
 use Prim.Native.Nat.{ℕ, zero, suc, _+_, _*_, _≤_, _<_, zero-le}
 use native.Mathlib.Nat.{suc-mul}
 use native.Mathlib.Numerals.{add-one}
 use native.Mathlib.Omega.{arith}
-use lib.ListN.{replicate}
-use borrow.Author.Tests.{ltb-true}
+use lib.Dec.{eqb, ltb}
+use lib.ListN.{length, getD, take, drop, replicate, length-replicate, getD-replicate}
+use lib.Seq.{length-take-le, ext-getD}
+use borrow.Author.Tests.{ltb-true, le-ltb, ne-eqb}
 use Rattle.spec_base.specs.Basic.{meets}
-use Rattle.law_base.specs.BoolLaws.{and-true, and-of, and-left, and-right}
-use Rattle.spec_graph.specs.Edge.{loosens}
-use Rattle.place_row.specs.declared.Row.{Row}
-use Rattle.place_row.specs.RowTable.{rowAt, rowForward, rowBack}
-use Rattle.edge_word.specs.Coding.{forwardWord, backWord}
+use Rattle.law_base.specs.BoolLaws.{true-false, and-true, and-of, and-left, and-right}
+use Rattle.word_list.specs.Clear.{Cleared}
+use Rattle.spec_graph.specs.Edge.{selects, loosens}
+use Rattle.spec_graph.specs.Edge.Letter.{A, B, C, D, E}
+use Rattle.spec_text.specs.declared.StatementKind.{StatementKind}
 use Rattle.edge_kinds.specs.Kinds.{kindFacts, looseBit}
 use Rattle.edge_kinds.specs.KindLaws.{told as told-kind}
+use Rattle.kind_table.specs.Codes.{codeOf}
+use Rattle.place_row.specs.declared.Row.{Row}
+use Rattle.place_row.specs.KeyWord.{farIn}
+use Rattle.place_row.specs.RowTable.{rowAt, rowCount, rowHolds, rowForward, rowBack, tableRows}
+use Rattle.edge_test.specs.Letters.{toldBetween, forwardIn}
+use Rattle.edge_test.specs.LetterLaws.{forward-told}
+use Rattle.edge_word.specs.Coding.{forwardWord, backWord}
 use Rattle.edge_count.specs.declared.Counts.{Counts}
 use Rattle.edge_count.specs.Slots.{pairCounts}
 use Rattle.edge_count.specs.SlotLaws.{pair-most as counts-most}
-use Rattle.walk_pick.specs.Picks.{rowForwardWord, rowBackWord}
-use Rattle.walk_pick.specs.PickSteps.{keptAt, hasEntries, keptPair, keptRow, keptRows, sumBelow}
-use Rattle.walk_pick.specs.PickSteps.{edgesAt, backAt, rowSum, rowsSum, PairKept, RowKept, RowsKept}
+use Rattle.walk_pick.specs.Picks.{rowForwardWord, rowBackWord, wordsBetween, roomIn, filledFor, PickedAs}
+use Rattle.walk_pick.specs.PickSteps.{keptAt, hasEntries, keptBetween, keptPair, keptRow, keptRows, sumBelow}
+use Rattle.walk_pick.specs.PickSteps.{edgesAt, backAt, rowSum, rowsSum, Tables, WholeRow, PairKept, RowKept, RowsKept, RowsAdded}
 
 -- a row with entries has a small node and a small place
-pub entries-small : (p : Row) {b : Bool} → b ≡ hasEntries p → b ≡ true → (p .node < 64) × (p .place < 1024)
+pub entries-small : (limit : ℕ) (p : Row) {b : Bool} → b ≡ hasEntries limit p → b ≡ true → (p .node < limit) × (p .place < 1024)
 unfolding hasEntries
-entries-small p e t = let h = and-true _ _ (sym e ∙ t) in (ltb-true _ _ (h .0), ltb-true _ _ (h .1))
+entries-small limit p e t = let h = and-true _ _ (sym e ∙ t) in (ltb-true _ _ (h .0), ltb-true _ _ (h .1))
 
-module _ (p q : Row) {f b : Bool} {r : Counts} (forward : f ≡ rowForward p q) (back : b ≡ rowBack p q) (told : r ≡ pairCounts f b) where
-  counts : r ≡ pairCounts (rowForward p q) (rowBack p q)
-  counts = told ∙ ap₂ pairCounts forward back
+-- a word for two rows that have entries is kept
+pub between-in : (limit : ℕ) (p q : Row) (words words₀ : List ℕ) (word : ℕ) → hasEntries limit p ≡ true → hasEntries 64 q ≡ true
+    → words ≡ keptAt words₀ (p .node * 64 + q .node) word → words ≡ keptBetween limit p q words₀ word
+unfolding keptBetween
+between-in limit p q words words₀ word left right e = rw (and-of {a = hasEntries limit p} {b = hasEntries 64 q} left right) e
 
-  -- two rows of which one has no entries
-  pair-out : {forwards backs : List ℕ} → hasEntries p && hasEntries q ≡ false → PairKept p q forwards backs forwards backs r
-  unfolding keptPair
-  pair-out e = record { forwardsKept = rw e refl; backsKept = rw e refl; counted = counts }
+-- and one for two rows of which one has none is not
+between-out : (limit : ℕ) (p q : Row) (words : List ℕ) (word : ℕ) → hasEntries limit p && hasEntries 64 q ≡ false
+    → words ≡ keptBetween limit p q words word
+unfolding keptBetween
+between-out limit p q words word e = rw e refl
 
-  pub left-out : {forwards backs : List ℕ} → hasEntries p ≡ false → PairKept p q forwards backs forwards backs r
-  left-out e = pair-out (and-left (hasEntries q) e)
+pub left-out : (limit : ℕ) (p q : Row) (words : List ℕ) (word : ℕ) → hasEntries limit p ≡ false → words ≡ keptBetween limit p q words word
+left-out limit p q words word e = between-out limit p q words word (and-left (hasEntries 64 q) e)
 
-  pub right-out : {forwards backs : List ℕ} → hasEntries q ≡ false → PairKept p q forwards backs forwards backs r
-  right-out e = pair-out (and-right (hasEntries p) e)
+pub right-out : (limit : ℕ) (p q : Row) (words : List ℕ) (word : ℕ) → hasEntries 64 q ≡ false → words ≡ keptBetween limit p q words word
+right-out limit p q words word e = between-out limit p q words word (and-right (hasEntries limit p) e)
 
-  -- two rows that have entries; W4: the table of kinds tells whether the left one is loose
-  pub pair-in : {facts w v : ℕ} {forwards₀ backs₀ forwards backs : List ℕ} → hasEntries p ≡ true → hasEntries q ≡ true
-      → facts ≡ kindFacts (p .kind)
-      → w ≡ cond f (forwardWord (meets facts looseBit) (p .place) (q .place)) 0
-      → v ≡ cond b (backWord (p .place) (q .place)) 0
-      → forwards ≡ keptAt forwards₀ (p .node * 64 + q .node) w
-      → backs ≡ keptAt backs₀ (p .node * 64 + q .node) v
-      → PairKept p q forwards₀ backs₀ forwards backs r
-  unfolding keptPair rowForwardWord rowBackWord
-  pair-in {facts} {forwards₀ = forwards₀} {backs₀ = backs₀} left right kind word worb kept kepb = record {
-    forwardsKept = rw (and-of {a = hasEntries p} {b = hasEntries q} left right) (kept ∙ ap (keptAt forwards₀ (p .node * 64 + q .node))
-        (word ∙ ap₂ (λ (s l : Bool). cond s (forwardWord l (p .place) (q .place)) 0) forward loose));
-    backsKept = rw (and-of {a = hasEntries p} {b = hasEntries q} left right) (kepb ∙ ap (keptAt backs₀ (p .node * 64 + q .node))
-        (worb ∙ ap (λ (s : Bool). cond s (backWord (p .place) (q .place)) 0) back));
-    counted = counts;
+-- nor is the word of no edge
+none-kept : (limit : ℕ) (p q : Row) (words : List ℕ) {word : ℕ} → word ≡ 0 → words ≡ keptBetween limit p q words word
+unfolding keptBetween keptAt
+none-kept limit p q words {word} e = rw (e, no-less) (same (hasEntries limit p && hasEntries 64 q))
+  where
+    no-less : ltb (getD words (p .node * 64 + q .node) 0) 0 ≡ false
+    no-less = le-ltb (getD words (p .node * 64 + q .node) 0) 0 zero-le
+
+    same : (b : Bool) → words ≡ cond b words words
+    same true = refl
+    same false = refl
+
+-- E2: a back edge stands only beside a forward edge
+back-forward : (p q : Row) → rowForward p q ≡ false → rowBack p q ≡ false
+unfolding rowForward rowBack
+back-forward p q =
+    go (eqb (p .relation) (q .relation)) (rowHolds A p q) (rowHolds B p q) (rowHolds C p q) (rowHolds D p q) (rowHolds E p q) (selects (p .kind))
+    (not (meets (p .keys) (farIn (q .keys))))
+  where
+    go : (r a b c d e s f : Bool) → r && (a || b || c || d || e) ≡ false → r && (e || s && d && f) ≡ false
+    go false a b c d e s f h = refl
+    go true false false false false false true f h = refl
+    go true false false false false false false f h = refl
+    go true true b c d e s f h = absurd (true-false refl h)
+    go true false true c d e s f h = absurd (true-false refl h)
+    go true false false true d e s f h = absurd (true-false refl h)
+    go true false false false true e s f h = absurd (true-false refl h)
+    go true false false false false true s f h = absurd (true-false refl h)
+
+-- W4: the table of kinds tells whether a row is loose
+loose-told : (k : StatementKind) {loose : Bool} → loose ≡ meets (kindFacts k) looseBit → loose ≡ loosens k
+loose-told k e = e ∙ told-kind k .loosens
+
+-- ---- a pair
+
+module _ (limit : ℕ) (p q : Row) where
+  -- no edge stands
+  pub pair-none : (forwards backs : List ℕ) → rowForward p q ≡ false
+      → PairKept limit p q forwards backs forwards backs (record { edges = 0; back = 0 })
+  unfolding pairCounts rowForwardWord rowBackWord
+  pair-none forwards backs f =
+      let b = back-forward p q f in
+      record {
+        forwardsKept = none-kept limit p q forwards (rw f refl);
+        backsKept = none-kept limit p q backs (rw b refl);
+        counted = rw (f, b) refl;
+      }
+
+  -- a forward edge stands and no back edge
+  pub pair-one : {loose : Bool} {w : ℕ} {forwards₀ forwards : List ℕ} (backs : List ℕ) → rowForward p q ≡ true → rowBack p q ≡ false
+      → loose ≡ meets (kindFacts (p .kind)) looseBit → w ≡ forwardWord loose (p .place) (q .place) → forwards ≡ keptBetween limit p q forwards₀ w
+      → PairKept limit p q forwards₀ backs forwards backs (record { edges = 1; back = 0 })
+  unfolding pairCounts rowForwardWord rowBackWord
+  pair-one {forwards₀ = forwards₀} backs f b loose word kept = record {
+    forwardsKept = kept ∙ ap (keptBetween limit p q forwards₀)
+        (word ∙ ap (λ (l : Bool). forwardWord l (p .place) (q .place)) (loose-told (p .kind) loose) ∙ rw f refl);
+    backsKept = none-kept limit p q backs (rw b refl);
+    counted = rw (f, b) refl;
   }
-    where
-      loose : meets facts looseBit ≡ loosens (p .kind)
-      loose = ap (λ (x : ℕ). meets x looseBit) kind ∙ told-kind (p .kind) .loosens
+
+  -- both stand
+  pub pair-two : {loose : Bool} {w v : ℕ} {forwards₀ backs₀ forwards backs : List ℕ} → rowForward p q ≡ true → rowBack p q ≡ true
+      → loose ≡ meets (kindFacts (p .kind)) looseBit → w ≡ forwardWord loose (p .place) (q .place) → forwards ≡ keptBetween limit p q forwards₀ w
+      → v ≡ backWord (p .place) (q .place) → backs ≡ keptBetween limit p q backs₀ v
+      → PairKept limit p q forwards₀ backs₀ forwards backs (record { edges = 2; back = 1 })
+  unfolding pairCounts rowForwardWord rowBackWord
+  pair-two {forwards₀ = forwards₀} {backs₀ = backs₀} f b loose word kept worb kepb = record {
+    forwardsKept = kept ∙ ap (keptBetween limit p q forwards₀)
+        (word ∙ ap (λ (l : Bool). forwardWord l (p .place) (q .place)) (loose-told (p .kind) loose) ∙ rw f refl);
+    backsKept = kepb ∙ ap (keptBetween limit p q backs₀) (worb ∙ rw b refl);
+    counted = rw (f, b) refl;
+  }
+
+-- E1: rows of two relations have no edge
+pub apart-none : (p : Row) (table : List ℕ) (j : ℕ) → (getD table (j * 8 + 3) 0 ≡ p .relation → ⊥) → rowForward p (rowAt table j) ≡ false
+unfolding rowForward rowAt
+apart-none p table j h = rw (ne-eqb (p .relation) (getD table (j * 8 + 3) 0) (λ e. h (sym e))) refl
+
+-- Req 04: nor have rows between whose kinds no letter is possible
+pub impossible-none : (p q : Row) {code : ℕ} → code ≡ codeOf (p .kind) (q .kind) → code ≡ 0 → rowForward p q ≡ false
+unfolding forwardIn toldBetween
+impossible-none p q {code} known none =
+    sym (forward-told p q known) ∙ ap (λ (c : ℕ). forwardIn c p q) none ∙ and-right (eqb (p .relation) (q .relation)) refl
+
+-- the right row as it was read
+pub pair-read : {limit : ℕ} {p q r : Row} {forwards₀ backs₀ forwards backs : List ℕ} {t : Counts} → q ≡ r
+    → PairKept limit p q forwards₀ backs₀ forwards backs t → PairKept limit p r forwards₀ backs₀ forwards backs t
+pair-read {limit} {p} {forwards₀ = a} {backs₀ = b} {forwards} {backs} {t} same h =
+    subst (λ (x : Row). PairKept limit p x a b forwards backs t) same h
+
+-- a row below the number of rows stands whole
+pub row-whole : (table : List ℕ) {n j : ℕ} → n ≡ rowCount table → j < n → WholeRow table j
+unfolding rowCount
+row-whole table e h = omega arith
 
 -- ---- sums
 
@@ -80,25 +167,25 @@ counts-few : (f b : Bool) → (pairCounts f b .edges ≤ 2) × (pairCounts f b .
 counts-few f b = let h = counts-most f b refl in (h .0, omega (arith, h .1))
 
 -- so does a pair whose words are kept
-pub pair-most : {p q : Row} {forwards₀ backs₀ forwards backs : List ℕ} {r : Counts} → PairKept p q forwards₀ backs₀ forwards backs r
+pub pair-most : {limit : ℕ} {p q : Row} {forwards₀ backs₀ forwards backs : List ℕ} {r : Counts} → PairKept limit p q forwards₀ backs₀ forwards backs r
     → (r .edges ≤ 2) × (r .back ≤ 2)
-pair-most {p} {q} h =
+pair-most {p = p} {q = q} h =
     subst (λ (t : Counts). (t .edges ≤ 2) × (t .back ≤ 2)) (sym (h .counted)) (counts-few (rowForward p q) (rowBack p q))
 
 -- so has a row with each of the others
-pub row-most : {table : List ℕ} {p : Row} {j : ℕ} {forwards₀ backs₀ forwards backs : List ℕ} {edges back : ℕ}
-    → RowKept table p j forwards₀ backs₀ forwards backs edges back → (edges ≤ j * 2) × (back ≤ j * 2)
+pub row-most : {limit : ℕ} {table : List ℕ} {p : Row} {j : ℕ} {forwards₀ backs₀ forwards backs : List ℕ} {edges back : ℕ}
+    → RowKept limit table p j forwards₀ backs₀ forwards backs edges back → (edges ≤ j * 2) × (back ≤ j * 2)
 unfolding rowSum
-row-most {table} {p} {j} h =
+row-most {table = table} {p} {j} h =
     let e = sum-most (λ k. edgesAt p (rowAt table k)) 2 (λ k. counts-few (rowForward p (rowAt table k)) (rowBack p (rowAt table k)) .0) j in
     let b = sum-most (λ k. backAt p (rowAt table k)) 2 (λ k. counts-few (rowForward p (rowAt table k)) (rowBack p (rowAt table k)) .1) j in
     (rw (h .edgesCounted) e, rw (h .backCounted) b)
 
 -- and no more than 1024 from each of the rows
-pub rows-most : {table : List ℕ} {n i : ℕ} {forwards backs : List ℕ} {edges back : ℕ} → n ≤ 512
-    → RowsKept table n i forwards backs edges back → (edges ≤ i * 1024) × (back ≤ i * 1024)
+pub rows-most : {limit : ℕ} {table : List ℕ} {n i : ℕ} {forwards backs : List ℕ} {edges back : ℕ} → n ≤ 512
+    → RowsKept limit table n i forwards backs edges back → (edges ≤ i * 1024) × (back ≤ i * 1024)
 unfolding rowsSum rowSum
-rows-most {table} {n} {i} few h =
+rows-most {table = table} {n} {i} few h =
     let e = sum-most (λ k. rowSum edgesAt table (rowAt table k) n) 1024 (λ k. each k .0) i in
     let b = sum-most (λ k. rowSum backAt table (rowAt table k) n) 1024 (λ k. each k .1) i in
     (rw (h .edgesCounted) e, rw (h .backCounted) b)
@@ -116,47 +203,90 @@ sum-next : (f : ℕ → ℕ) (n : ℕ) {total one : ℕ} → total ≡ sumBelow 
 unfolding sumBelow
 sum-next f n e o = ap₂ _+_ e o ∙ ap (sumBelow f) (sym (add-one n))
 
-pub row-first : (table : List ℕ) (p : Row) {forwards backs : List ℕ} → RowKept table p 0 forwards backs forwards backs 0 0
+pub row-first : (limit : ℕ) (table : List ℕ) (p : Row) {forwards backs : List ℕ} → RowKept limit table p 0 forwards backs forwards backs 0 0
 unfolding keptRow rowSum sumBelow
-row-first table p = record { forwardsKept = refl; backsKept = refl; edgesCounted = refl; backCounted = refl }
+row-first limit table p = record { forwardsKept = refl; backsKept = refl; edgesCounted = refl; backCounted = refl }
 
 -- one pair more
-pub row-turn : (table : List ℕ) (p q : Row) (j : ℕ) {forwards₀ backs₀ forwards backs forwards′ backs′ : List ℕ} {edges back : ℕ} {r : Counts}
-    → q ≡ rowAt table j → RowKept table p j forwards₀ backs₀ forwards backs edges back → PairKept p q forwards backs forwards′ backs′ r
-    → RowKept table p (j + 1) forwards₀ backs₀ forwards′ backs′ (edges + r .edges) (back + r .back)
+pub row-turn : (limit : ℕ) (table : List ℕ) (p : Row) (j : ℕ)
+    {forwards₀ backs₀ forwards backs forwards′ backs′ : List ℕ} {edges back : ℕ} {r : Counts}
+    → RowKept limit table p j forwards₀ backs₀ forwards backs edges back → PairKept limit p (rowAt table j) forwards backs forwards′ backs′ r
+    → RowKept limit table p (j + 1) forwards₀ backs₀ forwards′ backs′ (edges + r .edges) (back + r .back)
 unfolding keptRow rowSum
-row-turn table p q j {forwards₀ = forwards₀} {backs₀ = backs₀} {r = r} same h pair = record {
-  forwardsKept = pair .forwardsKept ∙ ap₂ (keptPair rowForwardWord p) same (h .forwardsKept)
-      ∙ ap (keptRow rowForwardWord table p forwards₀) (sym (add-one j));
-  backsKept = pair .backsKept ∙ ap₂ (keptPair rowBackWord p) same (h .backsKept) ∙ ap (keptRow rowBackWord table p backs₀) (sym (add-one j));
-  edgesCounted = sum-next (λ k. edgesAt p (rowAt table k)) j (h .edgesCounted) (ap (λ (t : Counts). t .edges) told);
-  backCounted = sum-next (λ k. backAt p (rowAt table k)) j (h .backCounted) (ap (λ (t : Counts). t .back) told);
+row-turn limit table p j {forwards₀ = forwards₀} {backs₀ = backs₀} h pair = record {
+  forwardsKept = pair .forwardsKept ∙ ap (keptPair limit rowForwardWord p (rowAt table j)) (h .forwardsKept)
+      ∙ ap (keptRow limit rowForwardWord table p forwards₀) (sym (add-one j));
+  backsKept = pair .backsKept ∙ ap (keptPair limit rowBackWord p (rowAt table j)) (h .backsKept)
+      ∙ ap (keptRow limit rowBackWord table p backs₀) (sym (add-one j));
+  edgesCounted = sum-next (λ k. edgesAt p (rowAt table k)) j (h .edgesCounted) (ap (λ (t : Counts). t .edges) (pair .counted));
+  backCounted = sum-next (λ k. backAt p (rowAt table k)) j (h .backCounted) (ap (λ (t : Counts). t .back) (pair .counted));
 }
-  where
-    told : r ≡ pairCounts (rowForward p (rowAt table j)) (rowBack p (rowAt table j))
-    told = pair .counted ∙ ap (λ (x : Row). pairCounts (rowForward p x) (rowBack p x)) same
 
-pub rows-first : (table : List ℕ) (n : ℕ) → RowsKept table n 0 (replicate 4096 0) (replicate 4096 0) 0 0
+-- a table that is cleared
+cleared-zero : {limit : ℕ} {words₀ words : List ℕ} → Tables limit words₀ → Cleared 0 (limit * 64) words₀ words → words ≡ replicate (limit * 64) 0
+cleared-zero {limit} {words = words} t c =
+    let size = c .size ∙ t .size in
+    ext-getD 0 words (replicate (limit * 64) 0) (size ∙ sym (length-replicate {A = ℕ} (limit * 64) 0))
+    (λ y h.
+    let inside : y < limit * 64 = omega arith in
+    c .inside y zero-le inside ∙ sym (getD-replicate (limit * 64) y 0 0 inside))
+
+pub rows-first : (limit : ℕ) (table : List ℕ) (n : ℕ) {forwards₀ backs₀ forwards backs : List ℕ} → Tables limit forwards₀ → Tables limit backs₀
+    → Cleared 0 (limit * 64) forwards₀ forwards → Cleared 0 (limit * 64) backs₀ backs → RowsKept limit table n 0 forwards backs 0 0
 unfolding keptRows rowsSum sumBelow
-rows-first table n = record { forwardsKept = refl; backsKept = refl; edgesCounted = refl; backCounted = refl }
+rows-first limit table n f b cf cb =
+    record { forwardsKept = cleared-zero f cf; backsKept = cleared-zero b cb; edgesCounted = refl; backCounted = refl }
 
 -- one row more
-pub rows-turn : (table : List ℕ) (n i : ℕ) {forwards backs forwards′ backs′ : List ℕ} {edges back more moreBack : ℕ}
-    → RowsKept table n i forwards backs edges back → RowKept table (rowAt table i) n forwards backs forwards′ backs′ more moreBack
-    → RowsKept table n (i + 1) forwards′ backs′ (edges + more) (back + moreBack)
+pub rows-turn : (limit : ℕ) (table : List ℕ) (n i : ℕ) {forwards backs forwards′ backs′ : List ℕ} {edges back more moreBack : ℕ}
+    → RowsKept limit table n i forwards backs edges back → RowKept limit table (rowAt table i) n forwards backs forwards′ backs′ more moreBack
+    → RowsKept limit table n (i + 1) forwards′ backs′ (edges + more) (back + moreBack)
 unfolding keptRows rowsSum
-rows-turn table n i h row = record {
-  forwardsKept = row .forwardsKept ∙ ap (λ (l : List ℕ). keptRow rowForwardWord table (rowAt table i) l n) (h .forwardsKept)
-      ∙ ap (keptRows rowForwardWord table n) (sym (add-one i));
-  backsKept = row .backsKept ∙ ap (λ (l : List ℕ). keptRow rowBackWord table (rowAt table i) l n) (h .backsKept)
-      ∙ ap (keptRows rowBackWord table n) (sym (add-one i));
+rows-turn limit table n i h row = record {
+  forwardsKept = row .forwardsKept ∙ ap (λ (l : List ℕ). keptRow limit rowForwardWord table (rowAt table i) l n) (h .forwardsKept)
+      ∙ ap (keptRows limit rowForwardWord table n) (sym (add-one i));
+  backsKept = row .backsKept ∙ ap (λ (l : List ℕ). keptRow limit rowBackWord table (rowAt table i) l n) (h .backsKept)
+      ∙ ap (keptRows limit rowBackWord table n) (sym (add-one i));
   edgesCounted = sum-next (λ k. rowSum edgesAt table (rowAt table k) n) i (h .edgesCounted) (row .edgesCounted);
   backCounted = sum-next (λ k. rowSum backAt table (rowAt table k) n) i (h .backCounted) (row .backCounted);
 }
 
 -- the left row as it was read
-pub row-read : {table : List ℕ} {p q : Row} {n j : ℕ} {forwards₀ backs₀ forwards backs : List ℕ} {edges back : ℕ} → p ≡ q → j ≡ n
-    → RowKept table p j forwards₀ backs₀ forwards backs edges back → RowKept table q n forwards₀ backs₀ forwards backs edges back
-row-read {table} {p} {q} {n} {j} {forwards₀ = a} {backs₀ = b} {forwards} {backs} {edges} {back} same end h =
-    subst (λ (k : ℕ). RowKept table q k a b forwards backs edges back) end
-    (subst (λ (x : Row). RowKept table x j a b forwards backs edges back) same h)
+pub row-read : {limit : ℕ} {table : List ℕ} {p q : Row} {n j : ℕ} {forwards₀ backs₀ forwards backs : List ℕ} {edges back : ℕ} → p ≡ q → j ≡ n
+    → RowKept limit table p j forwards₀ backs₀ forwards backs edges back → RowKept limit table q n forwards₀ backs₀ forwards backs edges back
+row-read {limit} {table} {p} {q} {n} {j} {forwards₀ = a} {backs₀ = b} {forwards} {backs} {edges} {back} same end h =
+    subst (λ (k : ℕ). RowKept limit table q k a b forwards backs edges back) end
+    (subst (λ (x : Row). RowKept limit table x j a b forwards backs edges back) same h)
+
+-- ---- the lent areas
+
+-- the part of an area for so many nodes is such a table
+pub front-tables : (forwards backs : List ℕ) {limit : ℕ} → limit ≡ roomIn forwards backs
+    → (limit * 64 ≤ length forwards) × (limit * 64 ≤ length backs)
+    × Tables limit (take (limit * 64) forwards) × Tables limit (take (limit * 64) backs)
+unfolding roomIn
+front-tables forwards backs {limit} e = (
+  left,
+  right,
+  record { few = omega arith; size = length-take-le (limit * 64) forwards left },
+  record { few = omega arith; size = length-take-le (limit * 64) backs right },
+)
+  where
+    left : limit * 64 ≤ length forwards
+    left = omega arith
+
+    right : limit * 64 ≤ length backs
+    right = omega arith
+
+-- tables filled in front of what stays
+pub picked-as : (table forwards₀ backs₀ : List ℕ) {limit : ℕ} {forwards backs : List ℕ} {r : Counts} → limit ≡ roomIn forwards₀ backs₀
+    → RowsAdded table limit forwards backs r
+    → PickedAs table forwards₀ backs₀ (forwards ++ drop (limit * 64) forwards₀) (backs ++ drop (limit * 64) backs₀) r
+unfolding filledFor
+picked-as table a b {limit} e h = record {
+  forwardsFilled = ap (λ (l : List ℕ). l ++ drop (limit * 64) a) (h .forwardsFilled)
+      ∙ ap (λ (k : ℕ). wordsBetween rowForwardWord k (tableRows table) ++ drop (k * 64) a) e;
+  backsFilled = ap (λ (l : List ℕ). l ++ drop (limit * 64) b) (h .backsFilled)
+      ∙ ap (λ (k : ℕ). wordsBetween rowBackWord k (tableRows table) ++ drop (k * 64) b) e;
+  counted = h .counted;
+}

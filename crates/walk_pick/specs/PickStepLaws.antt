@@ -7,8 +7,8 @@ use Prim.Native.Nat.{ℕ, zero, suc, _+_, _*_, _/_, _%_, _≤_, _<_, max}
 use native.Mathlib.Nat.{le-antisymm, not-suc-le-zero, le-of-suc-le-suc, add-zero, zero-add, suc-add, add-suc}
 use native.Mathlib.Omega.{arith}
 use lib.Dec.{eqb, ltb}
-use lib.ListN.{length, getD, set, length-set, length-replicate, getD-replicate, length-append, length-map}
-use lib.Seq.{getD-set-same, getD-set-other}
+use lib.ListN.{length, getD, set, drop, length-set, length-drop, length-replicate, getD-replicate, length-append, length-map}
+use lib.Seq.{getD-set-same, getD-set-other, ext-getD}
 use borrow.Author.Tests.{eqb-true, eqb-false, eq-eqb, ltb-true, ltb-false, lt-ltb}
 use Rattle.spec_base.specs.Basic.{count, numbers, numbersFrom}
 use Rattle.law_base.specs.BoolLaws.{decide, same-test, and-true, and-of}
@@ -19,9 +19,11 @@ use Rattle.place_row.specs.declared.Row.{Row}
 use Rattle.place_row.specs.RowTable.{rowAt, rowCount, rowForward, rowBack, rowEdge, rowEdges, tableRows, edgesOfRows}
 use Rattle.law_base.specs.FlatLaws.{flatMap-map}
 use Rattle.edge_count.specs.Slots.{tableEdges, tableCounts, pairCounts}
-use Rattle.walk_pick.specs.declared.PickedEdges.{PickedEdges}
-use Rattle.walk_pick.specs.Picks.{rowForwardWord, rowBackWord, greatest, standsIn, wordFor, between, wordsBetween, picksOf}
-use Rattle.walk_pick.specs.PickSteps.{keptAt, hasEntries, keptPair, keptRow, keptRows, sumBelow, edgesAt, backAt, rowSum, rowsSum, RowsKept}
+use Rattle.edge_count.specs.declared.Counts.{Counts}
+use Rattle.walk_pick.specs.Picks.{rowForwardWord, rowBackWord, greatest, standsIn, wordFor, between, wordsBetween, roomIn, filledFor}
+use Rattle.walk_pick.specs.Picks.{PickedAs}
+use Rattle.walk_pick.specs.PickSteps.{keptAt, hasEntries, keptBetween, keptPair, keptRow, keptRows, sumBelow, edgesAt, backAt, rowSum, rowsSum}
+use Rattle.walk_pick.specs.PickSteps.{Tables, RowKept, RowsKept, RowsAdded}
 
 -- ---- the greatest of one number more
 
@@ -72,110 +74,118 @@ kept-length words x word = go (ltb (getD words x 0) word)
     go true = length-set words x word
     go false = refl
 
-pair-length : (word : Row → Row → ℕ) (p q : Row) (words : List ℕ) → length (keptPair word p q words) ≡ length words
-unfolding keptPair
-pair-length word p q words = go (hasEntries p && hasEntries q)
+pub between-length : (limit : ℕ) (p q : Row) (words : List ℕ) (word : ℕ) → length (keptBetween limit p q words word) ≡ length words
+unfolding keptBetween
+between-length limit p q words word = go (hasEntries limit p && hasEntries 64 q)
   where
-    go : (b : Bool) → length (cond b (keptAt words (p .node * 64 + q .node) (word p q)) words) ≡ length words
-    go true = kept-length words (p .node * 64 + q .node) (word p q)
+    go : (b : Bool) → length (cond b (keptAt words (p .node * 64 + q .node) word) words) ≡ length words
+    go true = kept-length words (p .node * 64 + q .node) word
     go false = refl
 
 -- the two rows are of the nodes whose entry stands at y
-cell-same : (p q : Row) (y : ℕ) → y < 4096
-    → standsIn (y / 64) p && standsIn (y % 64) q ≡ (hasEntries p && hasEntries q) && eqb (p .node * 64 + q .node) y
+cell-same : (limit : ℕ) (p q : Row) (y : ℕ) → y < limit * 64
+    → standsIn (y / 64) p && standsIn (y % 64) q ≡ (hasEntries limit p && hasEntries 64 q) && eqb (p .node * 64 + q .node) y
 unfolding standsIn hasEntries
-cell-same p q y h = same-test _ _ to of
+cell-same limit p q y h = same-test _ _ to of
   where
     to : (eqb (p .node) (y / 64) && ltb (p .place) 1024) && (eqb (q .node) (y % 64) && ltb (q .place) 1024) ≡ true
-        → ((ltb (p .node) 64 && ltb (p .place) 1024) && (ltb (q .node) 64 && ltb (q .place) 1024)) && eqb (p .node * 64 + q .node) y ≡ true
+        → ((ltb (p .node) limit && ltb (p .place) 1024) && (ltb (q .node) 64 && ltb (q .place) 1024)) && eqb (p .node * 64 + q .node) y ≡ true
     to e =
         let both = and-true _ _ e in
         let left = and-true _ _ (both .0) in
         let right = and-true _ _ (both .1) in
         let u = eqb-true (p .node) (y / 64) (left .0) in
         let v = eqb-true (q .node) (y % 64) (right .0) in
-        and-of (and-of (and-of (lt-ltb (p .node) 64 (omega arith)) (left .1)) (and-of (lt-ltb (q .node) 64 (omega arith)) (right .1)))
+        and-of (and-of (and-of (lt-ltb (p .node) limit (omega arith)) (left .1)) (and-of (lt-ltb (q .node) 64 (omega arith)) (right .1)))
         (eq-eqb (p .node * 64 + q .node) y (omega arith))
 
-    of : ((ltb (p .node) 64 && ltb (p .place) 1024) && (ltb (q .node) 64 && ltb (q .place) 1024)) && eqb (p .node * 64 + q .node) y ≡ true
+    of : ((ltb (p .node) limit && ltb (p .place) 1024) && (ltb (q .node) 64 && ltb (q .place) 1024)) && eqb (p .node * 64 + q .node) y ≡ true
         → (eqb (p .node) (y / 64) && ltb (p .place) 1024) && (eqb (q .node) (y % 64) && ltb (q .place) 1024) ≡ true
     of e =
         let all = and-true _ _ e in
         let both = and-true _ _ (all .0) in
-        let left = and-true _ _ (both .0) in
+        let left = and-true (ltb (p .node) limit) (ltb (p .place) 1024) (both .0) in
         let right = and-true _ _ (both .1) in
-        let u = ltb-true (p .node) 64 (left .0) in
         let v = ltb-true (q .node) 64 (right .0) in
         let x = eqb-true (p .node * 64 + q .node) y (all .1) in
         and-of (and-of (eq-eqb (p .node) (y / 64) (omega arith)) (left .1)) (and-of (eq-eqb (q .node) (y % 64) (omega arith)) (right .1))
 
 -- a pair whose word is kept
-pair-at : (word : Row → Row → ℕ) (p q : Row) (words : List ℕ) (y : ℕ) → length words ≡ 4096 → y < 4096
-    → getD (keptPair word p q words) y 0 ≡ max (getD words y 0) (wordFor word (y / 64) (y % 64) p q)
-unfolding keptPair wordFor hasEntries
-pair-at word p q words y long h = go (decide (hasEntries p && hasEntries q))
+pair-at : (limit : ℕ) (word : Row → Row → ℕ) (p q : Row) (words : List ℕ) (y : ℕ) → length words ≡ limit * 64 → y < limit * 64
+    → getD (keptPair limit word p q words) y 0 ≡ max (getD words y 0) (wordFor word (y / 64) (y % 64) p q)
+unfolding keptBetween wordFor hasEntries
+pair-at limit word p q words y long h = go (decide (hasEntries limit p && hasEntries 64 q))
   where
-    go : (hasEntries p && hasEntries q ≡ true) ⊎ (hasEntries p && hasEntries q ≡ false)
-        → getD (cond (hasEntries p && hasEntries q) (keptAt words (p .node * 64 + q .node) (word p q)) words) y 0
+    go : (hasEntries limit p && hasEntries 64 q ≡ true) ⊎ (hasEntries limit p && hasEntries 64 q ≡ false)
+        → getD (cond (hasEntries limit p && hasEntries 64 q) (keptAt words (p .node * 64 + q .node) (word p q)) words) y 0
         ≡ max (getD words y 0) (cond (standsIn (y / 64) p && standsIn (y % 64) q) (word p q) 0)
     go (inl e) =
-        let both = and-true (hasEntries p) (hasEntries q) e in
-        let u = ltb-true (p .node) 64 (and-true _ _ (both .0) .0) in
+        let both = and-true (hasEntries limit p) (hasEntries 64 q) e in
+        let u = ltb-true (p .node) limit (and-true _ _ (both .0) .0) in
         let v = ltb-true (q .node) 64 (and-true _ _ (both .1) .0) in
         rw e (kept-at words (p .node * 64 + q .node) y (word p q) (omega arith)
         ∙ ap (λ (b : Bool). max (getD words y 0) (cond b (word p q) 0))
-        (sym (cell-same p q y h ∙ ap (λ (b : Bool). b && eqb (p .node * 64 + q .node) y) e)))
+        (sym (cell-same limit p q y h ∙ ap (λ (b : Bool). b && eqb (p .node * 64 + q .node) y) e)))
     go (inr e) =
         rw e (let none : max (getD words y 0) 0 ≡ getD words y 0 = omega arith in
         sym none ∙ ap (λ (b : Bool). max (getD words y 0) (cond b (word p q) 0))
-        (sym (cell-same p q y h ∙ ap (λ (b : Bool). b && eqb (p .node * 64 + q .node) y) e)))
+        (sym (cell-same limit p q y h ∙ ap (λ (b : Bool). b && eqb (p .node * 64 + q .node) y) e)))
 
 -- ---- all pairs
 
-module _ (word : Row → Row → ℕ) (table : List ℕ) where
-  row-length : (p : Row) (words : List ℕ) (j : ℕ) → length (keptRow word table p words j) ≡ length words
+module _ (limit : ℕ) (word : Row → Row → ℕ) (table : List ℕ) where
+  row-length : (p : Row) (words : List ℕ) (j : ℕ) → length (keptRow limit word table p words j) ≡ length words
   unfolding keptRow
   row-length p words zero = refl
-  row-length p words (suc j) = pair-length word p (rowAt table j) (keptRow word table p words j) ∙ row-length p words j
+  row-length p words (suc j) =
+      between-length limit p (rowAt table j) (keptRow limit word table p words j) (word p (rowAt table j)) ∙ row-length p words j
 
-  rows-length : (n i : ℕ) → length (keptRows word table n i) ≡ 4096
+  rows-length : (n i : ℕ) → length (keptRows limit word table n i) ≡ limit * 64
   unfolding keptRows
-  rows-length n zero = length-replicate {A = ℕ} 4096 0
-  rows-length n (suc i) = row-length (rowAt table i) (keptRows word table n i) n ∙ rows-length n i
+  rows-length n zero = length-replicate {A = ℕ} (limit * 64) 0
+  rows-length n (suc i) = row-length (rowAt table i) (keptRows limit word table n i) n ∙ rows-length n i
 
   -- a row whose words with the first j rows are kept
-  row-entry : (p : Row) (words : List ℕ) (y : ℕ) → length words ≡ 4096 → y < 4096 → (j : ℕ)
-      → getD (keptRow word table p words j) y 0
+  row-entry : (p : Row) (words : List ℕ) (y : ℕ) → length words ≡ limit * 64 → y < limit * 64 → (j : ℕ)
+      → getD (keptRow limit word table p words j) y 0
       ≡ max (getD words y 0) (greatest (wordFor word (y / 64) (y % 64) p) (map (rowAt table) (numbers j)))
   unfolding keptRow greatest
   row-entry p words y long h zero = omega arith
   row-entry p words y long h (suc j) =
-      let one = pair-at word p (rowAt table j) (keptRow word table p words j) y (row-length p words j ∙ long) h in
+      let one = pair-at limit word p (rowAt table j) (keptRow limit word table p words j) y (row-length p words j ∙ long) h in
       let rest = row-entry p words y long h j in
       let more = greatest-next (wordFor word (y / 64) (y % 64) p) (rowAt table) j in
       omega arith
 
   -- the first i rows
-  rows-entry : (n y : ℕ) → y < 4096 → (i : ℕ)
-      → getD (keptRows word table n i) y 0
+  rows-entry : (n y : ℕ) → y < limit * 64 → (i : ℕ)
+      → getD (keptRows limit word table n i) y 0
       ≡ greatest (λ p. greatest (wordFor word (y / 64) (y % 64) p) (map (rowAt table) (numbers n))) (map (rowAt table) (numbers i))
   unfolding keptRows greatest
-  rows-entry n y h zero = getD-replicate 4096 y 0 0 h
+  rows-entry n y h zero = getD-replicate (limit * 64) y 0 0 h
   rows-entry n y h (suc i) =
-      let one = row-entry (rowAt table i) (keptRows word table n i) y (rows-length n i) h n in
+      let one = row-entry (rowAt table i) (keptRows limit word table n i) y (rows-length n i) h n in
       let rest = rows-entry n y h i in
       let more = greatest-next (λ p. greatest (wordFor word (y / 64) (y % 64) p) (map (rowAt table) (numbers n))) (rowAt table) i in
       omega arith
 
--- ---- the tables
+-- a row leaves tables for as many nodes as before
+pub row-tables : {limit : ℕ} {table : List ℕ} {p : Row} {j : ℕ} {forwards₀ backs₀ forwards backs : List ℕ} {edges back : ℕ}
+    → Tables limit forwards₀ → Tables limit backs₀ → RowKept limit table p j forwards₀ backs₀ forwards backs edges back
+    → Tables limit forwards × Tables limit backs
+row-tables {limit} {table} {p} {j} {forwards₀ = forwards₀} {backs₀ = backs₀} f b h = (
+  record { few = f .few; size = ap length (h .forwardsKept) ∙ row-length limit rowForwardWord table p forwards₀ j ∙ f .size },
+  record { few = b .few; size = ap length (h .backsKept) ∙ row-length limit rowBackWord table p backs₀ j ∙ b .size },
+)
 
--- lists of one length with the same entries
-same-entries : (l r : List ℕ) → length l ≡ length r → ((i : ℕ) → i < length l → getD l i 0 ≡ getD r i 0) → l ≡ r
-same-entries [] [] e same = refl
-same-entries [] (y ∷ r) e same = absurd (omega arith)
-same-entries (x ∷ l) [] e same = absurd (omega arith)
-same-entries (x ∷ l) (y ∷ r) e same =
-    ap₂ (λ (a : ℕ) (t : List ℕ). a ∷ t) (same 0 (omega arith)) (same-entries l r (omega arith) (λ i h. same (suc i) (omega arith)))
+pub rows-tables : {limit : ℕ} {table : List ℕ} {n i : ℕ} {forwards backs : List ℕ} {edges back : ℕ} → limit ≤ 64
+    → RowsKept limit table n i forwards backs edges back → Tables limit forwards × Tables limit backs
+rows-tables {limit} {table} {n} {i} few h = (
+  record { few = few; size = ap length (h .forwardsKept) ∙ rows-length limit rowForwardWord table n i },
+  record { few = few; size = ap length (h .backsKept) ∙ rows-length limit rowBackWord table n i },
+)
+
+-- ---- the tables
 
 -- the entry for a number
 map-from : (f : ℕ → ℕ) (a n i : ℕ) → i < n → getD (map f (numbersFrom a n)) i 0 ≡ f (a + i)
@@ -183,29 +193,30 @@ map-from f a zero i h = absurd (not-suc-le-zero h)
 map-from f a (suc n) zero h = ap f (sym (add-zero a))
 map-from f a (suc n) (suc i) h = map-from f (suc a) n i (le-of-suc-le-suc h) ∙ ap f (suc-add a i ∙ sym (add-suc a i))
 
-pub words-entry : (word : Row → Row → ℕ) (rows : List Row) (y : ℕ) → y < 4096
-    → getD (wordsBetween word rows) y 0 ≡ between word rows (y / 64) (y % 64)
+pub words-entry : (word : Row → Row → ℕ) (limit : ℕ) (rows : List Row) (y : ℕ) → y < limit * 64
+    → getD (wordsBetween word limit rows) y 0 ≡ between word rows (y / 64) (y % 64)
 unfolding wordsBetween
-words-entry word rows y h =
-    map-from (λ x. between word rows (x / 64) (x % 64)) 0 4096 y h ∙ ap (λ (x : ℕ). between word rows (x / 64) (x % 64)) (zero-add y)
+words-entry word limit rows y h =
+    map-from (λ x. between word rows (x / 64) (x % 64)) 0 (limit * 64) y h ∙ ap (λ (x : ℕ). between word rows (x / 64) (x % 64)) (zero-add y)
 
-words-length : (word : Row → Row → ℕ) (rows : List Row) → length (wordsBetween word rows) ≡ 4096
+pub words-length : (word : Row → Row → ℕ) (limit : ℕ) (rows : List Row) → length (wordsBetween word limit rows) ≡ limit * 64
 unfolding wordsBetween
-words-length word rows =
-    length-map (numbers 4096) (λ x. between word rows (x / 64) (x % 64)) ∙ length-numbers 4096
+words-length word limit rows =
+    length-map (numbers (limit * 64)) (λ x. between word rows (x / 64) (x % 64)) ∙ length-numbers (limit * 64)
 
 -- the words of all pairs of rows are kept
-kept-all : (word : Row → Row → ℕ) (table : List ℕ) (n : ℕ) → n ≡ rowCount table
-    → keptRows word table n n ≡ wordsBetween word (tableRows table)
+kept-all : (limit : ℕ) (word : Row → Row → ℕ) (table : List ℕ) (n : ℕ) → n ≡ rowCount table
+    → keptRows limit word table n n ≡ wordsBetween word limit (tableRows table)
 unfolding between tableRows
-kept-all word table n e =
-    same-entries (keptRows word table n n) (wordsBetween word (tableRows table))
-    (rows-length word table n n ∙ sym (words-length word (tableRows table)))
+kept-all limit word table n e =
+    ext-getD 0 (keptRows limit word table n n) (wordsBetween word limit (tableRows table))
+    (rows-length limit word table n n ∙ sym (words-length word limit (tableRows table)))
     (λ y h.
-    let l = rows-length word table n n in
-    rows-entry word table n y (omega arith) n
+    let l = rows-length limit word table n n in
+    let inside : y < limit * 64 = omega arith in
+    rows-entry limit word table n y inside n
     ∙ ap (λ (k : ℕ). greatest (λ p. greatest (wordFor word (y / 64) (y % 64) p) (map (rowAt table) (numbers k))) (map (rowAt table) (numbers k))) e
-    ∙ sym (words-entry word (tableRows table) y (omega arith)))
+    ∙ sym (words-entry word limit (tableRows table) y inside))
 
 -- ---- the counts
 
@@ -267,16 +278,16 @@ pair-back p q = go (rowForward p q) (rowBack p q)
     go false false = refl
 
 -- what is promised: all rows with all rows
-pub all-picked : (table : List ℕ) (n i : ℕ) {forwards backs : List ℕ} {edges back : ℕ} → n ≡ rowCount table → i ≤ n → n ≤ i
-    → RowsKept table n i forwards backs edges back
-    → _≡_ {A = PickedEdges} (record { forwards = forwards; backs = backs; edges = edges; back = back }) (picksOf table)
-unfolding picksOf tableCounts
-all-picked table n i rows most least h = λ k. record {
-  forwards = (h .forwardsKept ∙ ap (keptRows rowForwardWord table n) end ∙ kept-all rowForwardWord table n rows) k;
-  backs = (h .backsKept ∙ ap (keptRows rowBackWord table n) end ∙ kept-all rowBackWord table n rows) k;
-  edges = (h .edgesCounted ∙ sums edgesAt ∙ sym (rows-sum length refl length-append edgesAt pair-edges table)) k;
-  back = (h .backCounted ∙ sums backAt
-      ∙ sym (rows-sum (count (λ e. G.isBack (e .flow))) refl (count-append (λ e. G.isBack (e .flow))) backAt pair-back table)) k;
+pub all-picked : (limit : ℕ) (table : List ℕ) (n i : ℕ) {forwards backs : List ℕ} {edges back : ℕ} → n ≡ rowCount table → i ≤ n → n ≤ i
+    → RowsKept limit table n i forwards backs edges back → RowsAdded table limit forwards backs (record { edges = edges; back = back })
+unfolding tableCounts
+all-picked limit table n i rows most least h = record {
+  forwardsFilled = h .forwardsKept ∙ ap (keptRows limit rowForwardWord table n) end ∙ kept-all limit rowForwardWord table n rows;
+  backsFilled = h .backsKept ∙ ap (keptRows limit rowBackWord table n) end ∙ kept-all limit rowBackWord table n rows;
+  counted = ap₂ (λ (a b : ℕ). record { edges = a; back = b })
+      (h .edgesCounted ∙ sums edgesAt ∙ sym (rows-sum length refl length-append edgesAt pair-edges table))
+      (h .backCounted ∙ sums backAt
+      ∙ sym (rows-sum (count (λ e. G.isBack (e .flow))) refl (count-append (λ e. G.isBack (e .flow))) backAt pair-back table));
 }
   where
     end : i ≡ n
@@ -284,3 +295,20 @@ all-picked table n i rows most least h = λ k. record {
 
     sums : (each : Row → Row → ℕ) → rowsSum each table n i ≡ rowsSum each table (rowCount table) (rowCount table)
     sums each = ap (rowsSum each table n) end ∙ ap (λ (m : ℕ). rowsSum each table m m) rows
+
+-- an area is as long as it was
+filled-length : (word : Row → Row → ℕ) (limit : ℕ) (rows : List Row) (before : List ℕ) → limit * 64 ≤ length before
+    → length (filledFor word limit rows before) ≡ length before
+unfolding filledFor
+filled-length word limit rows before h =
+    let front = words-length word limit rows in
+    let rest = length-drop (limit * 64) before in
+    length-append (wordsBetween word limit rows) (drop (limit * 64) before) ∙ omega arith
+
+pub picked-length : {table forwards₀ backs₀ forwards backs : List ℕ} {r : Counts} → PickedAs table forwards₀ backs₀ forwards backs r
+    → (length forwards ≡ length forwards₀) × (length backs ≡ length backs₀)
+unfolding roomIn
+picked-length {table} {forwards₀} {backs₀} h = (
+  ap length (h .forwardsFilled) ∙ filled-length rowForwardWord (roomIn forwards₀ backs₀) (tableRows table) forwards₀ (omega arith),
+  ap length (h .backsFilled) ∙ filled-length rowBackWord (roomIn forwards₀ backs₀) (tableRows table) backs₀ (omega arith),
+)

@@ -2,36 +2,43 @@
 use mathlib.Core.Path.{_≡_}
 use mathlib.Core.Bool.{Bool, cond, _&&_}
 use mathlib.Core.List.{List}
-use Prim.Native.Nat.{ℕ, zero, suc, _+_, _*_}
+use Prim.Native.Nat.{ℕ, zero, suc, _+_, _*_, _≤_}
 use lib.Dec.{ltb}
-use lib.ListN.{getD, set, replicate}
+use lib.ListN.{length, getD, set, replicate}
+use Rattle.spec_base.specs.Basic.{meets}
+use Rattle.edge_kinds.specs.Kinds.{kindFacts, looseBit}
+use Rattle.kind_table.specs.Codes.{codeOf, codesFrom}
 use Rattle.place_row.specs.declared.Row.{Row}
-use Rattle.place_row.specs.RowTable.{rowAt, rowForward, rowBack}
+use Rattle.place_row.specs.RowTable.{rowAt, rowCount, rowForward, rowBack, tableRows}
 use Rattle.edge_count.specs.declared.Counts.{Counts}
-use Rattle.edge_count.specs.Slots.{pairCounts}
-use Rattle.walk_pick.specs.Picks.{rowForwardWord, rowBackWord}
+use Rattle.edge_count.specs.Slots.{pairCounts, tableCounts}
+use Rattle.walk_pick.specs.Picks.{rowForwardWord, rowBackWord, wordsBetween}
 
 -- the greater word is kept
 unfoldable pub keptAt : List ℕ → ℕ → ℕ → List ℕ
 keptAt words x word = cond (ltb (getD words x 0) word) (set words x word) words
 
--- a row with entries: its node is below 64 and its place below 1024
-unfoldable pub hasEntries : Row → Bool
-hasEntries p = ltb (p .node) 64 && ltb (p .place) 1024
+-- a row with entries: its node is below a limit and its place below 1024
+unfoldable pub hasEntries : ℕ → Row → Bool
+hasEntries limit p = ltb (p .node) limit && ltb (p .place) 1024
+
+-- a word for the nodes of two rows is kept, where a table for so many nodes has room
+unfoldable pub keptBetween : ℕ → Row → Row → List ℕ → ℕ → List ℕ
+keptBetween limit p q words word = cond (hasEntries limit p && hasEntries 64 q) (keptAt words (p .node * 64 + q .node) word) words
 
 -- the word between two rows is kept
-unfoldable pub keptPair : (Row → Row → ℕ) → Row → Row → List ℕ → List ℕ
-keptPair word p q words = cond (hasEntries p && hasEntries q) (keptAt words (p .node * 64 + q .node) (word p q)) words
+abbrev pub keptPair : ℕ → (Row → Row → ℕ) → Row → Row → List ℕ → List ℕ
+keptPair limit word p q words = keptBetween limit p q words (word p q)
 
 -- the words between a row and the first j rows of a table are kept
-unfoldable pub keptRow : (Row → Row → ℕ) → List ℕ → Row → List ℕ → ℕ → List ℕ
-keptRow word table p words zero = words
-keptRow word table p words (suc j) = keptPair word p (rowAt table j) (keptRow word table p words j)
+unfoldable pub keptRow : ℕ → (Row → Row → ℕ) → List ℕ → Row → List ℕ → ℕ → List ℕ
+keptRow limit word table p words zero = words
+keptRow limit word table p words (suc j) = keptPair limit word p (rowAt table j) (keptRow limit word table p words j)
 
 -- the words between the first i rows and the first n rows are kept
-unfoldable pub keptRows : (Row → Row → ℕ) → List ℕ → ℕ → ℕ → List ℕ
-keptRows word table n zero = replicate 4096 0
-keptRows word table n (suc i) = keptRow word table (rowAt table i) (keptRows word table n i) n
+unfoldable pub keptRows : ℕ → (Row → Row → ℕ) → List ℕ → ℕ → ℕ → List ℕ
+keptRows limit word table n zero = replicate (limit * 64) 0
+keptRows limit word table n (suc i) = keptRow limit word table (rowAt table i) (keptRows limit word table n i) n
 
 -- the sum of what the numbers below n give
 unfoldable pub sumBelow : (ℕ → ℕ) → ℕ → ℕ
@@ -53,26 +60,67 @@ rowSum f table p n = sumBelow (λ j. f p (rowAt table j)) n
 unfoldable pub rowsSum : (Row → Row → ℕ) → List ℕ → ℕ → ℕ → ℕ
 rowsSum f table n i = sumBelow (λ k. rowSum f table (rowAt table k) n) i
 
+-- ---- what the code knows
+
+-- a table for so many nodes, 64 at most
+pub record Tables (limit : ℕ) (words : List ℕ) : Type 0 where
+  pub few : limit ≤ 64
+  pub size : length words ≡ limit * 64
+
+-- row j stands whole in its table
+abbrev pub WholeRow : List ℕ → ℕ → Type 0
+WholeRow table j = j * 8 + 8 ≤ length table
+
+-- of two rows: the code of their kinds, and whether the left one is loose (W4)
+pub record AlikeKnown (code : ℕ) (loose : Bool) (limit : ℕ) (p q : Row) (forwards backs : List ℕ) : Type 0 where
+  pub code-is : code ≡ codeOf (p .kind) (q .kind)
+  pub loose-is : loose ≡ meets (kindFacts (p .kind)) looseBit
+  pub forwards-for : Tables limit forwards
+  pub backs-for : Tables limit backs
+
+-- of a row and a row that stands whole in the table: the codes of the left one's kind
+pub record PairKnown (table : List ℕ) (j : ℕ) (codes : List ℕ) (loose : Bool) (limit : ℕ) (p : Row) (forwards backs : List ℕ) : Type 0 where
+  pub whole : WholeRow table j
+  pub codes-are : codes ≡ codesFrom (p .kind)
+  pub loose-is : loose ≡ meets (kindFacts (p .kind)) looseBit
+  pub forwards-for : Tables limit forwards
+  pub backs-for : Tables limit backs
+
+-- of a table of n rows
+pub record RowKnown (table : List ℕ) (n limit : ℕ) (forwards backs : List ℕ) : Type 0 where
+  pub rows : n ≡ rowCount table
+  pub forwards-for : Tables limit forwards
+  pub backs-for : Tables limit backs
+
+-- ---- what the code does
+
 -- what a pair of rows adds: its words and its edges
-pub record PairKept (p q : Row) (forwards₀ backs₀ forwards backs : List ℕ) (r : Counts) : Type 0 where
-  pub forwardsKept : forwards ≡ keptPair rowForwardWord p q forwards₀
-  pub backsKept : backs ≡ keptPair rowBackWord p q backs₀
+pub record PairKept (limit : ℕ) (p q : Row) (forwards₀ backs₀ forwards backs : List ℕ) (r : Counts) : Type 0 where
+  pub forwardsKept : forwards ≡ keptPair limit rowForwardWord p q forwards₀
+  pub backsKept : backs ≡ keptPair limit rowBackWord p q backs₀
   pub counted : r ≡ pairCounts (rowForward p q) (rowBack p q)
 
 -- what a row adds, with each of the first j rows
-pub record RowKept (table : List ℕ) (p : Row) (j : ℕ) (forwards₀ backs₀ forwards backs : List ℕ) (edges back : ℕ) : Type 0 where
-  pub forwardsKept : forwards ≡ keptRow rowForwardWord table p forwards₀ j
-  pub backsKept : backs ≡ keptRow rowBackWord table p backs₀ j
+pub record RowKept (limit : ℕ) (table : List ℕ) (p : Row) (j : ℕ) (forwards₀ backs₀ forwards backs : List ℕ) (edges back : ℕ) : Type 0 where
+  pub forwardsKept : forwards ≡ keptRow limit rowForwardWord table p forwards₀ j
+  pub backsKept : backs ≡ keptRow limit rowBackWord table p backs₀ j
   pub edgesCounted : edges ≡ rowSum edgesAt table p j
   pub backCounted : back ≡ rowSum backAt table p j
 
 -- what row i adds, with each of the first n rows
-abbrev pub RowAdded : List ℕ → ℕ → ℕ → List ℕ → List ℕ → List ℕ → List ℕ → Counts → Type 0
-RowAdded table n i forwards₀ backs₀ forwards backs r = RowKept table (rowAt table i) n forwards₀ backs₀ forwards backs (r .edges) (r .back)
+abbrev pub RowAdded : List ℕ → ℕ → ℕ → ℕ → List ℕ → List ℕ → List ℕ → List ℕ → Counts → Type 0
+RowAdded table n i limit forwards₀ backs₀ forwards backs r =
+    RowKept limit table (rowAt table i) n forwards₀ backs₀ forwards backs (r .edges) (r .back)
 
 -- what the first i rows give, with each of the first n rows
-pub record RowsKept (table : List ℕ) (n i : ℕ) (forwards backs : List ℕ) (edges back : ℕ) : Type 0 where
-  pub forwardsKept : forwards ≡ keptRows rowForwardWord table n i
-  pub backsKept : backs ≡ keptRows rowBackWord table n i
+pub record RowsKept (limit : ℕ) (table : List ℕ) (n i : ℕ) (forwards backs : List ℕ) (edges back : ℕ) : Type 0 where
+  pub forwardsKept : forwards ≡ keptRows limit rowForwardWord table n i
+  pub backsKept : backs ≡ keptRows limit rowBackWord table n i
   pub edgesCounted : edges ≡ rowsSum edgesAt table n i
   pub backCounted : back ≡ rowsSum backAt table n i
+
+-- what all rows give
+pub record RowsAdded (table : List ℕ) (limit : ℕ) (forwards backs : List ℕ) (r : Counts) : Type 0 where
+  pub forwardsFilled : forwards ≡ wordsBetween rowForwardWord limit (tableRows table)
+  pub backsFilled : backs ≡ wordsBetween rowBackWord limit (tableRows table)
+  pub counted : r ≡ tableCounts table

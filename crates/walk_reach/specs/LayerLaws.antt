@@ -4,20 +4,22 @@ use mathlib.Core.Bool.{Bool, true, false, cond, not, _||_}
 use mathlib.Core.Logic.{_⊎_, inl, inr}
 use mathlib.Core.List.{List}
 use mathlib.Core.Option.{none, some}
-use Prim.Native.Nat.{ℕ, zero, suc, _+_, _^_, _≤_, _<_}
+use Prim.Native.Nat.{ℕ, zero, suc, _+_, _*_, _/_, _^_, _≤_, _<_, min}
+use native.Mathlib.Decide.{decLt}
 use native.Mathlib.Numerals.{add-one}
 use native.Mathlib.Omega.{arith}
 use lib.Dec.{eqb, ltb}
-use lib.ListN.{getD}
-use borrow.Author.Tests.{ltb-false, ne-eqb}
+use lib.ListN.{length, getD, List·getD-eq-default}
+use borrow.Author.Tests.{ltb-false, ne-eqb, eq-eqb}
 use Rattle.spec_base.specs.Basic.{any, numbers, has, meets}
-use Rattle.law_base.specs.BoolLaws.{decide, same-test, and-true, and-of}
+use Rattle.law_base.specs.BoolLaws.{decide, same-test, and-true, and-of, not-of-true}
 use Rattle.law_base.specs.ListLaws.{any-numbers, any-numbers-of}
-use Rattle.law_base.specs.SetLaws.{has-empty, has-bitOr, has-bit, meets-has, has-meets, meets-comm, meets-empty}
+use Rattle.law_base.specs.SetLaws.{has-empty, has-bitOr, has-bit, meets-has, has-meets, meets-empty}
 use Rattle.pick_laws.specs.Pick.{picked, onwardTo, reaches}
 use Rattle.edge_word.specs.Coding.{forwardPick, forwardEdge, entry, forwardsIn}
-use Rattle.walk_reach.specs.Layers.{withNode, wordBelow, joinedBit, joinedRow, joinedRows, growsTo, grown, layer, layersTo}
-use Rattle.walk_reach.specs.NodeWordLaws.{last-turn, word-in, word-inside, word-none, list-at}
+use Rattle.walk_reach.specs.Layers.{wordBelow, listBelow, joinedBit, joinedRow, rowsIn, rowsFilled, joinedRows}
+use Rattle.walk_reach.specs.Layers.{withNode, entersAt, nodesInto, grown, nodeWord, layer}
+use Rattle.walk_reach.specs.NodeWordLaws.{last-turn, word-in, word-inside, word-none, word-rest, list-at, list-past, rows-at}
 
 -- ---- turn by turn
 
@@ -26,24 +28,57 @@ pub row-end : (forwards : List ℕ) (u : ℕ) {word k : ℕ} → word ≡ wordBe
 unfolding joinedRow
 row-end forwards u {word} {k} e h l = last-turn (wordBelow (joinedBit forwards u)) 64 k e h l
 
+-- a table has so many rows
+pub rows-few : (n : ℕ) → n < 4096 → (n + 63) / 64 ≡ min ((n + 63) / 64) 64
+rows-few n h = omega arith
+
+pub rows-most : (n : ℕ) → 4096 ≤ n → 64 ≡ min ((n + 63) / 64) 64
+rows-most n h = omega arith
+
+pub rows-bound : (table : List ℕ) → rowsIn table ≤ 64
+unfolding rowsIn
+rows-bound table = omega arith
+
+-- past them there is no word
+pub entry-past : (table : List ℕ) (u v : ℕ) → rowsIn table ≤ u → u < 64 → entry table u v ≡ 0
+unfolding rowsIn
+entry-past table u v h l = List·getD-eq-default table 0 (omega arith)
+
+-- the end of the loop over the rows that are there
+pub into-end : (rows : List ℕ) (nodes : ℕ) {word k n : ℕ} → n ≡ min (length rows) 64 → word ≡ wordBelow (entersAt rows nodes) k → k ≤ n → n ≤ k
+    → word ≡ nodesInto rows nodes
+unfolding nodesInto entersAt
+into-end rows nodes {word} {k} {n} m e h l =
+    e ∙ go (decLt (length rows) 64)
+  where
+    past : (x : ℕ) → length rows ≤ x → meets (getD rows x 0) nodes ≡ false
+    past x i = ap (λ (w : ℕ). meets w nodes) (List·getD-eq-default rows 0 i) ∙ meets-empty nodes
+
+    go : Dec (length rows < 64) → wordBelow (entersAt rows nodes) k ≡ wordBelow (entersAt rows nodes) 64
+    go (yes i) = word-rest (entersAt rows nodes) k 64 (omega arith) (λ x j. past x (omega arith))
+    go (no i) = let same : k ≡ 64 = omega arith in ap (wordBelow (entersAt rows nodes)) same
+
 -- the layer after another
 pub layer-turn : (rows : List ℕ) (u d : ℕ) {nodes more : ℕ} → nodes ≡ layer rows u d → more ≡ grown rows nodes → more ≡ layer rows u (d + 1)
 unfolding layer
 layer-turn rows u d p q = rw add-one (q ∙ ap (grown rows) p)
 
 -- a layer that added nothing is followed by layers that add nothing
-pub layer-still : (rows : List ℕ) {nodes more : ℕ} → more ≡ grown rows nodes → nodes ≡ more → grown rows more ≡ more
-layer-still rows q e = ap (grown rows) (sym e) ∙ sym q
+pub layer-still : (rows : List ℕ) (u d : ℕ) {nodes more : ℕ} → nodes ≡ layer rows u d → more ≡ grown rows nodes → more ≡ nodes → (e : ℕ) → d ≤ e
+    → nodes ≡ layer rows u e
+unfolding layer
+layer-still rows u d {nodes} {more} p q same e h = p ∙ go e h
+  where
+    fixed : layer rows u d ≡ grown rows (layer rows u d)
+    fixed = sym p ∙ sym same ∙ q ∙ ap (grown rows) p
 
--- from no node nothing is reached
-grown-none : (rows : List ℕ) → grown rows 0 ≡ 0
-unfolding grown growsTo
-grown-none rows =
-    word-none (growsTo rows 0) (λ k. rw (has-empty k) (meets-comm (getD rows k 0) 0 ∙ meets-empty (getD rows k 0))) 64
-
--- so a first layer without a node adds nothing either
-pub layer-first : (rows : List ℕ) {nodes : ℕ} → 0 ≡ nodes → grown rows nodes ≡ nodes
-layer-first rows z = ap (grown rows) (sym z) ∙ grown-none rows ∙ z
+    go : (k : ℕ) → d ≤ k → layer rows u d ≡ layer rows u k
+    go zero l = let none : d ≡ 0 = omega arith in ap (layer rows u) none
+    go (suc k) l = by-last (go k) (decLt k d)
+      where
+        by-last : (d ≤ k → layer rows u d ≡ layer rows u k) → Dec (k < d) → layer rows u d ≡ layer rows u (suc k)
+        by-last rest (yes i) = let last : d ≡ suc k = omega arith in ap (layer rows u) last
+        by-last rest (no i) = fixed ∙ ap (grown rows) (rest (omega arith))
 
 -- ---- what they tell
 
@@ -57,19 +92,33 @@ picked-word x = go (eqb x 0)
     go false = refl
 
 -- the first layer has u, where it is one of the 64 nodes
-pub first-has : (u w : ℕ) → w < 64 → has (withNode 0 (ltb u 64) u) w ≡ eqb w u
-unfolding withNode
+pub first-has : (u w : ℕ) → w < 64 → has (nodeWord u) w ≡ eqb w u
+unfolding nodeWord withNode
 first-has u w h = go (decide (ltb u 64))
   where
-    go : (ltb u 64 ≡ true) ⊎ (ltb u 64 ≡ false) → has (withNode 0 (ltb u 64) u) w ≡ eqb w u
+    go : (ltb u 64 ≡ true) ⊎ (ltb u 64 ≡ false) → has (nodeWord u) w ≡ eqb w u
     go (inl e) = rw e (has-bitOr 0 (2 ^ u) w ∙ ap₂ (λ (a b : Bool). a || b) (has-empty w) (has-bit u w))
     go (inr e) = let l = ltb-false u 64 e in rw e (has-empty w ∙ sym (ne-eqb w u (λ same. let z : ⊥ = omega arith in z)))
+
+-- a node without a row has no edge
+row-past : (forwards : List ℕ) (w : ℕ) → w < 64 → rowsIn forwards ≤ w → joinedRow forwards w ≡ 0
+unfolding joinedRow
+row-past forwards w h l = word-none (joinedBit forwards w) (λ v. not-of-true (eq-eqb (entry forwards w v) 0 (entry-past forwards w v l h))) 64
+
+-- each of 64 words is the row of its node
+pub filled-row : (forwards : List ℕ) (w : ℕ) → w < 64 → getD (rowsFilled forwards) w 0 ≡ joinedRow forwards w
+unfolding rowsFilled
+filled-row forwards w h = go (decLt w (rowsIn forwards))
+  where
+    go : Dec (w < rowsIn forwards) → getD (listBelow (joinedRow forwards) (rowsIn forwards)) w 0 ≡ joinedRow forwards w
+    go (yes l) = list-at (joinedRow forwards) (rowsIn forwards) w (rows-bound forwards) l
+    go (no d) = list-past (joinedRow forwards) (rowsIn forwards) w (omega arith) ∙ sym (row-past forwards w h (omega arith))
 
 module _ (forwards : List ℕ) (n : ℕ) (full : n ≡ 64) where
   -- the row of a node has those to which an edge is picked
   pub row-at : (w : ℕ) → w < n → getD (joinedRows forwards) w 0 ≡ joinedRow forwards w
-  unfolding joinedRows
-  row-at w h = list-at (joinedRow forwards) 64 w (omega arith) (omega arith)
+  unfolding joinedRows rowsFilled
+  row-at w h = rows-at (joinedRow forwards) (rowsIn forwards) (rows-bound forwards) w (λ k. row-past forwards w (omega arith) k)
 
   pub row-has : (w k : ℕ) → k < n → has (joinedRow forwards w) k ≡ picked (forwardsIn forwards w k)
   unfolding joinedRow
@@ -98,17 +147,11 @@ module _ (forwards : List ℕ) (n : ℕ) (full : n ≡ 64) where
           has-meets (joinedRow forwards w) nodes (t .0) (row-has w (t .0) (t .1) ∙ b .0) (same (t .0) (t .1) ∙ b .1)
 
   -- a layer has the nodes from which u is reached in so many steps
-  layer-has : (u d w : ℕ) → w < n → has (layer (joinedRows forwards) u d) w ≡ reaches (forwardsIn forwards) n u d w
-  unfolding layer reaches grown growsTo
+  pub layer-has : (u d w : ℕ) → w < n → has (layer (joinedRows forwards) u d) w ≡ reaches (forwardsIn forwards) n u d w
+  unfolding layer reaches grown nodesInto entersAt
   layer-has u zero w h = first-has u w (omega arith)
   layer-has u (suc d) w h =
-      word-in (growsTo (joinedRows forwards) (layer (joinedRows forwards) u d)) 64 w (omega arith)
+      has-bitOr (layer (joinedRows forwards) u d) (nodesInto (joinedRows forwards) (layer (joinedRows forwards) u d)) w
       ∙ ap₂ (λ (a b : Bool). a || b) (layer-has u d w h)
-      (row-meets (layer (joinedRows forwards) u d) (reaches (forwardsIn forwards) n u d) w h (λ k l. layer-has u d k l))
-
-  layers-at : (u d : ℕ) → d < 64 → getD (layersTo (joinedRows forwards) u) d 0 ≡ layer (joinedRows forwards) u d
-  unfolding layersTo
-  layers-at u d h = list-at (layer (joinedRows forwards) u) 64 d (omega arith) h
-
-  pub layers-has : (u d w : ℕ) → d < 64 → w < n → has (getD (layersTo (joinedRows forwards) u) d 0) w ≡ reaches (forwardsIn forwards) n u d w
-  layers-has u d w l h = ap (λ (x : ℕ). has x w) (layers-at u d l) ∙ layer-has u d w h
+      (word-in (entersAt (joinedRows forwards) (layer (joinedRows forwards) u d)) 64 w (omega arith)
+      ∙ row-meets (layer (joinedRows forwards) u d) (reaches (forwardsIn forwards) n u d) w h (λ k l. layer-has u d k l))

@@ -1,11 +1,11 @@
 -- Sets of nodes as words, and which nodes reach which along forward edges.
-use mathlib.Core.Bool.{Bool, cond, not, _||_}
+use mathlib.Core.Bool.{Bool, cond, not}
 use mathlib.Core.List.{List}
-use Prim.Native.Nat.{ℕ, zero, suc, _+_, _*_, _^_}
+use Prim.Native.Nat.{ℕ, zero, suc, _+_, _*_, _/_, _^_, min}
 use lib.Bits.{bitOr}
 use lib.Dec.{eqb, ltb}
-use lib.ListN.{getD, set, replicate}
-use Rattle.spec_base.specs.Basic.{has, meets}
+use lib.ListN.{length, getD, set, replicate, take}
+use Rattle.spec_base.specs.Basic.{meets}
 use Rattle.edge_word.specs.Coding.{entry}
 
 -- ---- words and lists filled one by one
@@ -43,23 +43,35 @@ joinedBit forwards u v = not (eqb (entry forwards u v) 0)
 unfoldable pub joinedRow : List ℕ → ℕ → ℕ
 joinedRow forwards u = wordBelow (joinedBit forwards u) 64
 
--- for each node the nodes to which a forward edge goes from it
-unfoldable pub joinedRows : List ℕ → List ℕ
-joinedRows forwards = listBelow (joinedRow forwards) 64
+-- how many rows of 64 words a table has, the last of them perhaps in part, and at most 64
+unfoldable pub rowsIn : List ℕ → ℕ
+rowsIn table = min ((length table + 63) / 64) 64
 
--- node k is one of the nodes, or has an edge into one of them
-unfoldable pub growsTo : List ℕ → ℕ → ℕ → Bool
-growsTo rows nodes k = has nodes k || meets (getD rows k 0) nodes
+-- 64 words, of which those of the table's rows are the nodes to which a forward edge goes from a node
+unfoldable pub rowsFilled : List ℕ → List ℕ
+rowsFilled forwards = listBelow (joinedRow forwards) (rowsIn forwards)
+
+-- the rows alone: for each node that has one the nodes to which a forward edge goes from it
+unfoldable pub joinedRows : List ℕ → List ℕ
+joinedRows forwards = take (rowsIn forwards) (rowsFilled forwards)
+
+-- the row of node x has one of the nodes
+unfoldable pub entersAt : List ℕ → ℕ → ℕ → Bool
+entersAt rows nodes x = meets (getD rows x 0) nodes
+
+-- the nodes whose row has one of the nodes
+unfoldable pub nodesInto : List ℕ → ℕ → ℕ
+nodesInto rows nodes = wordBelow (entersAt rows nodes) 64
 
 -- the nodes, and those with an edge into one of them
 unfoldable pub grown : List ℕ → ℕ → ℕ
-grown rows nodes = wordBelow (growsTo rows nodes) 64
+grown rows nodes = bitOr nodes (nodesInto rows nodes)
 
--- the nodes from which u is reached in at most d steps; u itself where it is one of the 64
+-- node u alone, where it is one of the 64
+unfoldable pub nodeWord : ℕ → ℕ
+nodeWord u = withNode 0 (ltb u 64) u
+
+-- the nodes from which u is reached in at most d steps
 unfoldable pub layer : List ℕ → ℕ → ℕ → ℕ
-layer rows u zero = withNode 0 (ltb u 64) u
+layer rows u zero = nodeWord u
 layer rows u (suc d) = grown rows (layer rows u d)
-
--- the layers of 64 numbers of steps
-unfoldable pub layersTo : List ℕ → ℕ → List ℕ
-layersTo rows u = listBelow (layer rows u) 64

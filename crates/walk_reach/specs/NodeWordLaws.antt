@@ -10,9 +10,9 @@ use native.Mathlib.Decide.{decLt}
 use native.Mathlib.Omega.{arith}
 use lib.Bits.{bitAnd, bitOr}
 use lib.Dec.{eqb}
-use lib.ListN.{length, getD, set, length-set, length-replicate}
+use lib.ListN.{length, getD, set, replicate, take, length-set, length-take, length-replicate, List·getD-eq-default}
 use lib.Pow.{pow-lt}
-use lib.Seq.{getD-set-same, getD-set-other}
+use lib.Seq.{getD-set-same, getD-set-other, getD-take}
 use borrow.Author.Tests.{eqb-true, eqb-false, eq-eqb, ne-eqb, lt-ltb, le-ltb}
 use Rattle.spec_base.specs.Basic.{has, meets}
 use Rattle.law_base.specs.BoolLaws.{decide, true-false, not-of-false, not-of-true}
@@ -94,6 +94,15 @@ module _ (test : ℕ → Bool) where
   word-none none zero = refl
   word-none none (suc n) = rw (none n) (word-none none n)
 
+-- past a number from which on none passes it stays as it is
+pub word-rest : (test : ℕ → Bool) (n m : ℕ) → n ≤ m → ((k : ℕ) → n ≤ k → test k ≡ false) → wordBelow test n ≡ wordBelow test m
+word-rest test n m h none = has-equal (wordBelow test n) (wordBelow test m) (λ k. go k (decLt k n) (decLt k m))
+  where
+    go : (k : ℕ) → Dec (k < n) → Dec (k < m) → has (wordBelow test n) k ≡ has (wordBelow test m) k
+    go k (yes l) i = word-in test n k l ∙ sym (word-in test m k (omega arith))
+    go k (no d) (yes i) = word-out test n k (omega arith) ∙ sym (none k (omega arith)) ∙ sym (word-in test m k i)
+    go k (no d) (no e) = word-out test n k (omega arith) ∙ sym (word-out test m k (omega arith))
+
 -- the union of two such words has the numbers that pass either test
 pub word-or : (p q r : ℕ → Bool) (n : ℕ) → ((k : ℕ) → r k ≡ p k || q k) → bitOr (wordBelow p n) (wordBelow q n) ≡ wordBelow r n
 word-or p q r n same =
@@ -124,6 +133,28 @@ list-at f (suc n) i h l = go (λ k. list-at f n i (omega arith) k) (decide (eqb 
         ap (λ (k : ℕ). getD (set (listBelow f n) n (f n)) k 0) (sym same) ∙ getD-set-same (listBelow f n) n (f n) 0 (omega arith) ∙ ap f same
     go rest (inr e) =
         let apart = eqb-false i n e in getD-set-other (listBelow f n) n i (f n) 0 apart ∙ rest (omega arith)
+
+zeros-at : (n i : ℕ) → getD {A = ℕ} (replicate n 0) i 0 ≡ 0
+zeros-at zero i = refl
+zeros-at (suc n) zero = refl
+zeros-at (suc n) (suc i) = zeros-at n i
+
+-- past that its words are 0
+pub list-past : (f : ℕ → ℕ) (n i : ℕ) → n ≤ i → getD (listBelow f n) i 0 ≡ 0
+unfolding listBelow
+list-past f zero i h = zeros-at 64 i
+list-past f (suc n) i h =
+    getD-set-other (listBelow f n) n i (f n) 0 (λ e. let z : ⊥ = omega arith in z) ∙ list-past f n i (omega arith)
+
+-- the first n words alone hold it too, where what is past them is 0
+pub rows-at : (f : ℕ → ℕ) (n : ℕ) → n ≤ 64 → (i : ℕ) → (n ≤ i → f i ≡ 0) → getD (take n (listBelow f n)) i 0 ≡ f i
+rows-at f n h i none = go (decLt i n)
+  where
+    go : Dec (i < n) → getD (take n (listBelow f n)) i 0 ≡ f i
+    go (yes l) = getD-take n (listBelow f n) i 0 l ∙ list-at f n i h l
+    go (no d) =
+        let long = length-take n (listBelow f n) in
+        List·getD-eq-default (take n (listBelow f n)) 0 (omega arith) ∙ sym (none (omega arith))
 
 -- ---- words that meet
 

@@ -89,11 +89,21 @@ module _ (test : ℕ → Bool) where
           later true q = absurd (true-false (ap test (eqb-true x y q) ∙ e) k)
           later false q = let apart = eqb-false x y q in omega arith
 
-  -- where none passes it ends after the last
-  pub first-none : (left x : ℕ) → ((y : ℕ) → test y ≡ false) → firstFrom test left x ≡ x + left
+  -- where none from x on passes it ends after the last
+  pub first-none : (left x : ℕ) → ((y : ℕ) → x ≤ y → test y ≡ false) → firstFrom test left x ≡ x + left
   unfolding firstFrom
   first-none zero x h = omega arith
-  first-none (suc left) x h = rw (h x) (let rest = first-none left (suc x) h in omega arith)
+  first-none (suc left) x h = rw (h x (omega arith)) (let rest = first-none left (suc x) (λ y l. h y (omega arith)) in omega arith)
+
+  -- it ends no earlier than it begins
+  pub first-above : (left x : ℕ) → x ≤ firstFrom test left x
+  unfolding firstFrom
+  first-above zero x = omega arith
+  first-above (suc left) x = go (test x) (first-above left (suc x))
+    where
+      go : (b : Bool) → suc x ≤ firstFrom test left (suc x) → x ≤ cond b x (firstFrom test left (suc x))
+      go true h = omega arith
+      go false h = omega arith
 
   -- the search among the numbers below n, as a loop makes it: it starts, stops, turns and ends
   pub search-start : (n : ℕ) → firstFrom test (n - 0) 0 ≡ firstFrom test n 0

@@ -1,15 +1,14 @@
-// Which of 64 nodes reach which along forward edges, from a table that holds a word for each pair of nodes (edge_word). A set of nodes is a word.
+// Which of 64 nodes reach which along forward edges, from a table that holds a word for each pair of nodes (edge_word). A set of nodes is a word. A
+// table need only be as long as the rows of its nodes, and a list of rows too: what is past the end counts as 0.
 
 use edge_word::NODES;
-use word_list::has_bit;
+use edge_word::PAIRS;
 use word_list::word_at;
 ghost use mathlib.Core.Bool.{true};
 ghost use mathlib.Core.Path.{_≡_};
-ghost use Prim.Native.Nat.{_<_};
-ghost use Rattle.walk_reach.specs.Layers.{withNode, joinedRow, joinedRows, growsTo, grown, layersTo};
-
-// The last of the layers: more steps than this reach nothing new among 64 nodes.
-pub const LAST_LAYER: usize = 63;
+ghost use Prim.Native.Nat.{_+_, _*_, _≤_, _<_, min};
+ghost use lib.ListN.{length};
+ghost use Rattle.walk_reach.specs.Layers.{withNode, rowsIn, joinedRow, rowsFilled, nodesInto, nodeWord, grown, layer};
 
 // The nodes of a word, and node k too where the test passed.
 fn with_node(word: u64, test: bool, k: usize) -> u64
@@ -22,8 +21,33 @@ fn with_node(word: u64, test: bool, k: usize) -> u64
     word
 }
 
-// The nodes to which a forward edge goes from u, as a word.
-fn joined_row(forwards: &[u64], u: usize) -> u64
+// How many rows of 64 words a table has, the last of them perhaps in part, and at most 64.
+pub fn rows_in(table: &[u64]) -> usize
+    ensures { λ r. ⌜ (r ≡ rowsIn (now (table .entry))) × (r ≤ 64) ⌝ }
+{
+    let n = table.len();
+    if n < PAIRS {
+        return (n + 63) / NODES;
+    }
+    NODES
+}
+
+// The nodes to which a forward edge goes from u, as a word, where the table has the whole row.
+fn whole_row(forwards: &[u64], u: usize) -> u64
+    requires { ⌜ (u < 64) × (u * 64 + 64 ≤ length (now forwards)) ⌝ }
+    ensures { λ r. ⌜ r ≡ joinedRow (now (forwards .entry)) u ⌝ }
+{
+    let mut word: u64 = 0;
+    let mut v: usize = 0;
+    while v < NODES {
+        word = with_node(word, forwards[u * NODES + v] != 0, v);
+        v += 1;
+    }
+    word
+}
+
+// The same where it has a part of the row or none.
+fn part_row(forwards: &[u64], u: usize) -> u64
     requires { ⌜ u < 64 ⌝ }
     ensures { λ r. ⌜ r ≡ joinedRow (now (forwards .entry)) u ⌝ }
 {
@@ -37,71 +61,82 @@ fn joined_row(forwards: &[u64], u: usize) -> u64
     word
 }
 
-// For each node the nodes to which a forward edge goes from it.
-pub fn joined_rows(forwards: &[u64]) -> [u64; NODES]
-    ensures { λ r. ⌜ r ≡ joinedRows (now (forwards .entry)) ⌝ }
+// The same however long the table is.
+fn joined_row(forwards: &[u64], u: usize) -> u64
+    requires { ⌜ u < 64 ⌝ }
+    ensures { λ r. ⌜ r ≡ joinedRow (now (forwards .entry)) u ⌝ }
 {
+    if u * NODES + NODES <= forwards.len() {
+        return whole_row(forwards, u);
+    }
+    part_row(forwards, u)
+}
+
+// For each node that has a row the nodes to which a forward edge goes from it; the other words are 0.
+pub fn joined_rows(forwards: &[u64]) -> [u64; NODES]
+    ensures { λ r. ⌜ r ≡ rowsFilled (now (forwards .entry)) ⌝ }
+{
+    let n = rows_in(forwards);
     let mut rows = [0u64; NODES];
     let mut u: usize = 0;
-    while u < NODES {
+    while u < n {
         rows[u] = joined_row(forwards, u);
         u += 1;
     }
     rows
 }
 
-// Whether node k is one of the nodes or has a forward edge to one of them.
-fn grows_to(rows: &[u64; NODES], nodes: u64, k: usize) -> bool
-    requires { ⌜ k < 64 ⌝ }
-    ensures { λ r. ⌜ r ≡ growsTo (now (rows .entry)) nodes k ⌝ }
+// A number, but at most 64.
+pub fn capped(x: usize) -> usize
+    ensures { λ r. ⌜ r ≡ min x 64 ⌝ }
 {
-    if has_bit(nodes, k as u64) {
-        return true;
+    if x < NODES {
+        return x;
     }
-    rows[k] & nodes != 0
+    NODES
 }
 
-// The nodes, and those with a forward edge to one of them.
-fn grow(rows: &[u64; NODES], nodes: u64) -> u64
-    ensures { λ r. ⌜ r ≡ grown (now (rows .entry)) nodes ⌝ }
+// The nodes whose row has one of the nodes.
+pub fn nodes_into(rows: &[u64], nodes: u64) -> u64
+    ensures { λ r. ⌜ r ≡ nodesInto (now (rows .entry)) nodes ⌝ }
 {
+    let n = capped(rows.len());
     let mut word: u64 = 0;
-    let mut k: usize = 0;
-    while k < NODES {
-        let t = grows_to(rows, nodes, k);
-        word = with_node(word, t, k);
-        k += 1;
+    let mut x: usize = 0;
+    while x < n {
+        word = with_node(word, rows[x] & nodes != 0, x);
+        x += 1;
     }
     word
 }
 
-// The layer after `nodes`: these and those with a forward edge to one of them. Where the layer before was the same, nothing is added any more,
-// so that is not worked out again.
-fn next_layer(rows: &[u64; NODES], before: u64, nodes: u64) -> u64
-    requires { ⌜ (before ≡ nodes → grown (now rows) nodes ≡ nodes) ⌝ }
-    ensures { λ r. ⌜ r ≡ grown (now (rows .entry)) nodes ⌝ }
+// The word of node u alone; none where u is no node.
+pub fn node_word(u: usize) -> u64
+    ensures { λ r. ⌜ r ≡ nodeWord u ⌝ }
 {
-    if before == nodes {
-        return nodes;
-    }
-    grow(rows, nodes)
+    with_node(0, u < NODES, u)
 }
 
-// For each number of steps below 64, the nodes from which u is reached along forward edges in at most so many; none
-// where u is no node.
-pub fn layers_to(rows: &[u64; NODES], u: usize) -> [u64; NODES]
-    ensures { λ r. ⌜ r ≡ layersTo (now (rows .entry)) u ⌝ }
+// The nodes, and those with a forward edge to one of them.
+pub fn grow(rows: &[u64], nodes: u64) -> u64
+    ensures { λ r. ⌜ r ≡ grown (now (rows .entry)) nodes ⌝ }
 {
-    let mut layers = [0u64; NODES];
-    let mut before: u64 = 0;
-    let mut nodes = with_node(0, u < NODES, u);
-    let mut d: usize = 0;
-    while d < NODES {
-        layers[d] = nodes;
-        let next = next_layer(rows, before, nodes);
-        before = nodes;
+    nodes | nodes_into(rows, nodes)
+}
+
+// The nodes from which u is reached along forward edges in at most d steps; none where u is no node. Once a step adds nothing, none does.
+pub fn layer_at(rows: &[u64], u: usize, d: usize) -> u64
+    ensures { λ r. ⌜ r ≡ layer (now (rows .entry)) u d ⌝ }
+{
+    let mut nodes = node_word(u);
+    let mut k: usize = 0;
+    while k < d {
+        let next = grow(rows, nodes);
+        if next == nodes {
+            return nodes;
+        }
         nodes = next;
-        d += 1;
+        k += 1;
     }
-    layers
+    nodes
 }

@@ -6,21 +6,20 @@ use Prim.Native.Nat.{ℕ, suc, _+_, _-_}
 use native.Mathlib.Numerals.{add-one}
 use native.Mathlib.Omega.{arith}
 use lib.Bits.{bitOr}
-use lib.Dec.{ltb}
 use lib.ListN.{getD, set, replicate}
 use borrow.Author.Tests.{eq-eqb, ne-eqb}
 use Rattle.spec_base.specs.Basic.{has}
-use Rattle.walk_reach.specs.Layers.{withNode, filled}
-use Rattle.walk_ways.specs.Ways.{nodesInto, exactWord, waysTo, nextOpening, opening, openings, startsAt}
+use Rattle.walk_reach.specs.Layers.{filled, nodesInto, nodeWord}
+use Rattle.walk_ways.specs.Ways.{exactWord, waysTo, nextOpening, opening, openings, startsAt}
 
 -- ---- ways
 
 -- the first word, and the list of it alone
-pub way-first : (rows : List ℕ) (s : ℕ) {nodes : ℕ} → nodes ≡ withNode 0 (ltb s 64) s → nodes ≡ exactWord rows s 0
+pub way-first : (rows : List ℕ) (s : ℕ) {nodes : ℕ} → nodes ≡ nodeWord s → nodes ≡ exactWord rows s 0
 unfolding exactWord
 way-first rows s p = p
 
-pub ways-first : (rows : List ℕ) (s : ℕ) {nodes : ℕ} → nodes ≡ withNode 0 (ltb s 64) s
+pub ways-first : (rows : List ℕ) (s : ℕ) {nodes : ℕ} → nodes ≡ nodeWord s
     → set (replicate 65 0) 0 nodes ≡ filled 65 (exactWord rows s) (0 + 1)
 unfolding filled exactWord
 ways-first rows s p = ap (set (replicate 65 0) 0) p
@@ -65,16 +64,16 @@ module _ (rows leads ways : List ℕ) (r : ℕ) where
 
 module _ (rows leads : List ℕ) (steps s : ℕ) where
   -- no walk starts where no edge leaves
-  pub starts-not : getD rows s 0 ≡ 0 → false ≡ startsAt rows leads steps s
+  pub starts-not : {row : ℕ} → row ≡ getD rows s 0 → row ≡ 0 → false ≡ startsAt rows leads steps s
   unfolding startsAt
-  starts-not e = rw (eq-eqb (getD rows s 0) 0 e) refl
+  starts-not r e = rw (eq-eqb (getD rows s 0) 0 (sym r ∙ e)) refl
 
   -- else where the node is open
-  pub starts-open : {ways open-nodes : List ℕ} {word : ℕ} {b : Bool} → (getD rows s 0 ≡ 0 → ⊥) → ways ≡ waysTo rows s steps
+  pub starts-open : {ways open-nodes : List ℕ} {row word : ℕ} {b : Bool} → row ≡ getD rows s 0 → (row ≡ 0 → ⊥) → ways ≡ waysTo rows s steps
       → open-nodes ≡ openings rows leads ways steps → word ≡ getD open-nodes steps 0 → b ≡ has word s → b ≡ startsAt rows leads steps s
   unfolding startsAt
-  starts-open d p q e t =
+  starts-open r d p q e t =
       t
       ∙ ap (λ (w : ℕ). has w s)
       (e ∙ ap (λ (l : List ℕ). getD l steps 0) (q ∙ ap (λ (l : List ℕ). openings rows leads l steps) p))
-      ∙ rw (ne-eqb (getD rows s 0) 0 d) refl
+      ∙ rw (ne-eqb (getD rows s 0) 0 (λ z. d (r ∙ z))) refl

@@ -3,25 +3,17 @@ use mathlib.Core.Bool.{Bool, not, _&&_}
 use mathlib.Core.List.{List}
 use Prim.Native.Nat.{ℕ, zero, suc, min}
 use lib.Bits.{bitOr}
-use lib.Dec.{eqb, ltb}
+use lib.Dec.{eqb}
 use lib.ListN.{getD}
-use Rattle.spec_base.specs.Basic.{has, meets}
-use Rattle.walk_reach.specs.Layers.{withNode, wordBelow, filled}
+use Rattle.spec_base.specs.Basic.{has}
+use Rattle.walk_reach.specs.Layers.{filled, nodesInto, nodeWord}
 use Rattle.walk_reach.specs.Search.{firstFrom}
 
 -- ---- ways of an exact number of steps
 
--- the row of node x has one of the nodes
-unfoldable pub entersAt : List ℕ → ℕ → ℕ → Bool
-entersAt rows nodes x = meets (getD rows x 0) nodes
-
--- the nodes whose row has one of the nodes
-unfoldable pub nodesInto : List ℕ → ℕ → ℕ
-nodesInto rows nodes = wordBelow (entersAt rows nodes) 64
-
 -- the nodes from which exactly r steps lead to s; s itself where it is one of the 64
 unfoldable pub exactWord : List ℕ → ℕ → ℕ → ℕ
-exactWord rows s zero = withNode 0 (ltb s 64) s
+exactWord rows s zero = nodeWord s
 exactWord rows s (suc r) = nodesInto rows (exactWord rows s r)
 
 -- the words of at most so many steps, and at most 64

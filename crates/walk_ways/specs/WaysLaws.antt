@@ -1,28 +1,27 @@
 -- What the tables tell: from which nodes exactly so many steps lead to a node, where a walk of so many steps can still be opened, and at which node
 -- it can start.
 use mathlib.Core.Path.{_≡_, refl, sym, ap, ap₂, _∙_}
-use mathlib.Core.Bool.{Bool, true, false, cond, not, _&&_, _||_}
+use mathlib.Core.Bool.{Bool, true, false, not, _&&_, _||_}
 use mathlib.Core.List.{List}
-use mathlib.Core.Option.{none, some, Option·none-ne-some}
-use Prim.Native.Nat.{ℕ, zero, suc, _-_, _/_, _%_, _^_, _≤_, _<_, min, zero-le}
+use Prim.Native.Nat.{ℕ, zero, suc, _^_, _≤_, _<_, min, zero-le}
 use native.Mathlib.Omega.{arith}
-use lib.Dec.{eqb, ltb, leb}
+use lib.Dec.{eqb, ltb}
 use lib.ListN.{getD}
 use borrow.Author.Tests.{eqb-true, eq-eqb, ne-eqb, ltb-true}
 use Rattle.spec_base.specs.Basic.{any, numbers, has, meets}
 use Rattle.law_base.specs.BoolLaws.{true-false, same-test, and-true, and-of, not-of-false}
-use Rattle.law_base.specs.ListLaws.{any-numbers, any-numbers-of, some-injective}
+use Rattle.law_base.specs.ListLaws.{any-numbers, any-numbers-of}
 use Rattle.law_base.specs.SetLaws.{has-empty, has-nonzero, has-bitOr, has-bit, meets-has, has-meets}
-use Rattle.pick_laws.specs.declared.Pick.{Pick}
-use Rattle.pick_laws.specs.Completing.{opensBelow, exactly, needed, leads}
+use Rattle.pick_laws.specs.Completing.{exactly, needed, leads}
 use Rattle.pick_laws.specs.NeededLaws.{needed-none, needed-first, needed-later, needed-edge}
-use Rattle.edge_word.specs.Coding.{forwardPick, forwardEdge, backPick, backEdge, entry, forwardsIn, backsIn}
-use Rattle.walk_reach.specs.Layers.{withNode, joinedRows}
+use Rattle.edge_word.specs.Coding.{entry, forwardsIn, backsIn}
+use Rattle.edge_opens.specs.OpensLaws.{word-opens, word-leaves}
+use Rattle.walk_reach.specs.Layers.{withNode, joinedRows, entersAt, nodesInto, nodeWord}
 use Rattle.walk_reach.specs.NodeWordLaws.{word-in, word-inside}
 use Rattle.walk_reach.specs.FilledLaws.{filled-at}
 use Rattle.walk_reach.specs.LayerLaws.{first-has, row-at, row-has, row-meets}
 use Rattle.walk_reach.specs.SearchLaws.{first-bound, first-passes, first-least}
-use Rattle.walk_ways.specs.Ways.{entersAt, nodesInto, exactWord, waysTo, nextOpening, opening, openings, startsAt, firstStart}
+use Rattle.walk_ways.specs.Ways.{exactWord, waysTo, nextOpening, opening, openings, startsAt, firstStart}
 
 -- `leads` has for each node the nodes to which a dangerous pair leads from it
 abbrev pub LeadRows : List ℕ → List ℕ → ℕ → List ℕ → Type 0
@@ -54,7 +53,7 @@ into-has rows nodes x h = word-in (entersAt rows nodes) 64 x h
 
 -- the words of ways have nodes alone
 exact-inside : (rows : List ℕ) (s r k : ℕ) → has (exactWord rows s r) k ≡ true → k < 64
-unfolding exactWord nodesInto withNode
+unfolding exactWord nodesInto nodeWord withNode
 exact-inside rows s (suc r) k h = word-inside (entersAt rows (exactWord rows s r)) 64 k h
 exact-inside rows s zero k h = go (ltb s 64) (ltb-true s 64) h
   where
@@ -80,25 +79,6 @@ module _ (forwards : List ℕ) (n : ℕ) (full : n ≡ 64) where
   pub ways-has : (s steps r x : ℕ) → r ≤ steps → r ≤ 64 → x < n
       → has (getD (waysTo (joinedRows forwards) s steps) r 0) x ≡ exactly (forwardsIn forwards) n s r x
   ways-has s steps r x h l k = ap (λ (w : ℕ). has w x) (ways-at s steps r h l) ∙ exact-has s r x k
-
--- ---- the places of an edge's word
-
-pub word-opens : (x : ℕ) → opensBelow (forwardPick x) ≤ 1024
-unfolding forwardPick forwardEdge
-word-opens x = go (eqb x 0) (leb 2097152 x)
-  where
-    go : (b c : Bool) → opensBelow (cond b none (some (record { leaves = x % 1024; enters = x / 1024 % 1024; loose = c }))) ≤ 1024
-    go true c = omega arith
-    go false true = omega arith
-    go false false = omega arith
-
-pub word-leaves : (y : ℕ) (q : Pick) → backPick y ≡ some q → q .leaves < 1024
-unfolding backPick backEdge
-word-leaves y q = go (eqb y 0)
-  where
-    go : (b : Bool) → cond b none (some (record { leaves = 1023 - y / 1024 % 1024; enters = y % 1024; loose = true })) ≡ some q → q .leaves < 1024
-    go true h = absurd (Option·none-ne-some q h)
-    go false h = let same = ap (λ (p : Pick). p .leaves) (some-injective h) in omega arith
 
 -- ---- where a walk can start
 

@@ -2,29 +2,18 @@
 // has for each node the nodes to which a forward edge goes from it (walk_reach), `leads` those to which a dangerous pair of edges leads from it.
 
 use edge_word::NODES;
+use walk_reach::node_word;
+use walk_reach::nodes_into;
 use word_list::has_bit;
 use word_list::word_at;
-ghost use mathlib.Core.Bool.{true};
 ghost use mathlib.Core.Path.{_≡_};
 ghost use Prim.Native.Nat.{_≤_, _<_, min};
-ghost use Rattle.walk_reach.specs.Layers.{withNode};
-ghost use Rattle.walk_ways.specs.Ways.{nodesInto, waysTo, nextOpening, openings, startsAt, firstStart};
+ghost use Rattle.walk_ways.specs.Ways.{waysTo, nextOpening, openings, startsAt, firstStart};
 
 // The words of a table of ways, of 0 to 64 steps, and of one of openings, of 0 to 65.
 pub const WAYS: usize = 65;
 
 pub const OPENINGS: usize = 66;
-
-// The nodes of a word, and node k too where the test passed.
-fn with_node(word: u64, test: bool, k: usize) -> u64
-    requires { ⌜ (test ≡ true → k < 64) ⌝ }
-    ensures { λ r. ⌜ r ≡ withNode word test k ⌝ }
-{
-    if test {
-        return word | (1u64 << k);
-    }
-    word
-}
 
 // A number, but at most `most`.
 fn capped(x: usize, most: usize) -> usize
@@ -36,26 +25,13 @@ fn capped(x: usize, most: usize) -> usize
     most
 }
 
-// The nodes whose row has one of the nodes.
-fn nodes_into(rows: &[u64; NODES], nodes: u64) -> u64
-    ensures { λ r. ⌜ r ≡ nodesInto (now (rows .entry)) nodes ⌝ }
-{
-    let mut word: u64 = 0;
-    let mut x: usize = 0;
-    while x < NODES {
-        word = with_node(word, rows[x] & nodes != 0, x);
-        x += 1;
-    }
-    word
-}
-
 // For each number of steps up to `steps`, and up to 64, the nodes from which exactly so many forward steps lead to s; the other words are 0.
-pub fn ways_to(rows: &[u64; NODES], s: usize, steps: usize) -> [u64; WAYS]
+pub fn ways_to(rows: &[u64], s: usize, steps: usize) -> [u64; WAYS]
     ensures { λ r. ⌜ r ≡ waysTo (now (rows .entry)) s steps ⌝ }
 {
     let last = capped(steps, NODES);
     let mut ways = [0u64; WAYS];
-    let mut nodes = with_node(0, s < NODES, s);
+    let mut nodes = node_word(s);
     ways[0] = nodes;
     let mut r: usize = 0;
     while r < last {
@@ -67,13 +43,7 @@ pub fn ways_to(rows: &[u64; NODES], s: usize, steps: usize) -> [u64; WAYS]
 }
 
 // The nodes that are open with r + 1 steps left, where `nodes` are those with r left.
-fn next_opening(
-    rows: &[u64; NODES],
-    leads: &[u64; NODES],
-    ways: &[u64; WAYS],
-    r: usize,
-    nodes: u64,
-) -> u64
+fn next_opening(rows: &[u64], leads: &[u64], ways: &[u64; WAYS], r: usize, nodes: u64) -> u64
     requires { ⌜ r ≤ 65 ⌝ }
     ensures { λ x. ⌜ x ≡ nextOpening (now (rows .entry)) (now (leads .entry)) (now (ways .entry)) r nodes ⌝ }
 {
@@ -85,12 +55,7 @@ fn next_opening(
 
 // For each number of steps up to `steps`, and up to 65, the open nodes: those from which so many steps lead through a dangerous pair that is still
 // to come and complete the walk, where `ways` has for each number of steps the nodes from which so many forward steps end it. The other words are 0.
-pub fn openings(
-    rows: &[u64; NODES],
-    leads: &[u64; NODES],
-    ways: &[u64; WAYS],
-    steps: usize,
-) -> [u64; OPENINGS]
+pub fn openings(rows: &[u64], leads: &[u64], ways: &[u64; WAYS], steps: usize) -> [u64; OPENINGS]
     ensures { λ r. ⌜ r ≡ openings (now (rows .entry)) (now (leads .entry)) (now (ways .entry)) steps ⌝ }
 {
     let last = capped(steps, WAYS);
@@ -107,11 +72,11 @@ pub fn openings(
 }
 
 // Whether a closed walk of so many steps from s can have its dangerous pair at or after its first step. None can where no forward edge leaves s.
-fn starts_at(rows: &[u64; NODES], leads: &[u64; NODES], s: usize, steps: usize) -> bool
+fn starts_at(rows: &[u64], leads: &[u64], s: usize, steps: usize) -> bool
     requires { ⌜ s < 64 ⌝ }
     ensures { λ r. ⌜ r ≡ startsAt (now (rows .entry)) (now (leads .entry)) steps s ⌝ }
 {
-    if rows[s] == 0 {
+    if word_at(rows, s) == 0 {
         return false;
     }
     let ways = ways_to(rows, s, steps);
@@ -120,7 +85,7 @@ fn starts_at(rows: &[u64; NODES], leads: &[u64; NODES], s: usize, steps: usize) 
 }
 
 // The first node at which a dangerous walk of so many steps can start so, or 64 where there is none.
-pub fn first_start(rows: &[u64; NODES], leads: &[u64; NODES], steps: usize) -> usize
+pub fn first_start(rows: &[u64], leads: &[u64], steps: usize) -> usize
     ensures { λ r. ⌜ r ≡ firstStart (now (rows .entry)) (now (leads .entry)) steps ⌝ }
 {
     let mut s: usize = 0;

@@ -48,9 +48,10 @@ module _ (forwards rows : List ℕ) (s : ℕ) (table : List ℕ) (i : ℕ) where
   widest-first h p = rw (lt-ltb i 64 h) p
 
   -- one of a later row
-  pub widest-later : {w : ℕ} → 64 ≤ i → w ≡ greatestIn table ((i / 64 - 1) * 64) (getD rows (i % 64) 0) → w ≡ widestFrom forwards rows s table i
+  pub widest-later : {w nodes : ℕ} → 64 ≤ i → nodes ≡ getD rows (i % 64) 0 → w ≡ greatestIn table ((i / 64 - 1) * 64) nodes
+      → w ≡ widestFrom forwards rows s table i
   unfolding widestFrom
-  widest-later h p = rw (le-ltb i 64 h) p
+  widest-later h e p = rw (le-ltb i 64 h) (p ∙ ap (greatestIn table ((i / 64 - 1) * 64)) e)
 
   -- the words before it are enough
   pub widest-turn : {w : ℕ} → i < 4096 → table ≡ filled 4096 (widestAt forwards rows s) i → w ≡ widestFrom forwards rows s table i

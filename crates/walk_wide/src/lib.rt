@@ -60,24 +60,19 @@ fn width_into(forwards: &[u64], s: usize, x: usize) -> u64
 }
 
 // Word i of the table, from the words before it.
-fn widest_from(
-    forwards: &[u64],
-    rows: &[u64; NODES],
-    s: usize,
-    table: &[u64; PAIRS],
-    i: usize,
-) -> u64
+fn widest_from(forwards: &[u64], rows: &[u64], s: usize, table: &[u64; PAIRS], i: usize) -> u64
     requires { ⌜ i < 4096 ⌝ }
     ensures { λ r. ⌜ r ≡ widestFrom (now (forwards .entry)) (now (rows .entry)) s (now (table .entry)) i ⌝ }
 {
     if i < NODES {
         return width_into(forwards, s, i);
     }
-    greatest_in(table, (i / NODES - 1) * NODES, rows[i % NODES])
+    let nodes = word_at(rows, i % NODES);
+    greatest_in(table, (i / NODES - 1) * NODES, nodes)
 }
 
 // At r * 64 + x, for r below `rounds` and below 64, how far the last of exactly r + 1 forward steps from x to s can open; the other words are 0.
-pub fn widest_table(forwards: &[u64], rows: &[u64; NODES], s: usize, rounds: usize) -> [u64; PAIRS]
+pub fn widest_table(forwards: &[u64], rows: &[u64], s: usize, rounds: usize) -> [u64; PAIRS]
     ensures { λ r. ⌜ r ≡ widestTable (now (forwards .entry)) (now (rows .entry)) s rounds ⌝ }
 {
     let last = capped(rounds, NODES) * NODES;

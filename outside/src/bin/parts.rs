@@ -140,8 +140,8 @@ fn check_text(random: &mut Random, text: &[u8], most: usize, tally: &mut Tally) 
         tally.left_out += 1;
         return Ok(());
     };
-    let places = QuickPlaces::of(&unfolded.spots);
-    let graph = Graph::of(&places, unfolded.unfoldings.all().iter().map(|node| node.length as usize));
+    let (places, mut marks) = (QuickPlaces::of(&unfolded.unfoldings, &unfolded.spots), Marks::default());
+    let graph = Graph::of(&places, &mut marks, unfolded.unfoldings.all().iter().map(|node| node.length as usize));
     let robust = first_walk(&graph, u64::MAX, &mut [EMPTY_STEP; MAX_STEPS]) == 0;
     let edges = list(&unfolded.unfoldings, &unfolded.spots);
     let whole = Whole { text, lines: unfolded.workload.taken(), unfolded: &unfolded, graph: &graph, edges, robust };

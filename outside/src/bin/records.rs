@@ -12,10 +12,11 @@ use outside::stages::*;
 #[path = "../rattle.rs"]
 mod rattle;
 
+
 #[cfg(rattle)]
-const OTHER: (&str, fn(&[u8], &mut [Edge]) -> u32) = ("the proved code", rattle::edges);
+const OTHER: (&str, fn(&[u8], &mut Desk, &mut [Edge]) -> u32) = ("the proved code", rattle::edges);
 #[cfg(not(rattle))]
-const OTHER: (&str, fn(&[u8], &mut [Edge]) -> u32) = ("itself (built without RATTLE_LIB)", edges_stage);
+const OTHER: (&str, fn(&[u8], &mut Desk, &mut [Edge]) -> u32) = ("itself (built without RATTLE_LIB)", edges_stage);
 
 /// What untouched cells hold.
 const MARK: Edge = Edge { node: 77, leaves: 77, into: 77, enters: 77, sharing: 77, lowest: 77, flow: b'?', letter: b'?' };
@@ -24,11 +25,11 @@ fn main() {
     let (words, locks) = words_and_locks();
     let number = |at: usize| words.get(at).and_then(|word| word.parse::<u64>().ok()).expect("usage: records SEED COUNT [--locks]");
     let (seed, count) = (number(1), number(2));
-    let mut own = vec![MARK; MOST_EDGES];
+    let (mut desk, mut own) = (Desk::new(), vec![MARK; MOST_EDGES]);
     let (mut records, mut refused) = (0, 0);
     for k in 0..count {
         let text = text_number(seed, k, locks);
-        let result = edges_stage(&text, &mut own);
+        let result = edges_stage(&text, &mut desk, &mut own);
         if result >> 31 == 1 {
             refused += 1;
             compare(&text, k, &[], result, 10);
@@ -48,7 +49,7 @@ fn main() {
 /// The other side on an area of so many cells: the result, the records at its front, and the rest as it was.
 fn compare(text: &[u8], number: u64, edges: &[Edge], result: u32, room: usize) {
     let mut area = vec![MARK; room];
-    let other = OTHER.1(text, &mut area);
+    let other = OTHER.1(text, &mut Desk::new(), &mut area);
     let front = area[..edges.len()] == *edges;
     let rest = area[edges.len()..].iter().all(|cell| *cell == MARK);
     if other != result || !front || !rest {

@@ -42,7 +42,8 @@ fn main() {
     for k in 0..count {
         let mut random = Random::numbered(seed, k).with_locks(locks);
         let drawn = Drawn::draw(&mut random);
-        let graph = Graph::of(&drawn, drawn.lengths.iter().copied());
+        let mut marks = Marks::default();
+        let graph = Graph::of(&drawn, &mut marks, drawn.lengths.iter().copied());
         compare(&mut random, &graph, MOST_PAIRS, &mut graphs, &|| format!("random graph {k}"));
         let text = draw_text(&mut random);
         compare_text(&mut random, &text, MOST_PAIRS, &mut workloads);
@@ -64,8 +65,8 @@ fn main() {
 /// A text's graph, unless it is refused.
 fn compare_text(random: &mut Random, text: &[u8], most_pairs: usize, tally: &mut Tally) {
     let Ok(unfolded) = unfolded(text) else { return };
-    let places = QuickPlaces::of(&unfolded.spots);
-    let graph = Graph::of(&places, unfolded.unfoldings.all().iter().map(|node| node.length as usize));
+    let (places, mut marks) = (QuickPlaces::of(&unfolded.unfoldings, &unfolded.spots), Marks::default());
+    let graph = Graph::of(&places, &mut marks, unfolded.unfoldings.all().iter().map(|node| node.length as usize));
     compare(random, &graph, most_pairs, tally, &|| String::from_utf8_lossy(text).into_owned());
 }
 

@@ -1,30 +1,20 @@
 -- The words are the counts of the state: so `first_fault` is given the tests that `checkAs` lists for a program, where no block may be open.
 use Rattle.line_state.specs.StateSteps.{roomOf, orderedOf, namedAs, setsFitAs, isLinkOf}
 use Rattle.line_state.specs.StateWords.{stateIn}
-use native.Mathlib.Omega.{arith}
-use mathlib.Core.Path.{_≡_, refl, ap, sym, _∙_}
-use Prim.Native.Nat.{ℕ, _+_, _-_, _*_, _≤_, _<_}
-use lib.ListN.{length, set, getD, length-set, take, drop}
 use borrow.Author.Needs.{needs}
 use Rattle.line_check.proofs.check_program.Statement.{statement}
 use Rattle.line_check.proofs.check_program.Tie as tie
 
-word-at-requires : tie.Need-word-at-requires
-word-at-requires c κs = search needs
-
-word-at-requires-2 : tie.Need-word-at-requires-2
-word-at-requires-2 c κs = search needs
-
-cast-first-fault : tie.Need-cast-first-fault
-cast-first-fault c = search needs
-
-first-fault-requires : tie.Need-first-fault-requires
-first-fault-requires c κs = search needs
-
 returns : tie.Need-returns
 unfolding stateIn roomOf orderedOf namedAs setsFitAs isLinkOf
-returns c = rw (c .first-fault .ensures, c .before .before .word-at2 .ensures, c .before .before .before .word-at .ensures)
+returns c = c .first-fault .ensures
 
 pub check-program-spec : {M : Type 1} → statement M
 check-program-spec =
-    tie.close (tie.spec word-at-requires word-at-requires-2 cast-first-fault first-fault-requires returns)
+    tie.close
+    (tie.spec
+    (λ c. search needs)
+    (λ c. search needs)
+    (λ c. search needs)
+    (λ c κs. search needs)
+    returns)

@@ -4,15 +4,9 @@ use borrow.Author.Needs.{needs}
 use Rattle.line_check.proofs.innermost.Statement.{statement}
 use Rattle.line_check.proofs.innermost.Tie as tie
 
-word-at-requires : tie.Need-word-at-requires
-word-at-requires c κs = search needs
-
-cell-requires : tie.Need-cell-requires
-cell-requires c κs = search needs
-
 returns : tie.Need-returns
 unfolding stateIn
-returns c = rw (c .cell .ensures, c .before .word-at .ensures)
+returns c = rw (c .cell .ensures)
 
 pub innermost-spec : {M : Type 1} → statement M
-innermost-spec = tie.close (tie.spec word-at-requires cell-requires returns)
+innermost-spec = tie.close (tie.spec (λ c. search needs) (λ c κs. search needs) returns)

@@ -4,14 +4,9 @@ use Rattle.line_rules.specs.WordsHoldLaws.{words-check}
 use borrow.Author.Needs.{needs}
 use Rattle.line_rules.proofs.check.Statement.{statement}
 use Rattle.line_rules.proofs.check.Tie as tie
-use Rattle.line_rules.proofs.check.Reads as reads
-use Rattle.line_rules.proofs.check.Lts as lts
-
-check-requires : tie.Need-check-requires
-check-requires c κs = search needs
 
 returns : tie.Need-returns
-returns c = (c .check .ensures, words-check (c .before .before .args .l) (c .check .ensures))
+returns c = (c .check .ensures, words-check (c .before .args .l) (c .check .ensures))
 
 pub check-spec : {M : Type 1} → statement M
-check-spec = tie.close (tie.spec check-requires returns)
+check-spec = tie.close (tie.spec (λ c κs. search needs) returns)

@@ -3,17 +3,9 @@ use Rattle.line_rules.specs.WordsHoldLaws.{words-take}
 use borrow.Author.Needs.{needs}
 use Rattle.line_rules.proofs.take.Statement.{statement}
 use Rattle.line_rules.proofs.take.Tie as tie
-use Rattle.line_rules.proofs.take.Reads as reads
-use Rattle.line_rules.proofs.take.Lts as lts
-
-take-requires : tie.Need-take-requires
-take-requires c κs = search needs
-
-same-length : tie.Need-same-length
-same-length c = search needs
 
 returns : tie.Need-returns
-returns c = (c .before .before .take .ensures, words-take (c .before .before .take .ensures))
+returns c = (c .take .ensures, words-take (c .take .ensures))
 
 pub take-spec : {M : Type 1} → statement M
-take-spec = tie.close (tie.spec take-requires same-length returns)
+take-spec = tie.close (tie.spec (λ c κs. search needs) returns)

@@ -14,40 +14,35 @@ use Rattle.text_before.proofs.before_lines.Statement.{statement}
 use Rattle.text_before.proofs.before_lines.Tie as tie
 
 abbrev Inv-loop : tie.InvT-loop
-Inv-loop text start words₀ at₀ words at = (length words ≡ 424) × Taking text start words at
+Inv-loop text start words₀ at₀ words at = Taking text start words at
 
 abbrev μ-loop : tie.MeasureT-loop
 μ-loop text start words₀ at₀ words at = length text - at
 
 -- where the reader has come to a line
 line-at : (c : tie.After-known-told Inv-loop μ-loop) → AtLine (c .before .span .given .0 .0)
-    ≡ lineAt (c .before .before .before .before .before .before .before .before .before .args .text .now)
+    ≡ lineAt (c .before .before .before .before .before .before .before .before .args .text .now)
     (c .before .before .before .before .loop .at) 0
 line-at c = sym (c .before .span .given .1) ∙ c .before .before .before .line-from .ensures
 
 -- what that line is
 came-at : (c : tie.After-known-told Inv-loop μ-loop)
-    → Came (c .before .before .before .before .before .before .before .before .before .args .text .now)
+    → Came (c .before .before .before .before .before .before .before .before .args .text .now)
     (c .before .before .before .before .loop .at) 0 (c .before .span .given .0 .0)
 came-at c = came _ _ _ (line-at c)
 
 -- where it has come to the end
 end-at : (c : tie.After-enum-told Inv-loop μ-loop) → AtEnd
-    ≡ lineAt (c .before .before .before .before .before .before .before .before .args .text .now) (c .before .before .before .loop .at) 0
+    ≡ lineAt (c .before .before .before .before .before .before .before .args .text .now) (c .before .before .before .loop .at) 0
 end-at c = sym (c .enum-told .given .1) ∙ c .before .before .line-from .ensures
-
-slice-aggregate-start : tie.Need-slice-aggregate-start Inv-loop μ-loop
-slice-aggregate-start c = search needs
 
 start-requires : tie.Need-start-requires Inv-loop μ-loop
 start-requires c κs = search needs
 
 loop-holds : tie.Need-loop-holds Inv-loop μ-loop
-loop-holds c = (
-  search needs,
-  taking-first (c .before .before .before .before .args .text .now) (c .before .before .before .before .args .start)
-      (c .before .start .ensures .1 (omega (arith, length-replicate {A = ℕ} 424 0))),
-)
+loop-holds c =
+    let entry = c .before .before .before in
+    taking-first (entry .args .text .now) (entry .args .start) (c .start .ensures .1 (omega (arith, length-replicate {A = ℕ} 424 0)))
 
 line-from-requires : tie.Need-line-from-requires Inv-loop μ-loop
 line-from-requires c κs = search needs
@@ -57,9 +52,6 @@ enum-known-span c = search needs
 
 enum-told : tie.Need-enum-told Inv-loop μ-loop
 enum-told c = search needs
-
-slice-aggregate-see-bytes : tie.Need-slice-aggregate-see-bytes Inv-loop μ-loop
-slice-aggregate-see-bytes c = search needs
 
 sub-see-bytes : tie.Need-sub-see-bytes Inv-loop μ-loop
 sub-see-bytes c = came-at (c .before) .starts
@@ -73,38 +65,31 @@ part-see-bytes-end c = let here = came-at (c .before) in omega arith
 see-bytes-requires : tie.Need-see-bytes-requires Inv-loop μ-loop
 see-bytes-requires c κs = search needs
 
-slice-aggregate-counted : tie.Need-slice-aggregate-counted Inv-loop μ-loop
-slice-aggregate-counted c = search needs
-
 counted-requires : tie.Need-counted-requires Inv-loop μ-loop
 counted-requires c κs = search needs
 
 returns : tie.Need-returns Inv-loop μ-loop
 returns c =
+    let seen = c .before .before .before .before in
     c .counted .ensures _
-    (taking-stops (c .before .before .before .before .before .before .before .before .before .before .before .before .loop .inv .1)
-    (line-at (c .before .before .before .before .before .before .before .before))
-    (c .before .before .before .before .before .see-bytes .ensures) (c .before .before .if1 .taken))
+    (taking-stops (seen .before .before .before .before .before .before .before .loop .inv) (line-at (seen .before .before .before))
+    (seen .see-bytes .ensures) (c .before .before .if1 .taken))
 
 loop-less : tie.Need-loop-less Inv-loop μ-loop
-loop-less c = let here = came-at (c .before .before .before .before .before .before) in omega arith
+loop-less c = let here = came-at (c .before .before .before .before .before) in omega arith
 
 loop-again : tie.Need-loop-again Inv-loop μ-loop
-loop-again c = (
-  search needs,
-  taking-next (c .before .before .before .before .before .before .before .before .before .before .loop .inv .1)
-      (line-at (c .before .before .before .before .before .before)) (c .before .before .before .see-bytes .ensures) (c .if1 .left),
-)
-
-slice-aggregate-counted-2 : tie.Need-slice-aggregate-counted-2 Inv-loop μ-loop
-slice-aggregate-counted-2 c = search needs
+loop-again c =
+    let seen = c .before .before in
+    taking-next (seen .before .before .before .before .before .before .before .loop .inv) (line-at (seen .before .before .before))
+    (seen .see-bytes .ensures) (c .if1 .left)
 
 counted-requires-2 : tie.Need-counted-requires-2 Inv-loop μ-loop
 counted-requires-2 c κs = search needs
 
 returns-2 : tie.Need-returns-2 Inv-loop μ-loop
 returns-2 c =
-    c .counted2 .ensures _ (taking-ends (c .before .before .before .before .before .loop .inv .1) (end-at (c .before .before)))
+    c .counted2 .ensures _ (taking-ends (c .before .before .before .before .before .loop .inv) (end-at (c .before .before)))
 
 pub before-lines-spec : {M : Type 1} → statement M
 before-lines-spec =
@@ -112,22 +97,18 @@ before-lines-spec =
     (tie.spec
     Inv-loop
     μ-loop
-    slice-aggregate-start
     start-requires
     loop-holds
     line-from-requires
     enum-known-span
     enum-told
-    slice-aggregate-see-bytes
     sub-see-bytes
     part-see-bytes-start
     part-see-bytes-end
     see-bytes-requires
-    slice-aggregate-counted
     counted-requires
     returns
     loop-less
     loop-again
-    slice-aggregate-counted-2
     counted-requires-2
     returns-2)

@@ -15,45 +15,40 @@ use Rattle.text_read.proofs.read_lines.Statement.{statement}
 use Rattle.text_read.proofs.read_lines.Tie as tie
 
 abbrev Inv-loop : tie.InvT-loop
-Inv-loop text start w₀ words₀ at₀ line₀ w words at line = (length words ≡ 424) × Going text start w words at line
+Inv-loop text start w₀ words₀ at₀ line₀ w words at line = Going text start w words at line
 
 abbrev μ-loop : tie.MeasureT-loop
 μ-loop text start w₀ words₀ at₀ line₀ w words at line = length text - at
 
 -- where the reader has come to a line
 line-at : (c : tie.After-known-told Inv-loop μ-loop) → AtLine (c .before .span .given .0 .0)
-    ≡ lineAt (c .before .before .before .before .before .before .before .before .before .before .args .text .now)
+    ≡ lineAt (c .before .before .before .before .before .before .before .before .before .args .text .now)
     (c .before .before .before .before .loop .at) (c .before .before .before .before .loop .line)
 line-at c = sym (c .before .span .given .1) ∙ c .before .before .before .line-from .ensures
 
 -- what that line is
 came-at : (c : tie.After-known-told Inv-loop μ-loop)
-    → Came (c .before .before .before .before .before .before .before .before .before .before .args .text .now)
+    → Came (c .before .before .before .before .before .before .before .before .before .args .text .now)
     (c .before .before .before .before .loop .at) (c .before .before .before .before .loop .line) (c .before .span .given .0 .0)
 came-at c = came _ _ _ (line-at c)
 
 -- where it has come to the end
 end-at : (c : tie.After-enum-told Inv-loop μ-loop) → AtEnd
-    ≡ lineAt (c .before .before .before .before .before .before .before .before .before .args .text .now)
+    ≡ lineAt (c .before .before .before .before .before .before .before .before .args .text .now)
     (c .before .before .before .loop .at) (c .before .before .before .loop .line)
 end-at c = sym (c .enum-told .given .1) ∙ c .before .before .line-from .ensures
 
 unused-cells-requires : tie.Need-unused-cells-requires Inv-loop μ-loop
 unused-cells-requires c κs = search needs
 
-slice-aggregate-start : tie.Need-slice-aggregate-start Inv-loop μ-loop
-slice-aggregate-start c = search needs
-
 start-requires : tie.Need-start-requires Inv-loop μ-loop
 start-requires c κs = search needs
 
 loop-holds : tie.Need-loop-holds Inv-loop μ-loop
-loop-holds c = (
-  search needs,
-  going-first (c .before .before .before .before .before .args .text .now) (c .before .before .before .before .before .args .start)
-      (c .before .before .before .unused-cells .ensures)
-      (c .before .start .ensures .1 (omega (arith, length-replicate {A = ℕ} 424 0))),
-)
+loop-holds c =
+    let entry = c .before .before .before .before in
+    going-first (entry .args .text .now) (entry .args .start) (c .before .before .unused-cells .ensures)
+    (c .start .ensures .1 (omega (arith, length-replicate {A = ℕ} 424 0)))
 
 line-from-requires : tie.Need-line-from-requires Inv-loop μ-loop
 line-from-requires c κs = search needs
@@ -63,9 +58,6 @@ enum-known-span c = search needs
 
 enum-told : tie.Need-enum-told Inv-loop μ-loop
 enum-told c = search needs
-
-slice-aggregate-see-bytes : tie.Need-slice-aggregate-see-bytes Inv-loop μ-loop
-slice-aggregate-see-bytes c = search needs
 
 sub-see-bytes : tie.Need-sub-see-bytes Inv-loop μ-loop
 sub-see-bytes c = came-at (c .before) .starts
@@ -86,48 +78,43 @@ returns : tie.Need-returns Inv-loop μ-loop
 returns c =
     c .refused .ensures
     ∙ ap parsedAs
-    (going-refused (c .before .before .before .before .before .before .before .before .before .before .loop .inv .1)
-    (line-at (c .before .before .before .before .before .before)) (c .before .before .before .see-bytes .ensures) (c .before .if1 .taken))
+    (going-refused (c .before .before .before .before .before .before .before .before .before .loop .inv)
+    (line-at (c .before .before .before .before .before)) (c .before .before .see-bytes .ensures) (c .before .if1 .taken))
 
 mul-l : tie.Need-mul-l Inv-loop μ-loop
 mul-l c = omega (
   arith,
-  going-room (c .before .before .before .before .before .before .before .before .before .before .loop .inv .1)
-      (c .before .before .before .see-bytes .ensures) (c .before .if1 .left),
+  going-room (c .before .before .before .before .before .before .before .before .before .loop .inv)
+      (c .before .before .see-bytes .ensures) (c .before .if1 .left),
 )
 
 element-set-from-l : tie.Need-element-set-from-l Inv-loop μ-loop
 element-set-from-l c = omega (
   arith,
-  going-room (c .before .before .before .before .before .before .before .before .before .before .loop .inv .1)
-      (c .before .before .before .see-bytes .ensures) (c .before .if1 .left),
+  going-room (c .before .before .before .before .before .before .before .before .before .loop .inv)
+      (c .before .before .see-bytes .ensures) (c .before .if1 .left),
 )
 
 add-w : tie.Need-add-w Inv-loop μ-loop
 add-w c = omega (
   arith,
-  going-room (c .before .before .before .before .before .before .before .before .before .before .loop .inv .1)
-      (c .before .before .before .see-bytes .ensures) (c .before .if1 .left),
+  going-room (c .before .before .before .before .before .before .before .before .before .loop .inv)
+      (c .before .before .see-bytes .ensures) (c .before .if1 .left),
 )
 
 loop-less : tie.Need-loop-less Inv-loop μ-loop
-loop-less c = let here = came-at (c .before .before .before .before .before .before) in omega arith
+loop-less c = let here = came-at (c .before .before .before .before .before) in omega arith
 
 loop-again : tie.Need-loop-again Inv-loop μ-loop
-loop-again c = (
-  search needs,
-  going-next (c .before .before .before .before .before .before .before .before .before .before .loop .inv .1)
-      (line-at (c .before .before .before .before .before .before)) (c .before .before .before .see-bytes .ensures) (c .before .if1 .left),
-)
-
-slice-aggregate-depth : tie.Need-slice-aggregate-depth Inv-loop μ-loop
-slice-aggregate-depth c = search needs
+loop-again c =
+    going-next (c .before .before .before .before .before .before .before .before .before .loop .inv)
+    (line-at (c .before .before .before .before .before)) (c .before .before .see-bytes .ensures) (c .before .if1 .left)
 
 depth-requires : tie.Need-depth-requires Inv-loop μ-loop
 depth-requires c κs = search needs
 
 sub-refused : tie.Need-sub-refused Inv-loop μ-loop
-sub-refused c = omega (arith, going-few (c .before .before .before .before .before .before .loop .inv .1) .1)
+sub-refused c = omega (arith, going-few (c .before .before .before .before .before .before .loop .inv) .1)
 
 refused-requires-2 : tie.Need-refused-requires-2 Inv-loop μ-loop
 refused-requires-2 c κs = search needs
@@ -136,12 +123,12 @@ returns-2 : tie.Need-returns-2 Inv-loop μ-loop
 returns-2 c =
     c .refused2 .ensures
     ∙ ap parsedAs
-    (going-open (c .before .before .before .before .before .before .before .loop .inv .1) (end-at (c .before .before .before .before))
+    (going-open (c .before .before .before .before .before .before .before .loop .inv) (end-at (c .before .before .before .before))
     (c .before .before .depth .ensures .1) (c .before .if2 .taken))
 
 returns-3 : tie.Need-returns-3 Inv-loop μ-loop
 returns-3 c =
-    going-closed (c .before .before .before .before .before .before .loop .inv .1) (end-at (c .before .before .before))
+    going-closed (c .before .before .before .before .before .before .loop .inv) (end-at (c .before .before .before))
     (c .before .depth .ensures .1) (c .if2 .left)
 
 pub read-lines-spec : {M : Type 1} → statement M
@@ -151,13 +138,11 @@ read-lines-spec =
     Inv-loop
     μ-loop
     unused-cells-requires
-    slice-aggregate-start
     start-requires
     loop-holds
     line-from-requires
     enum-known-span
     enum-told
-    slice-aggregate-see-bytes
     sub-see-bytes
     part-see-bytes-start
     part-see-bytes-end
@@ -169,7 +154,6 @@ read-lines-spec =
     add-w
     loop-less
     loop-again
-    slice-aggregate-depth
     depth-requires
     sub-refused
     refused-requires-2

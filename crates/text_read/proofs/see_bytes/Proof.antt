@@ -22,21 +22,17 @@ see-value-requires c κs = search needs
 enum-told : tie.Need-enum-told
 enum-told c = search needs
 
-same-length : tie.Need-same-length
-same-length c = search needs
-
 returns : tie.Need-returns
 returns c =
-    let line = answered-value {o = lineOf (c .before .before .before .before .before .before .before .before .before .before .args .bytes .now)}
-    (ap lineAnswer (sym (c .before .before .before .before .before .r .given .1))
-    ∙ c .before .before .before .before .before .before .before .line-of .ensures)
-    in
-    rw line (c .before .before .see-value .ensures)
+    let seen = c .before .before .before in
+    let line = answered-value {o = lineOf (seen .before .before .before .before .args .bytes .now)}
+    (ap lineAnswer (sym (seen .r .given .1)) ∙ seen .before .before .line-of .ensures) in
+    rw line (c .see-value .ensures)
 
 returns-2 : tie.Need-returns-2
 unfolding unusedLine
 returns-2 c =
-    let none-read = answered-refusal {o = lineOf (c .before .before .before .before .before .args .bytes .now)}
+    let none-read = answered-refusal {o = lineOf (c .before .before .before .before .args .bytes .now)}
     (ap lineAnswer (sym (c .enum-told .given .1)) ∙ c .before .before .line-of .ensures) in
     rw none-read (saw-wrong _ refl refl)
 
@@ -48,6 +44,5 @@ see-bytes-spec =
     enum-known-r
     see-value-requires
     enum-told
-    same-length
     returns
     returns-2)

@@ -1,116 +1,36 @@
--- A value that no text gives is refused by 21 (not-given-places). Else codes, numbers and marks are those of its lines, so what `unfold_tables`
--- writes are words for the nodes' places (settled-places).
-use Rattle.unfold.proofs.UnfoldSettledLaws.{
-  not-given-places,
-  table-codes,
-  table-numbers,
-  table-marks,
-  part-fits,
-  part-length,
-  codes-length,
-  numbers-length,
-  marks-length,
-  ready-places,
-  settled-places,
-}
-use borrow.Author.Tests.{not-true, not-false}
+-- A value that no text gives is refused by 21 (not-given-places). Else the table is that of its lines, and what is written over it are the words
+-- for the nodes' places (settled-places).
 use native.Mathlib.Omega.{arith}
-use mathlib.Core.Path.{_≡_, refl, ap, sym, _∙_}
-use Prim.Native.Nat.{ℕ, _+_, _-_, _*_, _≤_, _<_}
-use lib.ListN.{length, set, getD, length-set, take, drop}
 use borrow.Author.Needs.{needs}
+use borrow.Author.Tests.{not-true, not-false}
+use Rattle.law_text.specs.ValueLaws.{given-fits}
+use Rattle.unfold.proofs.PrefixLaws.{prefix-many}
+use Rattle.unfold.proofs.UnfoldSettledLaws.{not-given-places, settled-places}
 use Rattle.unfold.proofs.unfold_places.Statement.{statement}
 use Rattle.unfold.proofs.unfold_places.Tie as tie
-use Rattle.unfold.proofs.unfold_places.Reads as reads
-use Rattle.unfold.proofs.unfold_places.Lts as lts
-use Rattle.value_given.proofs.is_given.Reads as is-given-reads
-use Rattle.value_tables.proofs.write_tables.Reads as write-tables-reads
-use Rattle.unfold.proofs.refused.Reads as refused-reads
-use Rattle.unfold.proofs.unfold_tables.Reads as unfold-tables-reads
 
 returns : tie.Need-returns
-returns c =
-    not-given-places _ _ _ (c .before .before .is-given .ensures .no (not-true _ (c .before .if1 .taken))) (c .refused .ensures)
+returns c = not-given-places _ _ _ (c .before .before .is-given .ensures .no (not-true _ (c .before .if1 .taken))) (c .refused .ensures)
 
-array-share-prefix-codes : tie.Need-array-share-prefix-codes
-array-share-prefix-codes c =
+array-share-prefix-lines : tie.Need-array-share-prefix-lines
+array-share-prefix-lines c =
+    let c3 = c .before .before .before in
+    omega (arith, c .line-table .ensures .1, given-fits (c3 .is-given .ensures .yes (not-false _ (c .before .before .if1 .left))))
+
+slice-aggregate-unfold-line-places : tie.Need-slice-aggregate-unfold-line-places
+slice-aggregate-unfold-line-places c =
     let c3 = c .before .before .before in
     let c4 = c3 .before in
-    let c5 = c4 .before in
-    let entry = c5 .before .before in
-    part-fits (entry .args .w) (c5 .is-given .ensures .yes (not-false _ (c4 .if1 .left))) (c3 .write-tables .result .codes)
-    (codes-length (entry .args .w) (c5 .is-given .ensures .yes (not-false _ (c4 .if1 .left))) (c3 .write-tables .result .codes)
-    (table-codes _ _ (c3 .write-tables .ensures)))
-
-slice-aggregate-unfold-tables : tie.Need-slice-aggregate-unfold-tables
-slice-aggregate-unfold-tables c =
-    let c4 = c .before .before .before .before in
-    let c5 = c4 .before in
-    let c6 = c5 .before in
-    let entry = c6 .before .before in
-    part-length (entry .args .w) (c6 .is-given .ensures .yes (not-false _ (c5 .if1 .left))) (c4 .write-tables .result .codes)
-    (codes-length (entry .args .w) (c6 .is-given .ensures .yes (not-false _ (c5 .if1 .left))) (c4 .write-tables .result .codes)
-    (table-codes _ _ (c4 .write-tables .ensures)))
-
-array-share-prefix-words : tie.Need-array-share-prefix-words
-array-share-prefix-words c =
-    let c4 = c .before .before .before .before in
-    let c5 = c4 .before in
-    let c6 = c5 .before in
-    let entry = c6 .before .before in
-    part-fits (entry .args .w) (c6 .is-given .ensures .yes (not-false _ (c5 .if1 .left))) (c4 .write-tables .result .numbers)
-    (numbers-length (entry .args .w) (c6 .is-given .ensures .yes (not-false _ (c5 .if1 .left))) (c4 .write-tables .result .numbers)
-    (table-numbers _ _ (c4 .write-tables .ensures)))
-
-slice-aggregate-unfold-tables-2 : tie.Need-slice-aggregate-unfold-tables-2
-slice-aggregate-unfold-tables-2 c =
-    let c5 = c .before .before .before .before .before in
-    let c6 = c5 .before in
-    let c7 = c6 .before in
-    let entry = c7 .before .before in
-    part-length (entry .args .w) (c7 .is-given .ensures .yes (not-false _ (c6 .if1 .left))) (c5 .write-tables .result .numbers)
-    (numbers-length (entry .args .w) (c7 .is-given .ensures .yes (not-false _ (c6 .if1 .left))) (c5 .write-tables .result .numbers)
-    (table-numbers _ _ (c5 .write-tables .ensures)))
-
-array-share-prefix-marks : tie.Need-array-share-prefix-marks
-array-share-prefix-marks c =
-    let c5 = c .before .before .before .before .before in
-    let c6 = c5 .before in
-    let c7 = c6 .before in
-    let entry = c7 .before .before in
-    part-fits (entry .args .w) (c7 .is-given .ensures .yes (not-false _ (c6 .if1 .left))) (c5 .write-tables .result .marks)
-    (marks-length (entry .args .w) (c7 .is-given .ensures .yes (not-false _ (c6 .if1 .left))) (c5 .write-tables .result .marks)
-    (table-marks _ _ (c5 .write-tables .ensures)))
-
-slice-aggregate-unfold-tables-3 : tie.Need-slice-aggregate-unfold-tables-3
-slice-aggregate-unfold-tables-3 c =
-    let c6 = c .before .before .before .before .before .before in
-    let c7 = c6 .before in
-    let c8 = c7 .before in
-    let entry = c8 .before .before in
-    part-length (entry .args .w) (c8 .is-given .ensures .yes (not-false _ (c7 .if1 .left))) (c6 .write-tables .result .marks)
-    (marks-length (entry .args .w) (c8 .is-given .ensures .yes (not-false _ (c7 .if1 .left))) (c6 .write-tables .result .marks)
-    (table-marks _ _ (c6 .write-tables .ensures)))
-
-unfold-tables-requires : tie.Need-unfold-tables-requires
-unfold-tables-requires c κs =
-    let c7 = c .before .before .before .before .before .before .before in
-    let c8 = c7 .before in
-    let c9 = c8 .before in
-    let entry = c9 .before .before in
-    ready-places (entry .args .w) (c9 .is-given .ensures .yes (not-false _ (c8 .if1 .left))) _ _ _
-    (table-codes _ _ (c7 .write-tables .ensures)) (table-numbers _ _ (c7 .write-tables .ensures))
-    (table-marks _ _ (c7 .write-tables .ensures))
+    let fits = given-fits (c4 .is-given .ensures .yes (not-false _ (c3 .if1 .left))) in
+    prefix-many _ _ (omega (arith, c .before .line-table .ensures .1, fits))
 
 returns-2 : tie.Need-returns-2
 returns-2 c =
-    let c10 = c .before .before .before .before .before .before .before .before .before .before in
-    let c11 = c10 .before in
-    let c12 = c11 .before in
-    let entry = c12 .before .before in
-    settled-places (entry .args .w) (c12 .is-given .ensures .yes (not-false _ (c11 .if1 .left))) _ _ _
-    (table-codes _ _ (c10 .write-tables .ensures)) (table-numbers _ _ (c10 .write-tables .ensures))
-    (table-marks _ _ (c10 .write-tables .ensures)) _ _ _ (c .before .before .unfold-tables .ensures)
+    let c5 = c .before .before .before .before .before in
+    let c7 = c5 .before .before in
+    let c8 = c7 .before in
+    settled-places _ (c8 .is-given .ensures .yes (not-false _ (c7 .if1 .left))) _ (c5 .line-table .ensures .0) _ _ _
+    (c .before .before .unfold-line-places .ensures .tabled)
 
 pub unfold-places-spec : {M : Type 1} → statement M
 unfold-places-spec =
@@ -119,13 +39,10 @@ unfold-places-spec =
     (λ c κs. search needs)
     (λ c κs. search needs)
     returns
+    (λ c. omega (arith, given-fits (c .before .before .is-given .ensures .yes (not-false _ (c .before .if1 .left)))))
     (λ c κs. search needs)
-    array-share-prefix-codes
-    slice-aggregate-unfold-tables
-    array-share-prefix-words
-    slice-aggregate-unfold-tables-2
-    array-share-prefix-marks
-    slice-aggregate-unfold-tables-3
-    unfold-tables-requires
+    array-share-prefix-lines
+    slice-aggregate-unfold-line-places
+    (λ c κs. search needs)
     (λ c. search needs)
     returns-2)

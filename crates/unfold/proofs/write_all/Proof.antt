@@ -1,54 +1,74 @@
 -- Before line i the pieces of the lines before it stand at the area's front, and table and program number tell them (`Going`); each line adds its
 -- own (going-next), and at the end all stand (going-end).
-use Rattle.unfold.proofs.WriteLineLaws.{Going, going-start, going-fits, going-next, going-end, going-length, program-small}
-use borrow.Author.Needs.{needs}
+use mathlib.Core.Path.{refl, sym, _∙_}
+use Prim.Native.Nat.{_-_}
 use native.Mathlib.Omega.{arith}
-use mathlib.Core.Path.{_≡_, refl, ap, sym, _∙_}
-use Prim.Native.Nat.{ℕ, _+_, _-_, _*_, _≤_, _<_}
-use lib.ListN.{length, set, getD, length-set, take, drop}
+use borrow.Author.Needs.{needs}
+use lib.ListN.{length}
+use Rattle.unfold_laws.specs.Pieces.{flat}
+use Rattle.value_tables.specs.Lines.{tableCodes}
+use Rattle.unfold.specs.LineWords.{wordsBy, marksBy}
+use Rattle.unfold.specs.PieceTable.{starts, table}
+use Rattle.unfold.specs.UnfoldSteps.{tableTold}
+use Rattle.unfold.specs.UnfoldTold.{cells}
+use Rattle.unfold.specs.Written.{tableAt}
+use Rattle.unfold.proofs.WriteLineLaws.{
+  Going,
+  going-start,
+  going-wide,
+  going-fits,
+  going-next,
+  going-end,
+  going-length,
+  program-small,
+  less-lines,
+}
 use Rattle.unfold.proofs.write_all.Statement.{statement}
 use Rattle.unfold.proofs.write_all.Tie as tie
-use Rattle.unfold.proofs.write_all.Reads as reads
-use Rattle.unfold.proofs.write_all.Lts as lts
-use Rattle.unfold.proofs.empty_table.Reads as empty-table-reads
-use Rattle.unfold.proofs.next_program.Reads as next-program-reads
-use Rattle.unfold.proofs.write_line.Reads as write-line-reads
 
 abbrev Inv-loop : tie.InvT-loop
-Inv-loop codes words marks area₀ t₀ program₀ i₀ area t program i = Going codes words marks area₀ i area t program
+Inv-loop lines counts ids area₀ program₀ start₀ length₀ t₀ number₀ i₀ area program start length t number i =
+    Going (tableCodes lines) (wordsBy ids lines) (marksBy ids lines) area₀ i area (tableAt t program start length) number
 
 abbrev μ-loop : tie.MeasureT-loop
-μ-loop codes words marks area₀ t₀ program₀ i₀ area t program i = length codes - i
+μ-loop lines counts ids area₀ program₀ start₀ length₀ t₀ number₀ i₀ area program start length′ t number i = length (tableCodes lines) - i
 
 loop-holds : tie.Need-loop-holds Inv-loop μ-loop
-loop-holds c = going-start _ _ _ _ _ (c .empty-table .ensures)
+unfolding table cells starts flat
+loop-holds c = going-start _ _ _ _ _ refl
 
 write-line-requires : tie.Need-write-line-requires Inv-loop μ-loop
 write-line-requires c κs =
-    let c8 = c .before .before .before .before .before .before .before .before in
-    (search needs, going-fits _ _ _ _ (c8 .pre) _ _ _ _ (c .before .before .loop .inv) (c .before .loop-test .taken))
+    let c4 = c .before .before .before .before in
+    let c5 = c4 .before in
+    let c6 = c5 .before in
+    let c10 = c6 .before .before .before .before in
+    let inside = less-lines _ _ _ (c5 .lines-in .ensures) (c4 .if1 .taken) in
+    ((inside, c10 .pre .0), going-fits _ _ _ _ (c10 .pre .1) _ _ _ _ (c6 .loop .inv) inside)
 
 next-program-requires : tie.Need-next-program-requires Inv-loop μ-loop
 next-program-requires c κs =
-    let c5 = c .before .before .before .before .before in
-    let c11 = c5 .before .before .before .before .before .before in
-    (search needs, program-small _ _ _ _ (c11 .pre) _ _ _ _ (c5 .loop .inv))
+    let c10 = c .before .before .before .before .before .before .before .before .before .before in
+    let c11 = c10 .before in
+    let c12 = c11 .before in
+    let c16 = c12 .before .before .before .before in
+    (less-lines _ _ _ (c11 .lines-in .ensures) (c10 .if1 .taken), program-small _ _ _ _ (c16 .pre .1) _ _ _ _ (c12 .loop .inv))
 
 loop-again : tie.Need-loop-again Inv-loop μ-loop
 loop-again c =
-    let c3 = c .before .before .before in
-    let c5 = c3 .before .before in
-    let c6 = c5 .before in
-    let c12 = c6 .before .before .before .before .before .before in
-    going-next _ _ _ _ (c12 .pre) _ _ _ _ (c6 .loop .inv) (c5 .loop-test .taken) _ _ _ (c3 .write-line .ensures) (c .next-program .ensures)
-
-same-length : tie.Need-same-length Inv-loop μ-loop
-same-length c =
-    going-length _ _ _ _ (c .before .before .before .before .before .before .before .pre) _ _ _ _ (c .before .loop .inv)
+    let c6 = c .before .before .before .before .before .before in
+    let c11 = c6 .before .before .before .before .before in
+    let c12 = c11 .before in
+    let c13 = c12 .before in
+    let c17 = c13 .before .before .before .before in
+    going-next _ _ _ _ (c17 .pre .1) _ _ _ _ (c13 .loop .inv) (less-lines _ _ _ (c12 .lines-in .ensures) (c11 .if1 .taken)) _ _ _
+    (c6 .write-line .ensures) (c .next-program .ensures)
 
 returns : tie.Need-returns Inv-loop μ-loop
+unfolding tableTold
 returns c =
-    going-end _ _ _ _ (c .before .before .before .before .before .before .before .pre) _ _ _ _ (c .before .loop .inv) (c .loop-test .left)
+    let c6 = c .before .before .before .before .before .before in
+    going-end _ _ _ _ (c6 .pre .1) _ _ _ _ (c .before .before .loop .inv) (omega (arith, c .before .lines-in .ensures, c .if1 .left)) _ refl
 
 pub write-all-spec : {M : Type 1} → statement M
 write-all-spec =
@@ -56,12 +76,18 @@ write-all-spec =
     (tie.spec
     Inv-loop
     μ-loop
-    (λ c κs. search needs)
     loop-holds
+    (λ c κs. search needs)
+    (λ c. omega (arith, going-wide _ _ _ _ _ _ _ _ (c .before .before .before .loop .inv) .programs))
+    (λ c. omega (arith, going-wide _ _ _ _ _ _ _ _ (c .before .before .before .before .loop .inv) .starts))
+    (λ c. omega (arith, going-wide _ _ _ _ _ _ _ _ (c .before .before .before .before .before .loop .inv) .lengths))
     write-line-requires
     next-program-requires
     (λ c. search needs)
-    (λ c. search needs)
+    (λ c.
+    let c11 = c .before .before .before .before .before .before .before .before .before .before .before in
+    let c12 = c11 .before in
+    omega (arith, c12 .lines-in .ensures, c11 .if1 .taken))
     loop-again
-    same-length
+    (λ c. going-length _ _ _ _ (c .before .before .before .before .before .before .pre .1) _ _ _ _ (c .before .before .loop .inv))
     returns)

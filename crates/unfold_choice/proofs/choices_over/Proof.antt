@@ -2,6 +2,7 @@
 -- choices of its unfolding are told, at most 63 (over-told).
 use Rattle.unfold_choice.proofs.OverLaws.{over-many, over-missing, over-told}
 use borrow.Author.Needs.{needs}
+use native.Mathlib.Omega.{arith}
 use borrow.Author.Tests.{not-true, not-false}
 use Rattle.unfold_choice.proofs.choices_over.Statement.{statement}
 use Rattle.unfold_choice.proofs.choices_over.Tie as tie
@@ -26,24 +27,26 @@ add-first c =
     let is-found = c .before in
     let found = is-found .before .before in
     let h = found .find-node .ensures .inside (not-false _ (is-found .if2 .left)) in
-    search (needs, h)
+    let entry = found .before .before .before .before .before in
+    omega (arith, h, entry .pre)
 
 sub-tell-run : tie.Need-sub-tell-run
 sub-tell-run c =
-    let is-found = c .before in
+    let is-found = c .before .before in
     let found = is-found .before .before in
     let h = found .find-node .ensures .inside (not-false _ (is-found .if2 .left)) in
-    search (needs, h)
+    omega (arith, h, c .lines-in .ensures)
 
 returns-3 : tie.Need-returns-3
 returns-3 c =
     let empty = c .before .before in
-    let is-found = empty .before .before in
+    let many = empty .before in
+    let is-found = many .before .before in
     let found = is-found .before .before in
     let tested = found .before in
     let number = tested .before in
     over-told _ _ _ (number .before .count-all .ensures) _ (number .totals-refused .ensures) (tested .if1 .left) _ (found .find-node .ensures) _ _
-    (not-false _ (is-found .if2 .left)) (empty .empty-table .ensures) (c .before .tell-run .ensures)
+    (not-false _ (is-found .if2 .left)) (empty .empty-table .ensures) _ (many .lines-in .ensures) (c .before .tell-run .ensures)
 
 pub choices-over-spec : {M : Type 1} → statement M
 choices-over-spec =
@@ -57,6 +60,7 @@ choices-over-spec =
     (λ c κs. search needs)
     returns-2
     add-first
+    (λ c κs. search needs)
     sub-tell-run
     (λ c κs. search needs)
     (λ c κs. search needs)

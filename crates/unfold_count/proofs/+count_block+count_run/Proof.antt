@@ -17,6 +17,9 @@ use Rattle.unfold_count.proofs.count_run.Reads as count-run
 use Rattle.unfold_count.proofs.count_run.Kinds as count-run-kinds
 use Rattle.unfold_count.proofs.+count_block+count_run.Lts-count_run as count-run-lts
 use Rattle.unfold_bounds.proofs.line_after.Reads as line-after-reads
+use Rattle.value_tables.proofs.code_at.Reads as code-at-reads
+use Rattle.value_tables.proofs.lines_in.Reads as lines-in-reads
+use Rattle.value_tables.specs.TableLaws.{codes-many}
 use Rattle.unfold_count.proofs.count_arms.Reads as count-arms-reads
 use Rattle.unfold_count.proofs.count_loop.Reads as count-loop-reads
 use Rattle.unfold_count.proofs.count_next.Reads as count-next-reads
@@ -47,8 +50,12 @@ count-run-below t =
 
 pub +count-block+count-run-spec : {M : Type 1} → statement M
 +count-block+count-run-spec = close μ-count-block μ-count-run (λ t. count-block-lts.spec (
+  code-at-reads.Asked,
+  code-at-reads.Learnt,
   count-run-below t,
   count-run.Post,
+  lines-in-reads.Asked,
+  lines-in-reads.Learnt,
   count-loop-reads.Asked,
   count-loop-reads.Learnt,
   line-after-reads.Asked,
@@ -58,34 +65,38 @@ pub +count-block+count-run-spec : {M : Type 1} → statement M
 )
     (count-block-at t)
     count-block.Post
-    (λ c. search needs)
-    (λ c. search needs)
-    (λ c.
-    let entry = c .before .before .before in
-    block-statement (entry .args .codes .now) (entry .args .at) (entry .args .left) (c .if1 .taken))
-    (λ c. search needs)
     (λ c κs. search needs)
-    (λ c. search needs)
-    (λ c κs. search needs)
-    (λ c.
-    let c3 = c .before .before .before in
-    let entry = c3 .before .before .before .before in
-    block-loop (entry .args .codes .now) (entry .args .at) (entry .args .left) (c3 .count-run .result) (c .count-loop .result)
-    (c .before .if2 .taken) (c3 .count-run .ensures) (c .count-loop .ensures))
+    (λ c. omega (arith, codes-many (c .before .before .before .args .lines .now), c .before .before .before .pre .1))
+    (λ c. block-statement _ _ _ (sym (c .before .code-at .ensures) ∙ c .if1 .taken))
+    (λ c. omega (arith, codes-many (c .before .before .before .args .lines .now), c .before .before .before .pre .1))
     (λ c κs. search needs)
     (λ c κs. search needs)
     (λ c κs. search needs)
     (λ c.
     let c3 = c .before .before .before in
     let c5 = c3 .before .before in
+    block-loop _ _ _ _ _ _ (c .before .before .lines-in .ensures) (sym (c5 .code-at .ensures) ∙ c .before .if2 .taken) (c3 .count-run .ensures)
+    (c .count-loop .ensures))
+    (λ c κs. search needs)
+    (λ c κs. search needs)
+    (λ c κs. search needs)
+    (λ c.
+    let c3 = c .before .before .before in
+    let c4 = c3 .before in
+    let c5 = c4 .before in
     let c6 = c5 .before in
-    let entry = c6 .before .before .before in
-    block-branch (entry .args .codes .now) (entry .args .at) (entry .args .left) (c .before .before .line-after .result) (c5 .count-run .result)
-    (c .before .count-run2 .result) (c .count-arms .result) (c .before .before .line-after .ensures) (c6 .if1 .left) (c3 .if2 .left)
-    (c5 .count-run .ensures) (c .before .count-run2 .ensures) (c .count-arms .ensures)))
+    let c7 = c6 .before in
+    let code = c7 .code-at .ensures in
+    block-branch _ _ _ _ _ _ _ _ (c4 .lines-in .ensures) (c .before .before .line-after .ensures)
+    (λ z. c6 .if1 .left (code ∙ z)) (λ z. c3 .if2 .left (code ∙ z)) (c5 .count-run .ensures) (c .before .count-run2 .ensures)
+    (c .count-arms .ensures)))
     λ t. count-run-lts.spec (
       nothing-reads.Asked,
       nothing-reads.Learnt,
+      lines-in-reads.Asked,
+      lines-in-reads.Learnt,
+      code-at-reads.Asked,
+      code-at-reads.Learnt,
       count-block-below t,
       count-block.Post,
       count-run-below t,
@@ -96,19 +107,17 @@ pub +count-block+count-run-spec : {M : Type 1} → statement M
     (count-run-at t)
     count-run.Post
     (λ c κs. search needs)
-    (λ c.
-    let entry = c .before .before .before in
-    run-none (entry .args .codes .now) (entry .args .at) (entry .args .left) (c .nothing .result) (c .before .if1 .taken) (c .nothing .ensures))
+    (λ c. run-none _ _ _ _ (c .before .if1 .taken) (c .nothing .ensures))
     (λ c κs. search needs)
-    (λ c.
-    let entry = c .before .before .before .before in
-    run-past (entry .args .codes .now) (entry .args .at) (entry .args .left) (c .nothing2 .result) (c .before .if2 .taken) (c .nothing2 .ensures))
-    (λ c. search needs)
+    (λ c κs. search needs)
+    (λ c. run-past _ _ _ _ (omega (arith, c .before .before .lines-in .ensures, c .before .if2 .taken)) (c .nothing2 .ensures))
+    (λ c κs. search needs)
     (λ c κs. search needs)
     (λ c.
     let c3 = c .before .before .before in
-    let entry = c3 .before .before .before in
-    run-stop (entry .args .codes .now) (entry .args .at) (entry .args .left) (c .nothing3 .result) (c3 .if2 .left) (c .before .if3 .taken)
+    let c4 = c3 .before in
+    run-stop _ _ _ _ (omega (arith, c4 .lines-in .ensures, c3 .if2 .left))
+    (omega (arith, c .before .before .code-at .ensures, c .before .if3 .taken))
     (c .nothing3 .ensures))
     (λ c. search needs)
     (λ c κs. search needs)
@@ -117,9 +126,10 @@ pub +count-block+count-run-spec : {M : Type 1} → statement M
     (λ c κs. search needs)
     (λ c.
     let c3 = c .before .before .before in
-    let c5 = c3 .before .before in
+    let c4 = c3 .before in
+    let c5 = c4 .before in
     let c6 = c5 .before in
-    let entry = c6 .before .before in
-    run-next (entry .args .codes .now) (entry .args .at) (entry .args .left) (c .before .before .count-block .result)
-    (c .before .count-run .result) (c .count-next .result) (c6 .if1 .left) (c5 .if2 .left) (c3 .if3 .left)
-    (c .before .before .count-block .ensures) (c .before .count-run .ensures) (c .count-next .ensures))
+    let c7 = c6 .before in
+    run-next _ _ _ _ _ _ (c7 .if1 .left) (omega (arith, c6 .lines-in .ensures, c5 .if2 .left))
+    (omega (arith, c4 .code-at .ensures, c3 .if3 .left)) (c .before .before .count-block .ensures) (c .before .count-run .ensures)
+    (c .count-next .ensures))

@@ -24,27 +24,20 @@ enum-known-found c = search needs
 check-requires : tie.Need-check-requires
 check-requires c κs = search needs
 
-same-length : tie.Need-same-length
-same-length c = search needs
-
 returns-2 : tie.Need-returns-2
 returns-2 c = step-fault _ _ _ (c .if1 .taken) (c .before .check .ensures .1)
 
 take-requires : tie.Need-take-requires
 take-requires c κs = search needs
 
-same-length-2 : tie.Need-same-length-2
-same-length-2 c = search needs
-
 returns-3 : tie.Need-returns-3
 unfolding sizeSaid
 returns-3 c =
-    let taken = c .before .before in
-    let checked = taken .before .before .before in
+    let checked = c .before .before .before in
     let found = checked .before .before .before in
     let sized = found .before .before in
-    step-taken _ _ _ _ _ (taken .take .kept .0) (sym (sized .line-size .ensures) ∙ ap sizeSaid (found .found .given .1))
-    (taken .before .before .if1 .left) (checked .check .ensures .1) (taken .take .ensures .1)
+    step-taken _ _ _ _ _ (sym (sized .line-size .ensures) ∙ ap sizeSaid (found .found .given .1)) (c .before .before .if1 .left)
+    (checked .check .ensures .1) (c .take .ensures .1)
 
 pub step-spec : {M : Type 1} → statement M
 step-spec =
@@ -55,8 +48,6 @@ step-spec =
     returns
     enum-known-found
     check-requires
-    same-length
     returns-2
     take-requires
-    same-length-2
     returns-3)

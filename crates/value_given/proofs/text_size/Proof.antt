@@ -4,7 +4,8 @@ use Rattle.spec_text.specs.Value.{linesOf}
 use Rattle.value_given.specs.DecideLaws.{Going, going-start, going-next, going-wrong, going-open, going-closed}
 use borrow.Author.Needs.{needs}
 use native.Mathlib.Omega.{arith}
-use Prim.Native.Nat.{_-_}
+use Prim.Native.Nat.{ℕ, _-_}
+use lib.ListN.{length-replicate}
 use Rattle.value_given.proofs.text_size.Statement.{statement}
 use Rattle.value_given.proofs.text_size.Tie as tie
 
@@ -14,14 +15,11 @@ Inv-loop w count words₀ size₀ i₀ words size i = Going (w .lines) (w .count
 abbrev μ-loop : tie.MeasureT-loop
 μ-loop w count words₀ size₀ i₀ words size i = count - i
 
-slice-aggregate-start : tie.Need-slice-aggregate-start Inv-loop μ-loop
-slice-aggregate-start c = search needs
-
 start-requires : tie.Need-start-requires Inv-loop μ-loop
 start-requires c κs = search needs
 
 loop-holds : tie.Need-loop-holds Inv-loop μ-loop
-loop-holds c = going-start _ _ _ (c .before .start .kept .0) (c .before .start .ensures .1 (omega arith))
+loop-holds c = going-start _ _ _ (c .start .ensures .1 (omega (arith, length-replicate {A = ℕ} 424 0)))
 
 mul-l : tie.Need-mul-l Inv-loop μ-loop
 mul-l c = search needs
@@ -29,19 +27,16 @@ mul-l c = search needs
 element-copy-out-l : tie.Need-element-copy-out-l Inv-loop μ-loop
 element-copy-out-l c = search needs
 
-slice-aggregate-step : tie.Need-slice-aggregate-step Inv-loop μ-loop
-slice-aggregate-step c = search needs
-
 step-requires : tie.Need-step-requires Inv-loop μ-loop
 step-requires c κs = search needs
 
 returns : tie.Need-returns Inv-loop μ-loop
 unfolding linesOf
 returns c =
-    let w = c .before .before .before .before .before .before .before .before .before .before .args .t1 in
-    let turn = c .before .before .before .before .before .before in
+    let w = c .before .before .before .before .before .before .before .before .args .t1 in
+    let turn = c .before .before .before .before .before in
     going-wrong (w .lines) (w .count) _ _ (turn .loop .i) _ _ _ (turn .loop .inv)
-    (c .before .before .before .before .before .loop-test .taken) (omega arith) (c .before .before .step .ensures) (c .if1 .taken)
+    (c .before .before .before .before .loop-test .taken) (omega arith) (c .before .step .ensures) (c .if1 .taken)
 
 add-size : tie.Need-add-size Inv-loop μ-loop
 add-size c = search needs
@@ -54,13 +49,10 @@ loop-less c = search needs
 
 loop-again : tie.Need-loop-again Inv-loop μ-loop
 loop-again c =
-    let w = c .before .before .before .before .before .before .before .before .before .before .args .t1 in
-    let turn = c .before .before .before .before .before .before in
+    let w = c .before .before .before .before .before .before .before .before .args .t1 in
+    let turn = c .before .before .before .before .before in
     going-next (w .lines) (w .count) _ _ (turn .loop .i) _ _ _ (turn .loop .inv)
-    (c .before .before .before .before .before .loop-test .taken) (omega arith) (c .before .before .step .ensures) (c .if1 .left)
-
-slice-aggregate-depth : tie.Need-slice-aggregate-depth Inv-loop μ-loop
-slice-aggregate-depth c = search needs
+    (c .before .before .before .before .loop-test .taken) (omega arith) (c .before .step .ensures) (c .if1 .left)
 
 depth-requires : tie.Need-depth-requires Inv-loop μ-loop
 depth-requires c κs = search needs
@@ -68,7 +60,7 @@ depth-requires c κs = search needs
 returns-2 : tie.Need-returns-2 Inv-loop μ-loop
 unfolding linesOf
 returns-2 c =
-    let w = c .before .before .before .before .before .before .before .before .args .t1 in
+    let w = c .before .before .before .before .before .before .before .args .t1 in
     let turn = c .before .before .before .before in
     going-open (w .lines) (w .count) _ _ (turn .loop .i) _ (turn .loop .inv)
     (c .before .before .before .loop-test .left) (c .before .depth .ensures .1) (c .if2 .taken)
@@ -76,7 +68,7 @@ returns-2 c =
 returns-3 : tie.Need-returns-3 Inv-loop μ-loop
 unfolding linesOf
 returns-3 c =
-    let w = c .before .before .before .before .before .before .before .before .args .t1 in
+    let w = c .before .before .before .before .before .before .before .args .t1 in
     let turn = c .before .before .before .before in
     going-closed (w .lines) (w .count) _ _ (turn .loop .i) _ (turn .loop .inv)
     (c .before .before .before .loop-test .left) (c .before .depth .ensures .1) (c .if2 .left)
@@ -87,19 +79,16 @@ text-size-spec =
     (tie.spec
     Inv-loop
     μ-loop
-    slice-aggregate-start
     start-requires
     loop-holds
     mul-l
     element-copy-out-l
-    slice-aggregate-step
     step-requires
     returns
     add-size
     add-i
     loop-less
     loop-again
-    slice-aggregate-depth
     depth-requires
     returns-2
     returns-3)

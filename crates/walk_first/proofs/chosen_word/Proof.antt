@@ -1,4 +1,4 @@
--- The word stands where both nodes are among the nodes, else 0.
+-- The word stands where both nodes are among the nodes, as far as the table goes (word_at), else 0.
 use Rattle.walk_first.specs.FirstSteps.{chosenWord}
 use Prim.Native.Nat.{_-_}
 use borrow.Author.Needs.{needs}
@@ -11,17 +11,15 @@ has-bit-requires c κs = search needs
 has-bit-requires-2 : tie.Need-has-bit-requires-2
 has-bit-requires-2 c κs = search needs
 
-mul-result : tie.Need-mul-result
-mul-result c = search needs
-
-element-copy-out-result : tie.Need-element-copy-out-result
-element-copy-out-result c = search needs
+word-at-requires : tie.Need-word-at-requires
+word-at-requires c κs = search needs
 
 returns : tie.Need-returns
 unfolding chosenWord
 returns c =
     let c3 = c .before .before .before in
-    simp (← c3 .before .has-bit .ensures, c3 .if1 .taken, ← c .before .before .has-bit2 .ensures, c .before .if2 .taken)
+    let c4 = c3 .before in
+    simp (← c4 .has-bit .ensures, c3 .if1 .taken, ← c .before .before .has-bit2 .ensures, c .before .if2 .taken, c .word-at .ensures)
 
 returns-2 : tie.Need-returns-2
 unfolding chosenWord
@@ -37,8 +35,7 @@ chosen-word-spec =
     (tie.spec
     has-bit-requires
     has-bit-requires-2
-    mul-result
-    element-copy-out-result
+    word-at-requires
     returns
     returns-2
     returns-3)

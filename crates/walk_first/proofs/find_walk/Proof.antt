@@ -16,9 +16,9 @@ same-length c = search needs
 
 returns-2 : tie.Need-returns-2
 returns-2 c =
-    let c6 = c .before .before .before .before .before .before in
-    answer-searched _ _ _ _ _ (c6 .before .if1 .left)
-    (searched-every _ _ _ _ _ (c6 .if2 .taken) (c .before .before .search .ensures))
+    let c4 = c .before .before .before .before in
+    let c5 = c4 .before in
+    answer-searched _ _ _ _ _ (c5 .if1 .left) (searched-every _ _ _ _ _ (c4 .if2 .taken) (c .before .before .search .ensures))
 
 chosen-words-requires : tie.Need-chosen-words-requires
 chosen-words-requires c κs = search needs
@@ -42,8 +42,10 @@ returns-3 : tie.Need-returns-3
 returns-3 c =
     let c6 = c .before .before .before .before .before .before in
     let c7 = c6 .before in
-    answer-searched _ _ _ _ _ (c7 .before .before .if1 .left)
-    (searched-some _ _ _ _ _ (c7 .before .if2 .left) (c7 .chosen-words .ensures) (c6 .chosen-words2 .ensures) (c .before .before .search2 .ensures))
+    let c8 = c7 .before in
+    let c9 = c8 .before in
+    answer-searched _ _ _ _ _ (c9 .if1 .left)
+    (searched-some _ _ _ _ _ (c8 .if2 .left) (c7 .chosen-words .ensures) (c6 .chosen-words2 .ensures) (c .before .before .search2 .ensures))
 
 pub find-walk-spec : {M : Type 1} → statement M
 find-walk-spec =

@@ -1,10 +1,11 @@
--- With no way back there is no walk (search-none); else what is worked out and written is the walk (search-found).
-use Rattle.walk_first.specs.TakingLaws.{search-none, search-found}
-use native.Mathlib.Omega.{arith}
-use Prim.Native.Nat.{_-_}
+-- The parts that are lent are the rows of the table (rows-part, leads-part); the rest is the search over them.
 use borrow.Author.Needs.{needs}
+use Rattle.walk_first.specs.TakingLaws.{rows-fit, rows-part, leads-fit, leads-part}
 use Rattle.walk_first.proofs.search.Statement.{statement}
 use Rattle.walk_first.proofs.search.Tie as tie
+
+rows-in-requires : tie.Need-rows-in-requires
+rows-in-requires c κs = search needs
 
 joined-rows-requires : tie.Need-joined-rows-requires
 joined-rows-requires c κs = search needs
@@ -12,83 +13,43 @@ joined-rows-requires c κs = search needs
 lead-rows-requires : tie.Need-lead-rows-requires
 lead-rows-requires c κs = search needs
 
-shortest-return-requires : tie.Need-shortest-return-requires
-shortest-return-requires c κs = search needs
+array-share-prefix-rows : tie.Need-array-share-prefix-rows
+array-share-prefix-rows c = search needs
 
-returns : tie.Need-returns
-returns c =
-    let c4 = c .before .before .before .before in
-    search-none _ _ _ _ _ (c4 .before .joined-rows .ensures) (c4 .lead-rows .ensures) (c .before .shortest-return .ensures) (c .if1 .taken)
+slice-aggregate-search-rows : tie.Need-slice-aggregate-search-rows
+slice-aggregate-search-rows c = rows-fit _ (c .before .before .before .rows-in .ensures .1) (c .before .before .joined-rows .ensures)
 
-add-steps : tie.Need-add-steps
-add-steps c = search needs
+array-share-prefix-leads : tie.Need-array-share-prefix-leads
+array-share-prefix-leads c = search needs
 
-first-start-requires : tie.Need-first-start-requires
-first-start-requires c κs = search needs
+slice-aggregate-search-rows-2 : tie.Need-slice-aggregate-search-rows-2
+slice-aggregate-search-rows-2 c = leads-fit _ _ (c .before .before .before .before .rows-in .ensures .1) (c .before .before .lead-rows .ensures)
 
-wrap-start-requires : tie.Need-wrap-start-requires
-wrap-start-requires c κs = search needs
-
-ways-to-requires : tie.Need-ways-to-requires
-ways-to-requires c κs = search needs
-
-openings-requires : tie.Need-openings-requires
-openings-requires c κs = search needs
-
-add-widest-table : tie.Need-add-widest-table
-add-widest-table c = search needs
-
-widest-table-requires : tie.Need-widest-table-requires
-widest-table-requires c κs = search needs
-
-slice-aggregate-put-walk : tie.Need-slice-aggregate-put-walk
-slice-aggregate-put-walk c = search needs
-
-slice-aggregate-put-walk-2 : tie.Need-slice-aggregate-put-walk-2
-slice-aggregate-put-walk-2 c = search needs
-
-slice-aggregate-put-walk-3 : tie.Need-slice-aggregate-put-walk-3
-slice-aggregate-put-walk-3 c = search needs
-
-put-walk-requires : tie.Need-put-walk-requires
-put-walk-requires c κs =
-    let c8 = c .before .before .before .before .before .before .before .before in
-    let c17 = c8 .before .before .before .before .before .before .before .before .before in
-    let c27 = c17 .before .before .before .before .before .before .before .before .before .before in
-    let below = c17 .if1 .left in (omega arith, c27 .pre)
+search-rows-requires : tie.Need-search-rows-requires
+search-rows-requires c κs =
+    let c3 = c .before .before .before in
+    let c4 = c3 .before in
+    let c5 = c4 .before in
+    let c10 = c5 .before .before .before .before .before in
+    (c10 .pre, rows-part _ (c5 .rows-in .ensures .0) (c4 .joined-rows .ensures), leads-part _ _ (c5 .rows-in .ensures .0) (c3 .lead-rows .ensures))
 
 same-length : tie.Need-same-length
 same-length c = search needs
 
-returns-2 : tie.Need-returns-2
-returns-2 c = let c7 = c .before .before .before .before .before .before .before in
-    let c15 = c7 .before .before .before .before .before .before .before .before in
-    let c21 = c15 .before .before .before .before .before .before in
-    let c24 = c21 .before .before .before in
-    search-found _ _ _ _ _ (c24 .before .joined-rows .ensures) (c24 .lead-rows .ensures) (c21 .shortest-return .ensures)
-    (let below = c15 .before .before .before .before .before .if1 .left in omega arith)
-    (c15 .before .before .first-start .ensures) (c15 .wrap-start .ensures)
-    (c7 .before .before .before .before .before .before .ways-to .ensures)
-    (c7 .before .before .openings .ensures) (c7 .widest-table .ensures) (c .before .before .put-walk .ensures)
+returns : tie.Need-returns
+returns c = search needs
 
 pub search-spec : {M : Type 1} → statement M
 search-spec =
     tie.close
     (tie.spec
+    rows-in-requires
     joined-rows-requires
     lead-rows-requires
-    shortest-return-requires
-    returns
-    add-steps
-    first-start-requires
-    wrap-start-requires
-    ways-to-requires
-    openings-requires
-    add-widest-table
-    widest-table-requires
-    slice-aggregate-put-walk
-    slice-aggregate-put-walk-2
-    slice-aggregate-put-walk-3
-    put-walk-requires
+    array-share-prefix-rows
+    slice-aggregate-search-rows
+    array-share-prefix-leads
+    slice-aggregate-search-rows-2
+    search-rows-requires
     same-length
-    returns-2)
+    returns)

@@ -1,12 +1,11 @@
--- Along no edge no pair leads (through-none). Else after w turns the word has the nodes below w to which one does (word-turn); after 64 it has all.
-use Rattle.walk_reach.specs.NodeWordLaws.{word-turn, last-turn}
-use Rattle.walk_reach.specs.Layers.{wordBelow}
-use Rattle.walk_lead.specs.LeadLaws.{through-none}
-use Rattle.walk_lead.specs.Leads.{leadsAlong, leadsThrough}
+-- After w turns the word has the nodes below w to which a pair leads (word-turn); after 64 it has all.
 use native.Mathlib.Omega.{arith}
 use mathlib.Core.Path.{_≡_, refl}
 use Prim.Native.Nat.{_-_, _≤_}
 use borrow.Author.Needs.{needs}
+use Rattle.walk_reach.specs.Layers.{wordBelow}
+use Rattle.walk_reach.specs.NodeWordLaws.{word-turn, last-turn}
+use Rattle.walk_lead.specs.Leads.{leadsAlong, leadsThrough}
 use Rattle.walk_lead.proofs.leads_through.Statement.{statement}
 use Rattle.walk_lead.proofs.leads_through.Tie as tie
 
@@ -15,10 +14,6 @@ Inv-loop backs e v word₀ w₀ word w = (w ≤ 64) × (word ≡ wordBelow (lead
 
 abbrev μ-loop : tie.MeasureT-loop
 μ-loop backs e v word₀ w₀ word w = 64 - w
-
--- there is no edge to v
-returns : tie.Need-returns Inv-loop μ-loop
-returns c = through-none _ _ _ (c .if1 .taken)
 
 loop-holds : tie.Need-loop-holds Inv-loop μ-loop
 unfolding wordBelow
@@ -36,20 +31,11 @@ loop-less c = search needs
 loop-again : tie.Need-loop-again Inv-loop μ-loop
 loop-again c = (omega arith, word-turn (leadsAlong _ _ _) _ (c .before .before .loop .inv .1) refl (c .with-lead .ensures))
 
-returns-2 : tie.Need-returns-2 Inv-loop μ-loop
+returns : tie.Need-returns Inv-loop μ-loop
 unfolding leadsThrough
-returns-2 c = last-turn (wordBelow (leadsAlong _ _ _)) 64 _ (c .before .loop .inv .1) (c .before .loop .inv .0) (c .loop-test .left)
+returns c = last-turn (wordBelow (leadsAlong _ _ _)) 64 _ (c .before .loop .inv .1) (c .before .loop .inv .0) (c .loop-test .left)
 
 pub leads-through-spec : {M : Type 1} → statement M
 leads-through-spec =
     tie.close
-    (tie.spec
-    Inv-loop
-    μ-loop
-    returns
-    loop-holds
-    with-lead-requires
-    add-w
-    loop-less
-    loop-again
-    returns-2)
+    (tie.spec Inv-loop μ-loop loop-holds with-lead-requires add-w loop-less loop-again returns)

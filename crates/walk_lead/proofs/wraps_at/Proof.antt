@@ -1,46 +1,45 @@
--- After u turns no node below u has such a pair by way of v (wraps-turn); one that has ends the search (wraps-found).
-use Rattle.walk_lead.specs.LeadLaws.{wraps-first, wraps-found, wraps-turn, wraps-end}
-use Rattle.walk_lead.specs.Leads.{wrapsAmong}
+-- By way of a node that no back edge leaves none does (wraps-none). After u turns no node below u has such a pair (wraps-turn); one that has ends
+-- the search (wraps-found).
 use native.Mathlib.Omega.{arith}
-use mathlib.Core.Bool.{false}
 use mathlib.Core.Path.{_≡_}
 use Prim.Native.Nat.{_-_, _≤_}
 use borrow.Author.Needs.{needs}
+use mathlib.Core.Bool.{false}
+use Rattle.walk_lead.specs.LeadLaws.{wraps-none, wraps-first, wraps-found, wraps-turn, wraps-end}
+use Rattle.walk_lead.specs.Leads.{wrapsAmong}
+use Rattle.walk_reach.specs.Layers.{rowsIn}
 use Rattle.walk_lead.proofs.wraps_at.Statement.{statement}
 use Rattle.walk_lead.proofs.wraps_at.Tie as tie
 
 abbrev Inv-loop : tie.InvT-loop
-Inv-loop forwards backs reach v u₀ u = (u ≤ 64) × (false ≡ wrapsAmong forwards backs reach u v)
+Inv-loop forwards backs turns reach v early n u₀ u = (u ≤ n) × (n ≤ 64) × (n ≡ rowsIn forwards) × (false ≡ wrapsAmong forwards backs reach u v)
 
 abbrev μ-loop : tie.MeasureT-loop
-μ-loop forwards backs reach v u₀ u = 64 - u
+μ-loop forwards backs turns reach v early n u₀ u = n - u
+
+returns : tie.Need-returns Inv-loop μ-loop
+returns c = wraps-none _ _ _ _ _ (c .before .before .before .pre .1) (c .if1 .taken)
+
+first-place-requires : tie.Need-first-place-requires Inv-loop μ-loop
+first-place-requires c κs = search needs
+
+rows-in-requires : tie.Need-rows-in-requires Inv-loop μ-loop
+rows-in-requires c κs = search needs
 
 loop-holds : tie.Need-loop-holds Inv-loop μ-loop
-loop-holds c = (omega arith, wraps-first _ _ _ _)
+loop-holds c = (omega arith, c .rows-in .ensures .1, c .rows-in .ensures .0, wraps-first _ _ _ _)
 
-mul-word-at : tie.Need-mul-word-at Inv-loop μ-loop
-mul-word-at c = search needs
-
-add-word-at : tie.Need-add-word-at Inv-loop μ-loop
-add-word-at c = search needs
-
-word-at-requires : tie.Need-word-at-requires Inv-loop μ-loop
-word-at-requires c κs = search needs
-
-leads-through-requires : tie.Need-leads-through-requires Inv-loop μ-loop
-leads-through-requires c κs = search needs
-
-mul-if1 : tie.Need-mul-if1 Inv-loop μ-loop
-mul-if1 c = search needs
-
-element-copy-out-if1 : tie.Need-element-copy-out-if1 Inv-loop μ-loop
-element-copy-out-if1 c = search needs
-
--- a pair leads from u so
-returns : tie.Need-returns Inv-loop μ-loop
-returns c =
+wraps-from-requires : tie.Need-wraps-from-requires Inv-loop μ-loop
+wraps-from-requires c κs =
     let c3 = c .before .before .before in
-    wraps-found _ _ _ _ 64 _ (c3 .before .loop-test .taken) (c3 .word-at .ensures) (c .before .before .leads-through .ensures) (c .if1 .taken)
+    let c7 = c3 .before .before .before .before in
+    (omega arith, c7 .pre .0, c7 .pre .1, c3 .first-place .ensures)
+
+returns-2 : tie.Need-returns-2 Inv-loop μ-loop
+returns-2 c =
+    let c3 = c .before .before .before in
+    let same = c3 .loop .inv .2 in let l = c .before .before .loop-test .taken in wraps-found _ _ _ _ _ _ (omega arith)
+    (c .before .wraps-from .ensures) (c .if2 .taken)
 
 add-u : tie.Need-add-u Inv-loop μ-loop
 add-u c = search needs
@@ -50,14 +49,11 @@ loop-less c = search needs
 
 loop-again : tie.Need-loop-again Inv-loop μ-loop
 loop-again c =
-    let c3 = c .before .before .before in (
-      omega arith,
-      wraps-turn _ _ _ _ _ (c3 .before .before .loop .inv .1) (c3 .word-at .ensures) (c .before .before .leads-through .ensures) (c .if1 .left),
-    )
+    let c3 = c .before .before .before in
+    (omega arith, c3 .loop .inv .1, c3 .loop .inv .2, wraps-turn _ _ _ _ _ (c3 .loop .inv .3) (c .before .wraps-from .ensures) (c .if2 .left))
 
--- none does
-returns-2 : tie.Need-returns-2 Inv-loop μ-loop
-returns-2 c = wraps-end _ _ _ _ _ (c .before .loop .inv .1) (c .before .loop .inv .0) (c .loop-test .left)
+returns-3 : tie.Need-returns-3 Inv-loop μ-loop
+returns-3 c = wraps-end _ _ _ _ _ _ _ (c .before .loop .inv .2) (c .before .loop .inv .3) (c .before .loop .inv .0) (c .loop-test .left)
 
 pub wraps-at-spec : {M : Type 1} → statement M
 wraps-at-spec =
@@ -65,15 +61,13 @@ wraps-at-spec =
     (tie.spec
     Inv-loop
     μ-loop
-    loop-holds
-    mul-word-at
-    add-word-at
-    word-at-requires
-    leads-through-requires
-    mul-if1
-    element-copy-out-if1
     returns
+    first-place-requires
+    rows-in-requires
+    loop-holds
+    wraps-from-requires
+    returns-2
     add-u
     loop-less
     loop-again
-    returns-2)
+    returns-3)

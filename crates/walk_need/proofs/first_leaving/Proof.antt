@@ -1,5 +1,6 @@
--- After y turns the number is the least of the first y (leaving-turn); after 64 it is the first place.
-use Rattle.walk_need.specs.NeedTurns.{leaving-turn}
+-- There is none without a row (leaving-past) or a node (leaving-none). After y turns the number is the least of the first y (leaving-turn); after
+-- 64 it is the first place.
+use Rattle.walk_need.specs.NeedTurns.{leaving-past, leaving-none, leaving-turn}
 use Rattle.pick_laws.specs.Completing.{leastBelow}
 use Rattle.walk_need.specs.Needs.{leavesFor, firstLeaving}
 use Rattle.walk_reach.specs.NodeWordLaws.{last-turn}
@@ -15,6 +16,17 @@ Inv-loop backs nodes x best₀ y₀ best y = (y ≤ 64) × (best ≡ leastBelow 
 
 abbrev μ-loop : tie.MeasureT-loop
 μ-loop backs nodes x best₀ y₀ best y = 64 - y
+
+mul-if1 : tie.Need-mul-if1 Inv-loop μ-loop
+mul-if1 c = search needs
+
+-- x has no row
+returns : tie.Need-returns Inv-loop μ-loop
+returns c = (leaving-past _ _ _ (c .if1 .taken), omega arith)
+
+-- there is no node
+returns-2 : tie.Need-returns-2 Inv-loop μ-loop
+returns-2 c = (leaving-none _ _ _ (c .if2 .taken), omega arith)
 
 loop-holds : tie.Need-loop-holds Inv-loop μ-loop
 unfolding leastBelow
@@ -36,9 +48,9 @@ loop-again : tie.Need-loop-again Inv-loop μ-loop
 loop-again c = let c3 = c .before .before .before in let l = c .lesser .ensures in let m = c3 .loop .inv .2 in
     (omega arith, leaving-turn _ _ _ _ (c3 .loop .inv .1) (c .before .leaves-for .ensures .0) (c .lesser .ensures), omega arith)
 
-returns : tie.Need-returns Inv-loop μ-loop
+returns-3 : tie.Need-returns-3 Inv-loop μ-loop
 unfolding firstLeaving
-returns c =
+returns-3 c =
     let inv = c .before .loop .inv in
     (last-turn (leastBelow (leavesFor _ _ _) 1024) 64 _ (inv .1) (inv .0) (c .loop-test .left), inv .2)
 
@@ -48,10 +60,13 @@ first-leaving-spec =
     (tie.spec
     Inv-loop
     μ-loop
+    mul-if1
+    returns
+    returns-2
     loop-holds
     leaves-for-requires
     lesser-requires
     add-y
     loop-less
     loop-again
-    returns)
+    returns-3)

@@ -1,72 +1,52 @@
--- After i rows the tables hold the greatest words of the pairs so far and the numbers count their edges (rows-turn); after the last row this is
--- `picksOf` (all-picked).
-use Rattle.edge_count.specs.SlotLaws.{rows-few}
-use Rattle.walk_pick.specs.PickSteps.{RowsKept}
-use Rattle.walk_pick.specs.PairLaws.{rows-first, rows-turn, rows-most, row-most}
-use Rattle.walk_pick.specs.PickStepLaws.{all-picked}
+-- The fronts of the two areas are tables for as many nodes as both have room for (front-tables); filled, with the rest of the areas behind, they are
+-- what is promised (picked-as).
+use mathlib.Core.Path.{refl, sym, ap, _∙_}
+use Prim.Native.Nat.{min}
+use lib.Seq.{length-take-le}
+use Rattle.walk_pick.specs.Picks.{roomIn}
+use Rattle.walk_pick.specs.PairLaws.{front-tables, picked-as}
 use borrow.Author.Needs.{needs}
 use native.Mathlib.Omega.{arith}
-use Prim.Native.Nat.{_-_, _≤_}
 use Rattle.walk_pick.proofs.pick_edges.Statement.{statement}
 use Rattle.walk_pick.proofs.pick_edges.Tie as tie
 
-abbrev Inv-loop : tie.InvT-loop
-Inv-loop table n forwards₀ backs₀ edges₀ back₀ i₀ forwards backs edges back i = (i ≤ n) × RowsKept table n i forwards backs edges back
+slice-aggregate-pick-rows : tie.Need-slice-aggregate-pick-rows
+slice-aggregate-pick-rows c =
+    let whole = c .before .lesser2 .ensures in
+    let least = c .before .before .lesser .ensures in
+    sym (length-take-le _ _ (omega arith))
 
-abbrev μ-loop : tie.MeasureT-loop
-μ-loop table n forwards₀ backs₀ edges₀ back₀ i₀ forwards backs edges back i = n - i
+slice-aggregate-pick-rows-2 : tie.Need-slice-aggregate-pick-rows-2
+slice-aggregate-pick-rows-2 c =
+    let whole = c .before .before .lesser2 .ensures in
+    let least = c .before .before .before .lesser .ensures in
+    sym (length-take-le _ _ (omega arith))
 
-row-count-requires : tie.Need-row-count-requires Inv-loop μ-loop
-row-count-requires c κs = search needs
+pick-rows-requires : tie.Need-pick-rows-requires
+unfolding roomIn
+pick-rows-requires c κs =
+    let front = front-tables _ _ (c .before .before .lesser2 .ensures ∙ ap (min 64) (c .before .before .before .lesser .ensures)) in
+    record { rows = refl; forwards-for = front .2; backs-for = front .3 }
 
-loop-holds : tie.Need-loop-holds Inv-loop μ-loop
-loop-holds c = (omega arith, rows-first _ _)
-
-pick-row-requires : tie.Need-pick-row-requires Inv-loop μ-loop
-pick-row-requires c κs = rows-few _ _ (c .before .before .before .before .row-count .ensures)
-
-add-edges : tie.Need-add-edges Inv-loop μ-loop
-add-edges c =
-    let few = rows-few _ _ (c .before .before .before .before .before .before .row-count .ensures) in
-    let h = rows-most few (c .before .before .before .before .before .loop .inv .1) in
-    let l = c .before .before .before .before .loop-test .taken in
-    let m = row-most (c .before .pick-row .ensures) in
-    record { fits = omega (arith, h .0, m .0) }
-
-add-back : tie.Need-add-back Inv-loop μ-loop
-add-back c =
-    let few = rows-few _ _ (c .before .before .before .before .before .before .before .row-count .ensures) in
-    let h = rows-most few (c .before .before .before .before .before .before .loop .inv .1) in
-    let l = c .before .before .before .before .before .loop-test .taken in
-    let m = row-most (c .before .before .pick-row .ensures) in
-    record { fits = omega (arith, h .1, m .1) }
-
-add-i : tie.Need-add-i Inv-loop μ-loop
-add-i c = search needs
-
-loop-less : tie.Need-loop-less Inv-loop μ-loop
-loop-less c = search needs
-
-loop-again : tie.Need-loop-again Inv-loop μ-loop
-loop-again c =
-    (omega arith, rows-turn _ _ _ (c .before .before .before .before .before .before .loop .inv .1) (c .before .before .pick-row .ensures))
-
-returns : tie.Need-returns Inv-loop μ-loop
+returns : tie.Need-returns
+unfolding roomIn
 returns c =
-    all-picked _ _ _ (c .before .before .row-count .ensures) (c .before .loop .inv .0) (c .loop-test .left) (c .before .loop .inv .1)
+    let picked = c .before .before .before .before in
+    let room = picked .before .before .before in
+    picked-as _ _ _ (room .lesser2 .ensures ∙ ap (min 64) (room .before .lesser .ensures)) (picked .pick-rows .ensures)
 
 pub pick-edges-spec : {M : Type 1} → statement M
 pick-edges-spec =
     tie.close
     (tie.spec
-    Inv-loop
-    μ-loop
-    row-count-requires
-    loop-holds
-    pick-row-requires
-    add-edges
-    add-back
-    add-i
-    loop-less
-    loop-again
+    (λ c κs. search needs)
+    (λ c κs. search needs)
+    (λ c. search needs)
+    (λ c. search needs)
+    slice-aggregate-pick-rows
+    (λ c. search needs)
+    slice-aggregate-pick-rows-2
+    pick-rows-requires
+    (λ c. search needs)
+    (λ c. search needs)
     returns)

@@ -1,48 +1,63 @@
 -- After j rows the words of row i with each of them are kept and their edges counted (row-turn); after the last turn that is the whole row
 -- (row-read).
-use Rattle.kind_table.specs.CodeLaws.{code-right}
+use Rattle.edge_count.specs.SlotLaws.{rows-few}
 use Rattle.walk_pick.specs.PickSteps.{RowKept}
-use Rattle.walk_pick.specs.PairLaws.{row-first, row-turn, row-read, row-most, pair-most}
+use Rattle.walk_pick.specs.PairLaws.{row-first, row-turn, row-read, row-most, pair-most, row-whole}
+use Rattle.walk_pick.specs.PickStepLaws.{row-tables}
 use borrow.Author.Needs.{needs}
 use native.Mathlib.Omega.{arith}
+use mathlib.Core.Path.{sym, _∙_}
 use Prim.Native.Nat.{_-_, _≤_}
 use Rattle.walk_pick.proofs.pick_row.Statement.{statement}
 use Rattle.walk_pick.proofs.pick_row.Tie as tie
 
 abbrev Inv-loop : tie.InvT-loop
-Inv-loop table n i forwards₀ backs₀ p codes edges₀ back₀ j₀ forwards backs edges back j =
-    (j ≤ n) × RowKept table p j forwards₀ backs₀ forwards backs edges back
+Inv-loop table n i limit forwards₀ backs₀ p codes loose edges₀ back₀ j₀ forwards backs edges back j =
+    (j ≤ n) × RowKept limit table p j forwards₀ backs₀ forwards backs edges back
 
 abbrev μ-loop : tie.MeasureT-loop
-μ-loop table n i forwards₀ backs₀ p codes edges₀ back₀ j₀ forwards backs edges back j = n - j
+μ-loop table n i limit forwards₀ backs₀ p codes loose edges₀ back₀ j₀ forwards backs edges back j = n - j
 
 row-at-requires : tie.Need-row-at-requires Inv-loop μ-loop
 row-at-requires c κs = search needs
 
-loop-holds : tie.Need-loop-holds Inv-loop μ-loop
-loop-holds c = (omega arith, row-first _ _)
+codes-from-requires : tie.Need-codes-from-requires Inv-loop μ-loop
+codes-from-requires c κs = search needs
 
-row-at-requires-2 : tie.Need-row-at-requires-2 Inv-loop μ-loop
-row-at-requires-2 c κs = search needs
+kind-has-requires : tie.Need-kind-has-requires Inv-loop μ-loop
+kind-has-requires c κs = search needs
+
+loop-holds : tie.Need-loop-holds Inv-loop μ-loop
+loop-holds c = (omega arith, row-first _ _ _)
 
 pick-pair-requires : tie.Need-pick-pair-requires Inv-loop μ-loop
 pick-pair-requires c κs =
-    code-right _ _ (c .before .before .before .before .before .before .before .codes-from .ensures) (c .before .before .code-to .ensures)
+    let known = c .before .before .before .before .before .before .before .before .before .before .before .pre in
+    let tables = row-tables (known .forwards-for) (known .backs-for) (c .before .before .before .before .loop .inv .1) in
+    record {
+      whole = row-whole _ (known .rows) (c .before .before .before .loop-test .taken);
+      codes-are = c .before .before .before .before .before .before .codes-from .ensures;
+      loose-is = c .before .before .before .before .before .kind-has .ensures;
+      forwards-for = tables .0;
+      backs-for = tables .1;
+    }
 
 add-edges : tie.Need-add-edges Inv-loop μ-loop
 add-edges c =
-    let few = c .before .before .before .before .before .before .before .before .before .before .before .before .pre in
-    let h = row-most (c .before .before .before .before .before .before .before .before .loop .inv .1) in
-    let l = c .before .before .before .before .before .before .before .loop-test .taken in
-    let m = pair-most (c .before .pick-pair .ensures) in
+    let test = c .before .before .before .before .before .before .before .before .before in
+    let few = rows-few _ _ (test .before .before .before .before .before .before .before .before .pre .rows) in
+    let h = row-most (test .before .loop .inv .1) in
+    let l = test .loop-test .taken in
+    let m = pair-most (c .before .before .before .before .before .pick-pair .ensures) in
     record { fits = omega (arith, h .0, m .0) }
 
 add-back : tie.Need-add-back Inv-loop μ-loop
 add-back c =
-    let few = c .before .before .before .before .before .before .before .before .before .before .before .before .before .pre in
-    let h = row-most (c .before .before .before .before .before .before .before .before .before .loop .inv .1) in
-    let l = c .before .before .before .before .before .before .before .before .loop-test .taken in
-    let m = pair-most (c .before .before .pick-pair .ensures) in
+    let test = c .before .before .before .before .before .before .before .before .before .before in
+    let few = rows-few _ _ (test .before .before .before .before .before .before .before .before .pre .rows) in
+    let h = row-most (test .before .loop .inv .1) in
+    let l = test .loop-test .taken in
+    let m = pair-most (c .before .before .before .before .before .before .pick-pair .ensures) in
     record { fits = omega (arith, h .1, m .1) }
 
 add-j : tie.Need-add-j Inv-loop μ-loop
@@ -53,13 +68,26 @@ loop-less c = search needs
 
 loop-again : tie.Need-loop-again Inv-loop μ-loop
 loop-again c =
-    let row = c .before .before .before .before .before .before .before in
-    (omega arith, row-turn _ _ _ _ (row .row-at2 .ensures) (row .before .before .loop .inv .1) (c .before .before .pick-pair .ensures))
+    let pair = c .before .before .before .before .before .before in
+    (omega arith, row-turn _ _ _ _ (pair .before .before .before .before .before .loop .inv .1) (pair .pick-pair .ensures))
+
+same-length : tie.Need-same-length Inv-loop μ-loop
+same-length c =
+    let known = c .before .before .before .before .before .before .before .before .pre in
+    let tables = row-tables (known .forwards-for) (known .backs-for) (c .before .loop .inv .1) in
+    tables .0 .size ∙ sym (known .forwards-for .size)
+
+same-length-2 : tie.Need-same-length-2 Inv-loop μ-loop
+same-length-2 c =
+    let known = c .before .before .before .before .before .before .before .before .pre in
+    let tables = row-tables (known .forwards-for) (known .backs-for) (c .before .loop .inv .1) in
+    tables .1 .size ∙ sym (known .backs-for .size)
 
 returns : tie.Need-returns Inv-loop μ-loop
 returns c =
-    row-read (c .before .before .before .row-at .ensures)
-    (let a = c .before .loop .inv .0 in let b = c .loop-test .left in omega arith) (c .before .loop .inv .1)
+    let a = c .before .loop .inv .0 in
+    let b = c .loop-test .left in
+    row-read (c .before .before .before .before .row-at .ensures) (omega arith) (c .before .loop .inv .1)
 
 pub pick-row-spec : {M : Type 1} → statement M
 pick-row-spec =
@@ -68,14 +96,15 @@ pick-row-spec =
     Inv-loop
     μ-loop
     row-at-requires
-    (λ c κs. search needs)
+    codes-from-requires
+    kind-has-requires
     loop-holds
-    row-at-requires-2
-    (λ c κs. search needs)
     pick-pair-requires
     add-edges
     add-back
     add-j
     loop-less
     loop-again
+    same-length
+    same-length-2
     returns)

@@ -1,22 +1,25 @@
--- After u turns the first u words are the rows of their nodes (list-turn); after 64 all are.
-use Rattle.walk_reach.specs.NodeWordLaws.{list-turn, last-turn}
-use Rattle.walk_reach.specs.Layers.{joinedRow, listBelow, joinedRows}
-use borrow.Author.Needs.{needs}
+-- After u turns the first u words are the rows of their nodes (list-turn); after the last row all are.
 use native.Mathlib.Omega.{arith}
 use mathlib.Core.Path.{_≡_, refl}
 use Prim.Native.Nat.{_-_, _≤_}
+use borrow.Author.Needs.{needs}
+use Rattle.walk_reach.specs.Layers.{joinedRow, rowsIn, rowsFilled, listBelow}
+use Rattle.walk_reach.specs.NodeWordLaws.{list-turn, last-turn}
 use Rattle.walk_reach.proofs.joined_rows.Statement.{statement}
 use Rattle.walk_reach.proofs.joined_rows.Tie as tie
 
 abbrev Inv-loop : tie.InvT-loop
-Inv-loop forwards rows₀ u₀ rows u = (u ≤ 64) × (rows ≡ listBelow (joinedRow forwards) u)
+Inv-loop forwards n rows₀ u₀ rows u = (u ≤ n) × (n ≤ 64) × (n ≡ rowsIn forwards) × (rows ≡ listBelow (joinedRow forwards) u)
 
 abbrev μ-loop : tie.MeasureT-loop
-μ-loop forwards rows₀ u₀ rows u = 64 - u
+μ-loop forwards n rows₀ u₀ rows u = n - u
+
+rows-in-requires : tie.Need-rows-in-requires Inv-loop μ-loop
+rows-in-requires c κs = search needs
 
 loop-holds : tie.Need-loop-holds Inv-loop μ-loop
 unfolding listBelow
-loop-holds c = (omega arith, refl)
+loop-holds c = (omega arith, c .rows-in .ensures .1, c .rows-in .ensures .0, refl)
 
 joined-row-requires : tie.Need-joined-row-requires Inv-loop μ-loop
 joined-row-requires c κs = search needs
@@ -34,11 +37,18 @@ loop-less : tie.Need-loop-less Inv-loop μ-loop
 loop-less c = search needs
 
 loop-again : tie.Need-loop-again Inv-loop μ-loop
-loop-again c = (omega arith, list-turn _ _ (c .before .before .loop .inv .1) (c .joined-row .ensures) refl)
+loop-again c = (
+  omega arith,
+  c .before .before .loop .inv .1,
+  c .before .before .loop .inv .2,
+  list-turn _ _ (c .before .before .loop .inv .3)
+      (c .joined-row .ensures) refl,
+)
 
 returns : tie.Need-returns Inv-loop μ-loop
-unfolding joinedRows
-returns c = last-turn (listBelow (joinedRow _)) 64 _ (c .before .loop .inv .1) (c .before .loop .inv .0) (c .loop-test .left)
+unfolding rowsFilled
+returns c = let few = c .before .loop .inv .2 in let h = c .before .loop .inv .0 in let l = c .loop-test .left in
+    last-turn (listBelow (joinedRow _)) (rowsIn _) _ (c .before .loop .inv .3) (omega arith) (omega arith)
 
 pub joined-rows-spec : {M : Type 1} → statement M
 joined-rows-spec =
@@ -46,6 +56,7 @@ joined-rows-spec =
     (tie.spec
     Inv-loop
     μ-loop
+    rows-in-requires
     loop-holds
     joined-row-requires
     mul-rows

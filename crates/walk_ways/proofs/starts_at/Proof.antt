@@ -4,14 +4,11 @@ use borrow.Author.Needs.{needs}
 use Rattle.walk_ways.proofs.starts_at.Statement.{statement}
 use Rattle.walk_ways.proofs.starts_at.Tie as tie
 
-mul-if1 : tie.Need-mul-if1
-mul-if1 c = search needs
-
-element-copy-out-if1 : tie.Need-element-copy-out-if1
-element-copy-out-if1 c = search needs
+word-at-requires : tie.Need-word-at-requires
+word-at-requires c κs = search needs
 
 returns : tie.Need-returns
-returns c = starts-not _ _ _ _ (c .if1 .taken)
+returns c = starts-not _ _ _ _ (c .before .word-at .ensures) (c .if1 .taken)
 
 ways-to-requires : tie.Need-ways-to-requires
 ways-to-requires c κs = search needs
@@ -22,8 +19,8 @@ openings-requires c κs = search needs
 slice-aggregate-word-at : tie.Need-slice-aggregate-word-at
 slice-aggregate-word-at c = search needs
 
-word-at-requires : tie.Need-word-at-requires
-word-at-requires c κs = search needs
+word-at-requires-2 : tie.Need-word-at-requires-2
+word-at-requires-2 c κs = search needs
 
 has-bit-requires : tie.Need-has-bit-requires
 has-bit-requires c κs = search needs
@@ -31,20 +28,21 @@ has-bit-requires c κs = search needs
 returns-2 : tie.Need-returns-2
 returns-2 c =
     let c3 = c .before .before .before in
-    let c6 = c3 .before .before .before in
-    starts-open _ _ _ _ (c6 .if1 .left) (c3 .before .before .ways-to .ensures) (c3 .openings .ensures) (c .before .word-at .ensures)
+    let c5 = c3 .before .before in
+    let c6 = c5 .before in
+    let c7 = c6 .before in
+    starts-open _ _ _ _ (c7 .word-at .ensures) (c6 .if1 .left) (c5 .ways-to .ensures) (c3 .openings .ensures) (c .before .word-at2 .ensures)
     (c .has-bit .ensures)
 
 pub starts-at-spec : {M : Type 1} → statement M
 starts-at-spec =
     tie.close
     (tie.spec
-    mul-if1
-    element-copy-out-if1
+    word-at-requires
     returns
     ways-to-requires
     openings-requires
     slice-aggregate-word-at
-    word-at-requires
+    word-at-requires-2
     has-bit-requires
     returns-2)

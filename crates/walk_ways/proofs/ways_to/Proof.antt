@@ -3,7 +3,6 @@ use Rattle.walk_ways.specs.Ways.{exactWord, waysTo}
 use Rattle.walk_reach.specs.Layers.{filled}
 use Rattle.walk_reach.specs.FilledLaws.{filled-turn}
 use Rattle.walk_ways.specs.TurnLaws.{way-first, ways-first, way-turn}
-use borrow.Author.Tests.{ltb-true}
 use borrow.Author.Needs.{needs}
 use native.Mathlib.Omega.{arith}
 use mathlib.Core.Path.{_≡_, refl, ap, _∙_}
@@ -21,14 +20,14 @@ abbrev μ-loop : tie.MeasureT-loop
 capped-requires : tie.Need-capped-requires Inv-loop μ-loop
 capped-requires c κs = search needs
 
-with-node-requires : tie.Need-with-node-requires Inv-loop μ-loop
-with-node-requires c κs = λ e. ltb-true _ _ e
+node-word-requires : tie.Need-node-word-requires Inv-loop μ-loop
+node-word-requires c κs = search needs
 
 array-write-ways : tie.Need-array-write-ways Inv-loop μ-loop
 array-write-ways c = search needs
 
 loop-holds : tie.Need-loop-holds Inv-loop μ-loop
-loop-holds c = (omega arith, ways-first _ _ (c .with-node .ensures), way-first _ _ (c .with-node .ensures))
+loop-holds c = (omega arith, ways-first _ _ (c .node-word .ensures), way-first _ _ (c .node-word .ensures))
 
 nodes-into-requires : tie.Need-nodes-into-requires Inv-loop μ-loop
 nodes-into-requires c κs = search needs
@@ -62,7 +61,7 @@ ways-to-spec =
     Inv-loop
     μ-loop
     capped-requires
-    with-node-requires
+    node-word-requires
     array-write-ways
     loop-holds
     nodes-into-requires

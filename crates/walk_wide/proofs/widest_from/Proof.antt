@@ -10,23 +10,20 @@ width-into-requires c κs = search needs
 returns : tie.Need-returns
 returns c = widest-first _ _ _ _ _ (c .before .if1 .taken) (c .width-into .ensures)
 
+word-at-requires : tie.Need-word-at-requires
+word-at-requires c κs = search needs
+
 sub-greatest-in : tie.Need-sub-greatest-in
 sub-greatest-in c = search needs
 
 mul-greatest-in : tie.Need-mul-greatest-in
 mul-greatest-in c = search needs
 
-mul-greatest-in-2 : tie.Need-mul-greatest-in-2
-mul-greatest-in-2 c = search needs
-
-element-copy-out-greatest-in : tie.Need-element-copy-out-greatest-in
-element-copy-out-greatest-in c = search needs
-
 greatest-in-requires : tie.Need-greatest-in-requires
 greatest-in-requires c κs = search needs
 
 returns-2 : tie.Need-returns-2
-returns-2 c = widest-later _ _ _ _ _ (c .before .before .if1 .left) (c .greatest-in .ensures)
+returns-2 c = widest-later _ _ _ _ _ (c .before .before .if1 .left) (c .before .word-at .ensures) (c .greatest-in .ensures)
 
 pub widest-from-spec : {M : Type 1} → statement M
 widest-from-spec =
@@ -34,9 +31,8 @@ widest-from-spec =
     (tie.spec
     width-into-requires
     returns
+    word-at-requires
     sub-greatest-in
     mul-greatest-in
-    mul-greatest-in-2
-    element-copy-out-greatest-in
     greatest-in-requires
     returns-2)

@@ -1,0 +1,5 @@
+pub mod StageLaws
+pub mod Middle
+pub mod ReadLaws
+pub mod EdgesTold
+pub mod EdgesLaws

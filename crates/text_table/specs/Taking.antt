@@ -1,0 +1,26 @@
+-- The steps of the code that reads a text into lent words.
+use mathlib.Core.List.{List, [], _∷_, _++_}
+use mathlib.Core.Path.{_≡_}
+use Prim.Native.Nat.{ℕ, _*_}
+use lib.ListN.{length, drop}
+use Rattle.spec_text.specs.declared.Line.{Line}
+use Rattle.spec_text.specs.Text.{linesIn}
+use Rattle.spec_text.specs.Reading.{fault, readLines}
+use Rattle.line_rules.specs.Holds.{faultOf}
+use Rattle.line_rules.specs.WordsHold.{HoldsWords}
+use Rattle.value_tables.specs.Lines.{lineTable, linePut}
+
+-- a line's fault is told; without one the line is put into the table, and is one of the lines that the state holds
+pub record LineTaken (state table : List ℕ) (n : ℕ) (l : Line) (r : ℕ) (state′ table′ : List ℕ) : Type 0 where
+  pub told : (lines : List Line) → HoldsWords state lines → faultOf r ≡ fault lines l
+  pub put : r ≡ 0 → table′ ≡ linePut table n l
+  pub held : r ≡ 0 → (lines : List Line) → HoldsWords state lines → HoldsWords state′ (lines ++ (l ∷ []))
+
+-- between two lines: these were taken, the words hold them, and what is read is what the lines left give after them
+pub record Going (text : List ℕ) (start : ℕ) (table₀ state table : List ℕ) (at n : ℕ) : Type 0 where
+  pub before : List Line
+  pub count : n ≡ length before
+  pub size : length table₀ ≡ 12928
+  pub rows : table ≡ lineTable before ++ drop (8 * n) table₀
+  pub holds : HoldsWords state before
+  pub reads : readLines before (linesIn (drop at text)) ≡ readLines [] (linesIn (drop start text))

@@ -1,0 +1,238 @@
+-- Each step of the code is one of `readLines`, and the table follows.
+use mathlib.Core.Bool.{Bool, true, false, cond}
+use mathlib.Core.List.{List, [], _∷_, _++_, append-assoc, flatMap}
+use mathlib.Core.Option.{Option, none, some}
+use mathlib.Core.Path.{_≡_, refl, sym, ap, ap₂, subst, _∙_}
+use Prim.Native.Nat.{ℕ, suc, _+_, _*_, _≤_, _<_}
+use native.Mathlib.Omega.{arith}
+use lib.Dec.{eqb}
+use lib.ListN.{length, take, drop, length-append, length-drop, drop-of-length-le}
+use lib.Seq.{take-at, drop-at, drop-drop, length-take-le}
+use borrow.Author.Tests.{eq-eqb, ne-eqb}
+use Rattle.spec_text.specs.declared.Line.{Line}
+use Rattle.spec_text.specs.Text.{linesIn, lineOf}
+use Rattle.spec_text.specs.Reading.{fault, noneOpen, readLines, Outcome}
+use Rattle.spec_text.specs.Reading.Outcome.{refused, accepted}
+use Rattle.line_state.specs.StateWords.{stateIn}
+use Rattle.line_rules.specs.Holds.{faultOf}
+use Rattle.line_rules.specs.HoldsLaws.{holds-few}
+use Rattle.line_rules.specs.WordsHold.{HoldsWords}
+use Rattle.text_lines.specs.Span.{spanAt}
+use Rattle.text_lines.specs.SpanLaws.{line-found}
+use Rattle.text_lines.specs.Going.{Came}
+use Rattle.text_lines.specs.GoingLaws.{came}
+use Rattle.text_fields.specs.LineIn.{lineBytes, placeAfter}
+use Rattle.text_fields.specs.LineInLaws.{span-bytes, span-next}
+use Rattle.value_tables.specs.Lines.{lineWords, lineTable, linePut}
+use Rattle.value_tables.specs.LineLaws.{lineTable-length, lineTable-more, put-there}
+use Rattle.word_rows.specs.Put.{putAt}
+use Rattle.text_table.specs.declared.TextTable.{TextTable}
+use Rattle.text_table.specs.Tabled.{notRead, linesRead, TextTabled}
+use Rattle.text_table.specs.Tabled.TextTabled.{unread, tabled}
+use Rattle.text_table.specs.Taking.{LineTaken, Going}
+
+-- ---- a line of the text
+
+-- the line at a place is the first of those left, and the others stand from the place after it on, which is further
+pub line-here : (text : List ℕ) (at : ℕ) → at < length text
+    → (linesIn (drop at text) ≡ lineBytes text at ∷ linesIn (drop (placeAfter text at) text)) × (at < placeAfter text at)
+line-here text at inside =
+    let here = came text at 0 (line-found text at 0 inside refl) in (
+      here .lines
+          ∙ ap₂ (λ (b : List ℕ) (k : ℕ). b ∷ linesIn (drop k text)) (span-bytes text at 0) (span-next text at 0),
+      here .further,
+    )
+
+-- ---- `readLines`, case by case
+
+read-wrong : (before : List Line) (bytes : List ℕ) (rest : List (List ℕ)) → lineOf bytes ≡ none
+    → readLines before (bytes ∷ rest) ≡ refused 4 (length before + 2)
+unfolding readLines
+read-wrong before bytes rest e =
+    ap {B = Outcome}
+    (λ o. elim o [
+      | none ↦ refused 4 (length before + 2)
+      | some x ↦
+          elim (fault before x) [
+            | some number ↦ refused number (length before + 2)
+            | none ↦ readLines (before ++ (x ∷ [])) rest
+          ]
+    ])
+    e
+
+after-line : List Line → List (List ℕ) → Line → Option ℕ → Outcome
+after-line before rest l o = elim o [ some number ↦ refused number (length before + 2) | none ↦ readLines (before ++ (l ∷ [])) rest ]
+
+read-line : (before : List Line) (bytes : List ℕ) (rest : List (List ℕ)) (l : Line) → lineOf bytes ≡ some l
+    → readLines before (bytes ∷ rest) ≡ after-line before rest l (fault before l)
+unfolding readLines after-line
+read-line before bytes rest l e =
+    ap {B = Outcome}
+    (λ o. elim o [
+      | none ↦ refused 4 (length before + 2)
+      | some x ↦
+          elim (fault before x) [
+            | some number ↦ refused number (length before + 2)
+            | none ↦ readLines (before ++ (x ∷ [])) rest
+          ]
+    ])
+    e
+
+-- the fault that a number tells
+fault-some : {n : ℕ} {o : Option ℕ} → faultOf n ≡ o → (n ≡ 0 → ⊥) → o ≡ some n
+unfolding faultOf
+fault-some {n} e z = sym e ∙ ap (λ t. cond t none (some n)) (ne-eqb n 0 z)
+
+fault-none : {n : ℕ} {o : Option ℕ} → faultOf n ≡ o → n ≡ 0 → o ≡ none
+unfolding faultOf
+fault-none {n} e z = sym e ∙ ap (λ t. cond t none (some n)) (eq-eqb n 0 z)
+
+-- a line that fails a test is not taken
+pub not-taken : {state table : List ℕ} {n : ℕ} {l : Line} {r : ℕ} {state′ table′ : List ℕ}
+    → ((lines : List Line) → HoldsWords state lines → faultOf r ≡ fault lines l) → (r ≡ 0 → ⊥) → LineTaken state table n l r state′ table′
+not-taken told other = record { told = told; put = λ z. absurd (other z); held = λ z. absurd (other z) }
+
+-- one that passes them is
+pub is-taken : {state table : List ℕ} {n : ℕ} {l : Line} {r : ℕ} {state′ table′ : List ℕ}
+    → ((lines : List Line) → HoldsWords state lines → faultOf r ≡ fault lines l) → r ≡ 0
+    → ((lines : List Line) → HoldsWords state lines → fault lines l ≡ none → HoldsWords state′ (lines ++ (l ∷ [])))
+    → table′ ≡ linePut table n l → LineTaken state table n l 0 state′ table′
+is-taken told z taken put =
+    record {
+      told = λ lines h. ap faultOf (sym z) ∙ told lines h;
+      put = λ e. put;
+      held = λ e lines h. taken lines h (fault-none (told lines h) z);
+    }
+
+-- ---- the table
+
+-- words put right after a front
+put-after : (front rest words : List ℕ) (k : ℕ) → k ≡ length front → putAt (front ++ rest) k words ≡ (front ++ words) ++ drop (length words) rest
+unfolding putAt
+put-after front rest words k e =
+    ap₂ (λ (a b : List ℕ). a ++ (words ++ b)) (take-at front rest k (sym e))
+    (ap (λ (j : ℕ). drop (j + length words) (front ++ rest)) e
+    ∙ sym (drop-drop (length words) (length front) (front ++ rest))
+    ∙ ap (drop (length words)) (drop-at front rest (length front) refl))
+    ∙ sym (append-assoc front words (drop (length words) rest))
+
+-- ---- between two lines
+
+pub going-first : (text : List ℕ) (start : ℕ) {table state : List ℕ} → length table ≡ 12928 → HoldsWords state []
+    → Going text start table state table start 0
+unfolding lineTable flatMap
+going-first text start size h = record { before = []; count = refl; size = size; rows = refl; holds = h; reads = refl }
+
+-- at the same place
+pub going-at : {text : List ℕ} {start : ℕ} {table₀ state table : List ℕ} {at place n : ℕ} → Going text start table₀ state table at n → place ≡ at
+    → Going text start table₀ state table place n
+going-at {text} {start} {table₀} {state} {table} {n = n} g e = subst (λ k. Going text start table₀ state table k n) (sym e) g
+
+module _ {text : List ℕ} {start : ℕ} {table₀ state table : List ℕ} {at n : ℕ} (g : Going text start table₀ state table at n) where
+  abbrev lines : List Line
+  lines = g .before
+
+  pub going-few : n ≤ 1616
+  going-few =
+      let few = holds-few (stateIn state) lines (g .holds .state) in
+      let count = g .count in
+      omega arith
+
+  pub going-long : length table ≡ 12928
+  going-long =
+      let few = going-few in
+      let size = g .size in
+      let many = lineTable-length lines in
+      let rest = length-drop (8 * n) table₀ in
+      let count = g .count in
+      ap length (g .rows) ∙ length-append (lineTable lines) (drop (8 * n) table₀) ∙ omega arith
+
+  module _ (inside : at < length text) where
+    abbrev rest : List (List ℕ)
+    rest = linesIn (drop (placeAfter text at) text)
+
+    reads-here : readLines lines (lineBytes text at ∷ rest) ≡ readLines [] (linesIn (drop start text))
+    reads-here = ap (readLines lines) (sym (line-here text at inside .0)) ∙ g .reads
+
+    -- R4
+    pub going-wrong : lineOf (lineBytes text at) ≡ none → readLines [] (linesIn (drop start text)) ≡ refused 4 (n + 2)
+    going-wrong e =
+        sym reads-here ∙ read-wrong lines (lineBytes text at) rest e ∙ ap (λ (k : ℕ). refused 4 (k + 2)) (sym (g .count))
+
+    module _ {l : Line} (is-line : lineOf (lineBytes text at) ≡ some l) {r : ℕ} {state′ table′ : List ℕ}
+        (taken : LineTaken state table n l r state′ table′) where
+      -- the first test that fails
+      pub going-fault : (r ≡ 0 → ⊥) → readLines [] (linesIn (drop start text)) ≡ refused r (n + 2)
+      unfolding after-line
+      going-fault z =
+          sym reads-here
+          ∙ read-line lines (lineBytes text at) rest l is-line
+          ∙ ap (after-line lines rest l) (fault-some (taken .told lines (g .holds)) z)
+          ∙ ap (λ (k : ℕ). refused r (k + 2)) (sym (g .count))
+
+      module _ (passes : r ≡ 0) where
+        held′ : HoldsWords state′ (lines ++ (l ∷ []))
+        held′ = taken .held passes lines (g .holds)
+
+        pub going-room : n < 1616
+        going-room =
+            let few = holds-few (stateIn state′) (lines ++ (l ∷ [])) (held′ .state) in
+            let count = g .count in
+            let more = length-append lines (l ∷ []) in
+            omega arith
+
+        pub going-next : Going text start table₀ state′ table′ (placeAfter text at) (n + 1)
+        unfolding after-line lineWords
+        going-next =
+            let room = going-room in
+            let long = going-long in
+            let size = g .size in
+            let count = g .count in
+            let front = lineTable-length lines in
+            let turned : 8 * n ≡ n * 8 = omega arith in
+            let next : 8 * n + 8 ≡ 8 * (n + 1) = omega arith in
+            record {
+              before = lines ++ (l ∷ []);
+              count = let more = length-append lines (l ∷ []) in omega arith;
+              size = size;
+              rows =
+                  taken .put passes
+                  ∙ put-there table n l room (omega arith)
+                  ∙ ap (λ (t : List ℕ). putAt t (n * 8) (lineWords l)) (g .rows)
+                  ∙ put-after (lineTable lines) (drop (8 * n) table₀) (lineWords l) (n * 8) (omega arith)
+                  ∙ ap₂ (λ (a b : List ℕ). a ++ b) (sym (lineTable-more lines l))
+                  (drop-drop 8 (8 * n) table₀ ∙ ap (λ (k : ℕ). drop k table₀) next);
+              holds = held′;
+              reads =
+                  sym (read-line lines (lineBytes text at) rest l is-line
+                  ∙ ap (after-line lines rest l) (fault-none (taken .told lines (g .holds)) passes))
+                  ∙ reads-here;
+            }
+
+  -- after the last line
+  module _ (outside : length text ≤ at) (d : ℕ) (open-blocks : (ls : List Line) → HoldsWords state ls → noneOpen ls ≡ eqb d 0) where
+    at-end : readLines [] (linesIn (drop start text)) ≡ elim (eqb d 0) [ true ↦ accepted lines | false ↦ refused 7 (length lines + 1) ]
+    unfolding readLines linesIn
+    at-end =
+        sym (g .reads)
+        ∙ ap (λ (t : List ℕ). readLines lines (linesIn t)) (drop-of-length-le text outside)
+        ∙ ap {B = Outcome} (λ t. elim t [ true ↦ accepted lines | false ↦ refused 7 (length lines + 1) ]) (open-blocks lines (g .holds))
+
+    pub going-open : (d ≡ 0 → ⊥) → readLines [] (linesIn (drop start text)) ≡ refused 7 (n + 1)
+    going-open z =
+        at-end
+        ∙ ap {B = Outcome} (λ t. elim t [ true ↦ accepted lines | false ↦ refused 7 (length lines + 1) ]) (ne-eqb d 0 z)
+        ∙ ap (λ (k : ℕ). refused 7 (k + 1)) (sym (g .count))
+
+    pub going-closed : d ≡ 0 → TextTabled (readLines [] (linesIn (drop start text))) table₀ (linesRead n) table
+    going-closed z =
+        tabled lines
+        (at-end ∙ ap {B = Outcome} (λ t. elim t [ true ↦ accepted lines | false ↦ refused 7 (length lines + 1) ]) (eq-eqb d 0 z))
+        (ap linesRead (g .count))
+        (g .rows ∙ ap (λ (k : ℕ). lineTable lines ++ drop (8 * k) table₀) (g .count))
+
+-- ---- the whole text
+
+-- what the tests of the whole text settle is what reading it gives
+pub tabled-as : {o p : Outcome} {before : List ℕ} {r : TextTable} {after : List ℕ} → o ≡ p → TextTabled o before r after → TextTabled p before r after
+tabled-as {before = before} {r} {after} e t = subst (λ (x : Outcome). TextTabled x before r after) e t
