@@ -12,13 +12,13 @@ pub record UnfoldingTable : Type 0 where
   pub used : ℕ
   pub program : List ℕ
   pub start : List ℕ
-  pub length : List ℕ
+  pub lengths : List ℕ
 
 -- with room for 64 rows
 pub record Wide (t : UnfoldingTable) : Type 0 where
   pub programs : length (t .program) ≡ 64
   pub starts : length (t .start) ≡ 64
-  pub lengths : length (t .length) ≡ 64
+  pub lengths : length (t .lengths) ≡ 64
 
 -- one row more
 unfoldable pub added : UnfoldingTable → ℕ → ℕ → UnfoldingTable
@@ -28,7 +28,7 @@ added t program n =
       used = t .used + n;
       program = set (t .program) (t .count) program;
       start = set (t .start) (t .count) (t .used);
-      length = set (t .length) (t .count) n;
+      lengths = set (t .lengths) (t .count) n;
     }
 
 unfoldable pub addAll : UnfoldingTable → List Piece → UnfoldingTable
@@ -47,5 +47,5 @@ table ps =
       used = length (flat ps);
       program = cells (map (λ p. p .program) ps);
       start = cells (starts 0 ps);
-      length = cells (map (λ p. length (p .words)) ps);
+      lengths = cells (map (λ p. length (p .words)) ps);
     }

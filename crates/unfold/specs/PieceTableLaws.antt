@@ -18,7 +18,7 @@ wide-added t program n h =
     record {
       programs = length-set (t .program) (t .count) program ∙ h .programs;
       starts = length-set (t .start) (t .count) (t .used) ∙ h .starts;
-      lengths = length-set (t .length) (t .count) n ∙ h .lengths;
+      lengths = length-set (t .lengths) (t .count) n ∙ h .lengths;
     }
 
 pub wide-all : (t : UnfoldingTable) (ps : List Piece) → Wide t → Wide (addAll t ps)

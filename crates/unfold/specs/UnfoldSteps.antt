@@ -12,7 +12,7 @@ use Rattle.unfold.specs.PieceTable.{UnfoldingTable, table}
 
 -- a table told
 unfoldable pub tableTold : UnfoldingTable → Unfolded
-tableTold f = record { refusal = 0; count = f .count; program = f .program; start = f .start; length = f .length }
+tableTold f = record { refusal = 0; count = f .count; program = f .program; start = f .start; length = f .lengths }
 
 -- over the lines' numbers: S22, S20, and the pieces that are written
 unfoldable pub overMany : List ℕ → Bool

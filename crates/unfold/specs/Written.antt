@@ -12,7 +12,7 @@ use Rattle.unfold.specs.UnfoldSteps.{tableTold}
 
 -- the table whose parts are lent apart
 abbrev pub tableAt : Used → List ℕ → List ℕ → List ℕ → UnfoldingTable
-tableAt t program start length = record { count = t .count; used = t .used; program = program; start = start; length = length }
+tableAt t program start lengths = record { count = t .count; used = t .used; program = program; start = start; lengths = lengths }
 
 -- numbers stand at the start of an area, which is otherwise as it was; the result is how many
 pub record Wrote (written before : List ℕ) (r : ℕ) (area : List ℕ) : Type 0 where
