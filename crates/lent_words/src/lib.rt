@@ -1,0 +1,1 @@
+// What is said of words that a caller lends to work in.
