@@ -2,9 +2,10 @@
 # data.sh --check | --copy [VECTORS] | --reports: the texts and outputs that the gate runs, which must stand in the crates of its programs. One
 # policy for all: examples/ and vectors/verdict are the home of their texts and outputs, crates/inspect that of the vectors of reader, unfoldings and
 # edges, and everything else is a copy that `--copy` makes and that `--check` holds to its home.
-#   crates/inspect/{data,args,stdout}     copies of examples/ and vectors/verdict under --report; for --areas what `outside areas` says
+#   crates/inspect/{data,args,stdout}     copies of examples/ and vectors/verdict under --report; for --areas what `outside areas` says; at the end
+#                                         the reports of standard input, answered twice
+#   crates/inspect/stdin                  an example with danger; nothing of it is left for the second answer, that of an empty text
 #   crates/verdict/{stdin,stdout}         an example that is robust
-#   crates/verdict_twice/{stdin,stdout}   an example with danger; its report is followed by that of an empty text
 #   crates/explain/{stdin,stdout}         the longest walk: 16 programs, 64 nodes, blocks in blocks, 65 steps, a pair across the end; what should be
 #                                         printed of it is what `outside facts` says
 #   crates/parts/{data,args,stdout}       copies of examples/: all groups of the programs of SmallBank and of Auction, each with the text that is
@@ -43,7 +44,7 @@ empty=station-empty
 areas="base linked unlinked loop predicate-twice names-alone 65-unfoldings empty"
 
 rm -rf "$made"
-mkdir -p "$made/inspect/data" "$made/verdict" "$made/verdict_twice" "$made/explain" "$made/parts/data"
+mkdir -p "$made/inspect/data" "$made/verdict" "$made/explain" "$made/parts/data"
 : > "$made/inspect/args"
 : > "$made/inspect/stdout"
 : > "$made/parts/args"
@@ -78,8 +79,9 @@ for name in $areas; do
 done
 cp "$root/examples/$robust.txt" "$made/verdict/stdin"
 cp "$root/examples/$robust.out" "$made/verdict/stdout"
-cp "$root/examples/$danger.txt" "$made/verdict_twice/stdin"
-cat "$root/examples/$danger.out" "$root/examples/$empty.out" > "$made/verdict_twice/stdout"
+printf '%s\n' --input --input >> "$made/inspect/args"
+cp "$root/examples/$danger.txt" "$made/inspect/stdin"
+cat "$root/examples/$danger.out" "$root/examples/$empty.out" >> "$made/inspect/stdout"
 cp "$root/examples/longest-walk-back.txt" "$made/explain/stdin"
 "$here/target/outside" facts < "$root/examples/longest-walk-back.txt" > "$made/explain/stdout"
 
@@ -127,7 +129,7 @@ whole auction fb pb
 ask --of station-empty.txt " refused 2"
 ask 0 auction-none.txt " refused 21"
 
-copies="inspect/args inspect/stdout inspect/data verdict/stdin verdict/stdout verdict_twice/stdin verdict_twice/stdout"
+copies="inspect/args inspect/stdin inspect/stdout inspect/data verdict/stdin verdict/stdout"
 copies="$copies explain/stdin explain/stdout parts/args parts/stdout parts/data"
 for file in $copies; do
     if [ "$1" = --copy ]; then

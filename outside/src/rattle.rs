@@ -12,8 +12,8 @@ extern "C" {
         text: *const u8, length: usize, state: *mut u64, lines: *mut u64, places: *mut u64, rows: *mut u64, area: *mut Edge, room: usize,
     ) -> u32;
     fn lent_verdict(
-        text: *const u8, length: usize, state: *mut u64, lines: *mut u64, places: *mut u64, rows: *mut u64, forwards: *mut u64,
-        backs: *mut u64, walk: *mut u64, room: usize,
+        text: *const u8, length: usize, state: *mut u64, lines: *mut u64, places: *mut u64, rows: *mut u64, work: *mut u64,
+        forwards: *mut u64, backs: *mut u64, walk: *mut u64, room: usize,
     ) -> u32;
 }
 
@@ -44,7 +44,7 @@ pub fn edges(text: &[u8], desk: &mut Desk, area: &mut [Edge]) -> u32 {
 pub fn verdict(text: &[u8], desk: &mut Desk, _: &mut [Edge]) -> u32 {
     let words = &mut desk.words;
     let (state, lines) = (words.state.as_mut_ptr(), words.lines.as_mut_ptr());
-    let (places, rows) = (words.places.as_mut_ptr(), words.rows.as_mut_ptr());
+    let (places, rows, work) = (words.places.as_mut_ptr(), words.rows.as_mut_ptr(), words.work.as_mut_ptr());
     let (forwards, backs, walk) = (words.forwards.as_mut_ptr(), words.backs.as_mut_ptr(), words.walk.as_mut_ptr());
-    unsafe { lent_verdict(text.as_ptr(), text.len(), state, lines, places, rows, forwards, backs, walk, words.walk.len()) }
+    unsafe { lent_verdict(text.as_ptr(), text.len(), state, lines, places, rows, work, forwards, backs, walk, words.walk.len()) }
 }

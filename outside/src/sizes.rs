@@ -1,5 +1,5 @@
-//! The workloads that are timed: small, middle, largest (64 nodes, 512 statements, every pair of places an edge; robust and danger), kinds mixed,
-//! many relations, links, loops and branches, and texts at their bounds.
+//! The workloads that are timed: small and middle (robust and danger), largest (64 nodes, 512 statements, every pair of places an edge; robust and
+//! danger), kinds mixed, many relations, links, loops and branches, and texts at their bounds.
 
 use crate::growth::*;
 use crate::lines::*;
@@ -15,7 +15,9 @@ pub fn timed() -> Vec<Timed> {
     let of = |name: &'static str, lines: &[Line]| Timed { name, text: text_of(lines) };
     vec![
         of("small", &small()),
+        of("small danger", &small_danger()),
         of("middle", &middle()),
+        Timed { name: "middle danger", text: include_bytes!("../../examples/contact.txt").to_vec() },
         of("largest robust", &largest(|_, id| statement(KU, id, 0, 3, 3, 0))),
         of("largest robust, back edges", &selects_and_updates()),
         of("largest danger", &largest(|_, id| statement(PU, id, 0, 3, 3, 3))),
@@ -47,6 +49,13 @@ fn small() -> Vec<Line> {
         plain(PR, 1),
         statement(PS, 0, 1, 2, 0, 2),
     ]
+}
+
+/// The same with the predicate read twice: program 1 is dangerous by itself.
+fn small_danger() -> Vec<Line> {
+    let mut lines = small();
+    lines.push(statement(PS, 1, 1, 2, 0, 2));
+    lines
 }
 
 /// Auction(8) of the published work.

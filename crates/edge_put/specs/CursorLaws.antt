@@ -4,7 +4,7 @@ use mathlib.Core.Bool.{Bool, true, false, cond, not, _&&_, _||_}
 use mathlib.Core.Option.{some}
 use mathlib.Core.List.{List, [], _∷_, _++_, map, flatMap}
 use Prim.Native.Nat.{ℕ, _+_, _-_, _*_, _/_, _%_, _^_, _≤_, _<_}
-use native.Mathlib.Nat.{add-zero, suc-mul, mul-comm, mul-assoc, le-antisymm, le-trans, mod-eq-of-lt}
+use native.Mathlib.Nat.{add-zero, suc-mul, mul-comm, mul-assoc, le-trans, mod-eq-of-lt}
 use native.Mathlib.Decide.{ℕ-discrete}
 use native.Mathlib.Numerals.{add-one}
 use native.Mathlib.Omega.{arith}
@@ -34,8 +34,12 @@ use Rattle.edge_find.specs.Search.{letterFrom, sharedBy}
 use Rattle.edge_find.specs.SearchLaws.{letter-of, below-all, below-more, below-same, number-here}
 use Rattle.edge_put.specs.declared.Cursor.{Cursor}
 use Rattle.edge_put.specs.declared.Step.{Step}
-use Rattle.edge_put.specs.Cursors.{wordsIn, rowIn, rowStart, startFor, atPair, nothingAt, edgeBy, backShared, backIs, rowAfter, slotOf}
-use Rattle.edge_put.specs.Cursors.{AlikeFrom, Pending, Standing, BackNext, Open, Paired, Skipped, Stepped, Passed}
+use Rattle.place_next.specs.Chains.{chainOf, onChain}
+use Rattle.place_next.specs.ChainLaws.{on-low, on-high, on-same, on-relation}
+use Rattle.place_next.specs.Links.{kindWord, nextIn, firstIn, Links, LinkedTold}
+use Rattle.edge_put.specs.Cursors.{wordsIn, rowIn, rowStart, pastAll, firstRow, nextRow, atPair, nothingAt, edgeBy, backShared, backIs}
+use Rattle.edge_put.specs.Cursors.{rowAfter, slotOf, Inside, LinksIn, LookedAt, Begun}
+use Rattle.edge_put.specs.Cursors.{Pending, Standing, BackNext, Open, Paired, Skipped, Stepped, Passed}
 
 -- a row is told by its words
 words-back : (p : Row) → rowIn (wordsIn p) ≡ p
@@ -140,17 +144,48 @@ back-forward p q =
     go true false false false false false true f h = refl
     go true false false false false false false f h = refl
 
--- ---- rows of one relation
+-- ---- rows looked at
 
--- one more row with another relation
-pub alike-more : (table : List ℕ) (relation from j : ℕ) → ((z : ℕ) → from ≤ z → z < j → relation ≡ rowAt table z .relation → ⊥)
-    → (rowAt table j .relation ≡ relation → ⊥)
-    → (z : ℕ) → from ≤ z → z < j + 1 → relation ≡ rowAt table z .relation → ⊥
-alike-more table relation from j before not z l m e = go (ℕ-discrete z j)
-  where
-    go : Dec (z ≡ j) → ⊥
-    go (yes s) = not (sym (e ∙ ap (λ (k : ℕ). rowAt table k .relation) s))
-    go (no d) = before z l (omega arith) e
+module _ (table : List ℕ) (n linked i : ℕ) (rows : n ≡ rowCount table) (links : LinksIn table linked) where
+  -- on a chain: the first row from some row on
+  on-chain : (c from : ℕ) → c ≡ chainOf table i → from ≤ n → LookedAt table n linked i from (onChain table (rowCount table) c from)
+  on-chain c from e l =
+      let high = on-high table c (rowCount table) from (omega arith) in
+      record {
+        low = on-low table c (rowCount table) from;
+        high = omega arith;
+        others = λ z a b same. on-relation table c (rowCount table) from z (rowAt table i .relation) (sym e) a b same;
+        chain = λ _ h. on-same table c (rowCount table) from (omega arith) ∙ e;
+      }
+
+  looked-next : (j : ℕ) → j < n → ((linked ≡ 0 → ⊥) → chainOf table j ≡ chainOf table i)
+      → LookedAt table n linked i (j + 1) (nextRow table linked j)
+  unfolding nextRow
+  looked-next j l on = go (ℕ-discrete linked 0)
+    where
+      go : Dec (linked ≡ 0) → LookedAt table n linked i (j + 1) (cond (eqb linked 0) (j + 1) (nextIn (kindWord table j)))
+      go (yes e) = rw (eq-eqb linked 0 e) (record {
+        low = omega arith;
+        high = omega arith;
+        others = λ z a b same. omega arith;
+        chain = λ z h. absurd (z e);
+      })
+      go (no z) =
+          rw (ne-eqb linked 0 z, links z .next j (omega arith)) (on-chain (chainOf table j) (j + 1) (on z) (omega arith))
+
+  looked-first : i < n → LookedAt table n linked i 0 (firstRow table linked i)
+  unfolding firstRow
+  looked-first l = go (ℕ-discrete linked 0)
+    where
+      go : Dec (linked ≡ 0) → LookedAt table n linked i 0 (cond (eqb linked 0) 0 (firstIn (kindWord table i)))
+      go (yes e) = rw (eq-eqb linked 0 e) (record {
+        low = omega arith;
+        high = omega arith;
+        others = λ z a b same. omega arith;
+        chain = λ z h. absurd (z e);
+      })
+      go (no z) =
+          rw (ne-eqb linked 0 z, links z .first i (omega arith)) (on-chain (chainOf table i) 0 refl (omega arith))
 
 -- ---- slots of two rows
 
@@ -243,23 +278,39 @@ module _ (table : List ℕ) where
   rows-whole e l = omega arith
 
   -- a row's first place
-  pub stands-row : (n i : ℕ) → n ≡ rowCount table → i ≤ n → Standing table (rowStart table n i)
+  stands-first : (n linked i first : ℕ) → n ≡ rowCount table → LinksIn table linked → i < n → first ≤ n
+      → ((linked ≡ 0 → ⊥) → first < n → chainOf table first ≡ chainOf table i) → Standing table (rowStart table n linked i first)
   unfolding rowStart
-  stands-row n i rows h = record {
+  stands-first n linked i first rows links l inside chain = record {
     rows = rows;
-    few = omega arith;
-    inside = omega arith;
-    row = words-back (rowAt table i);
+    few = let few = rows-most rows in omega arith;
+    inside = inside;
+    row = λ _. words-back (rowAt table i);
+    links = links;
+    chain = λ z _. chain z;
     pending = λ e. absurd (e refl);
   }
 
-  pub start-made : (n i : ℕ) (p : Row) {kind : ℕ} → p ≡ rowAt table i → kind ≡ kindNumber (p .kind)
+  -- past all rows
+  stands-over : (n : ℕ) → n ≡ rowCount table → Standing table (pastAll n)
+  stands-over n rows = record {
+    rows = rows;
+    few = omega arith;
+    inside = omega arith;
+    row = λ l. absurd (omega arith);
+    links = λ z. absurd (z refl);
+    chain = λ z. absurd (z refl);
+    pending = λ e. absurd (e refl);
+  }
+
+  pub start-made : (n linked i j : ℕ) (p : Row) {kind : ℕ} → p ≡ rowAt table i → kind ≡ kindNumber (p .kind)
       → _≡_ {A = Cursor}
       (record {
         n = n;
         i = i;
-        j = 0;
+        j = j;
         back = 0;
+        linked = linked;
         w = record {
           node = p .node;
           place = p .place;
@@ -270,34 +321,39 @@ module _ (table : List ℕ) where
           tests = p .tests;
           keys = p .keys;
         };
-      }) (rowStart table n i)
+      }) (rowStart table n linked i j)
   unfolding rowStart
-  start-made n i p e number = rw (number, e) refl
+  start-made n linked i j p e number = rw (number, e) refl
 
   -- the place before the first edge, or past the last
   module _ (n : ℕ) {fits : Bool} (rows : n ≡ rowCount table) where
-    pub start-first : {c : Cursor} → fits ≡ true → c ≡ rowStart table n 0 → c ≡ startFor table fits
-    unfolding startFor
-    start-first h e = e ∙ ap₂ (λ (n : ℕ) (b : Bool). rowStart table n (cond b 0 n)) rows (sym h)
+    pub start-first : {linked : ℕ} {c : Cursor} → LinksIn table linked → fits ≡ true → 0 < n → c ≡ rowStart table n linked 0 0
+        → Begun table fits c
+    unfolding rowStart
+    start-first {linked = linked} links h l e = rw (e, h) (record {
+      stands = stands-first n linked 0 0 rows links l (omega arith) (λ _ _. refl);
+      slot = refl;
+    })
 
-    pub start-past : {c : Cursor} → fits ≡ false → c ≡ rowStart table n n → c ≡ startFor table fits
-    unfolding startFor
-    start-past h e = e ∙ ap₂ (λ (n : ℕ) (b : Bool). rowStart table n (cond b 0 n)) rows (sym h)
-
-  pub stands-start : (fits : Bool) → Standing table (startFor table fits)
-  unfolding startFor
-  stands-start true = stands-row (rowCount table) 0 refl (omega arith)
-  stands-start false = stands-row (rowCount table) (rowCount table) refl (omega arith)
+    pub start-past : {c : Cursor} → (fits ≡ true → n ≡ 0) → c ≡ pastAll n → Begun table fits c
+    start-past none e = rw e (record { stands = stands-over n rows; slot = go fits none })
+      where
+        go : (b : Bool) → (b ≡ true → n ≡ 0) → n * 1024 + 0 * 2 + 0 ≡ cond b 0 (rowCount table * 1024)
+        go true h = let z = h refl in omega arith
+        go false h = omega arith
 
   -- another pair of the same row
   stands-pair : (c : Cursor) (j back : ℕ) → Standing table c → c .i < c .n → j ≤ c .n
+      → ((c .linked ≡ 0 → ⊥) → j < c .n → chainOf table j ≡ chainOf table (c .i))
       → ((back ≡ 0 → ⊥) → (j < c .n) × (back ≡ backIs (rowIn (c .w)) (rowAt table j)))
       → Standing table (atPair c j back)
-  stands-pair c j back s left h told = record {
+  stands-pair c j back s left h on told = record {
     rows = s .rows;
     few = go (ℕ-discrete back 0);
     inside = h;
     row = s .row;
+    links = s .links;
+    chain = λ z _. on z;
     pending = λ e. record { left = left; right = told e .0; letter = told e .1 };
   }
     where
@@ -308,6 +364,41 @@ module _ (table : List ℕ) where
       go (yes e) = let m = most in let x = slot-open (atPair c j back) e in omega arith
       go (no e) = let m = most in let x = slot-back (atPair c j back) e in let l = told e .0 in omega arith
 
+  -- no edge to rows of other relations
+  over-others : (n linked i from to : ℕ) → n ≡ rowCount table → i < n → LookedAt table n linked i from to
+      → edgesBelow table (i * 1024 + to * 2 + 0) ≡ edgesBelow table (i * 1024 + from * 2 + 0)
+  over-others n linked i from to rows left looked =
+      let few = rows-most rows in let a = looked .low in let b = looked .high in
+      let e : i * 1024 + to * 2 + 0 ≡ i * 1024 + from * 2 + 0 + (to - from) * 2 = omega arith in
+      ap (edgesBelow table) e ∙ below-same table (i * 1024 + from * 2 + 0) ((to - from) * 2) empty
+    where
+      empty : (y : ℕ) → i * 1024 + from * 2 + 0 ≤ y → y < i * 1024 + from * 2 + 0 + (to - from) * 2 → standsAt table y ≡ false
+      empty y l m =
+          let few = rows-most rows in let a = looked .low in let b = looked .high in
+          let row : y / 1024 ≡ i = omega arith in
+          sym (stands-apart table y (λ same. looked .others (y % 1024 / 2) (omega arith) (omega arith)
+          (ap (λ (k : ℕ). rowAt table k .relation) (sym row) ∙ same)))
+
+  -- the row looked at after that of a cursor
+  on-next : (c : Cursor) → Standing table c → c .i < c .n → c .j < c .n
+      → LookedAt table (c .n) (c .linked) (c .i) (c .j + 1) (nextRow table (c .linked) (c .j))
+  on-next c s left right =
+      looked-next table (c .n) (c .linked) (c .i) (s .rows) (s .links) (c .j) right (λ z. s .chain z left right)
+
+  -- and the cursor at it
+  stands-next : (c : Cursor) → Standing table c → c .i < c .n → c .j < c .n → Standing table (atPair c (nextRow table (c .linked) (c .j)) 0)
+  stands-next c s left right =
+      let looked = on-next c s left right in
+      stands-pair c (nextRow table (c .linked) (c .j)) 0 s left (looked .high) (looked .chain) (λ z. absurd (z refl))
+
+  below-next-row : (c : Cursor) → Standing table c → c .i < c .n → c .j < c .n
+      → edgesBelow table (slotOf (atPair c (nextRow table (c .linked) (c .j)) 0)) ≡ edgesBelow table (c .i * 1024 + (c .j + 1) * 2 + 0)
+  below-next-row c s left right =
+      over-others (c .n) (c .linked) (c .i) (c .j + 1) (nextRow table (c .linked) (c .j)) (s .rows) left (on-next c s left right)
+
+  pub inside-table : (n j : ℕ) → n ≡ rowCount table → j < n → Inside table j
+  inside-table n j rows l = record { few = let h = rows-most rows in omega arith; whole = rows-whole rows l }
+
   -- the back edge that comes next
   module _ (c : Cursor) (next : BackNext table c) where
     abbrev s : Standing table c
@@ -316,22 +407,20 @@ module _ (table : List ℕ) where
     abbrev pend : Pending table c
     pend = s .pending (next .there)
 
-    pub back-room : c .j < 512
-    back-room = let h = rows-most (s .rows) in let l = pend .right in omega arith
+    pub back-inside : Inside table (c .j)
+    back-inside = inside-table (c .n) (c .j) (s .rows) (pend .right)
 
-    pub back-whole : c .j * 8 + 8 ≤ length table
-    back-whole = rows-whole (s .rows) (pend .right)
-
-    pub passed-back : (p q : Row) (m : ℕ) (e : Edge) (d : Cursor)
+    pub passed-back : (p q : Row) (m : ℕ) (e : Edge) (onto : ℕ) (d : Cursor)
         → p ≡ rowIn (c .w)
         → q ≡ rowAt table (c .j)
         → m ≡ backShared (c .back) p q
         → m < 2 ^ 64
         → e ≡ edgeBy 0x62 (c .back) m p q
-        → d ≡ atPair c (c .j + 1) 0
+        → onto ≡ nextRow table (c .linked) (c .j)
+        → d ≡ atPair c onto 0
         → Passed table c (record { there = true; edge = e; cursor = d })
-    passed-back p q m e d left right is small made next-is = rw next-is (record {
-      stands = stands-pair c (c .j + 1) 0 s (pend .left) (let l = pend .right in omega arith) (λ z. absurd (z refl));
+    passed-back p q m e onto d left right is small made next-is d-is = rw (d-is, next-is) (record {
+      stands = stands-next c s (pend .left) (pend .right);
       found = λ _. record { edge = edge-is; after = after-is };
       ended = λ t. absurd (true-false refl t);
     })
@@ -343,32 +432,32 @@ module _ (table : List ℕ) where
         q₀ = rowAt table (c .j)
 
         letter : c .back ≡ letterBetween G.Flow.back p₀ q₀
-        letter = pend .letter ∙ ap (λ (p : Row). backIs p q₀) (s .row)
+        letter = pend .letter ∙ ap (λ (p : Row). backIs p q₀) (s .row (pend .left))
 
         stands : rowStands G.Flow.back p₀ q₀ ≡ true
         stands = stands-with G.Flow.back p₀ q₀ letter (next .there)
 
         shared : m ≡ rowShared (rowLetter G.Flow.back p₀ q₀) p₀ q₀
         shared =
-            is ∙ ap₂ (λ (p q : Row). backShared (c .back) p q) (left ∙ s .row) right
+            is ∙ ap₂ (λ (p q : Row). backShared (c .back) p q) (left ∙ s .row (pend .left)) right
             ∙ ap (λ (l : ℕ). backShared l p₀ q₀) (letter-with G.Flow.back p₀ q₀ letter (next .there)) ∙ shared-back p₀ q₀
 
         edge-is : getElem? (map coded (tableEdges table)) (edgesBelow table (slotOf c)) ≡ some e
         edge-is =
             ap (λ (x : ℕ). getElem? (map coded (tableEdges table)) (edgesBelow table x)) (slot-back c (next .there))
             ∙ slot-told table (c .n) (c .i) (c .j) (s .rows) (pend .left) (pend .right) G.Flow.back stands
-            ∙ ap some (sym (made ∙ ap₂ (λ (p q : Row). edgeBy 0x62 (c .back) m p q) (left ∙ s .row) right
+            ∙ ap some (sym (made ∙ ap₂ (λ (p q : Row). edgeBy 0x62 (c .back) m p q) (left ∙ s .row (pend .left)) right
             ∙ edge-made G.Flow.back p₀ q₀ m letter (next .there) shared small))
 
-        after-is : edgesBelow table (slotOf (atPair c (c .j + 1) 0)) ≡ edgesBelow table (slotOf c) + 1
+        after-is : edgesBelow table (slotOf (atPair c (nextRow table (c .linked) (c .j)) 0)) ≡ edgesBelow table (slotOf c) + 1
         after-is =
             let two : c .i * 1024 + (c .j + 1) * 2 + 0 ≡ c .i * 1024 + c .j * 2 + 1 + 1 = omega arith in
-            ap (edgesBelow table) two
+            below-next-row c s (pend .left) (pend .right) ∙ ap (edgesBelow table) two
             ∙ below-next table (c .i * 1024 + c .j * 2 + 1)
             (slot-stands table (c .n) (c .i) (c .j) (s .rows) (pend .left) (pend .right) G.Flow.back ∙ stands)
             ∙ ap (λ (x : ℕ). edgesBelow table x + 1) (sym (slot-back c (next .there)))
 
-  -- two rows of one relation
+  -- two rows
   module _ (c : Cursor) (pair : Paired table c) where
     abbrev spot : ℕ
     spot = c .i * 1024 + c .j * 2
@@ -376,17 +465,18 @@ module _ (table : List ℕ) where
     abbrev st : Standing table c
     st = pair .ready .stands
 
+    -- the row looked at after it
+    abbrev after : ℕ
+    after = nextRow table (c .linked) (c .j)
+
     abbrev p₀ : Row
     p₀ = rowAt table (c .i)
 
     abbrev q₀ : Row
     q₀ = rowAt table (c .j)
 
-    pub pair-room : c .j < 512
-    pair-room = let h = rows-most (st .rows) in let l = pair .right in omega arith
-
-    pub pair-whole : c .j * 8 + 8 ≤ length table
-    pair-whole = rows-whole (st .rows) (pair .right)
+    pub pair-inside : Inside table (c .j)
+    pair-inside = inside-table (c .n) (c .j) (st .rows) (pair .right)
 
     spot-is : slotOf c ≡ spot + 0
     spot-is = slot-open c (pair .ready .none)
@@ -399,31 +489,35 @@ module _ (table : List ℕ) where
     two-on = omega arith
 
     -- past the back slot, where no back edge stands
-    past-back : rowStands G.Flow.back p₀ q₀ ≡ false
-        → edgesBelow table (slotOf (atPair c (c .j + 1) 0)) ≡ edgesBelow table (spot + 1)
-    past-back e = ap (edgesBelow table) (sym two-on) ∙ below-not table (spot + 1) (slot-of G.Flow.back ∙ e)
+    past-back : rowStands G.Flow.back p₀ q₀ ≡ false → edgesBelow table (slotOf (atPair c after 0)) ≡ edgesBelow table (spot + 1)
+    past-back e =
+        below-next-row c st (pair .ready .left) (pair .right) ∙ ap (edgesBelow table) (sym two-on)
+        ∙ below-not table (spot + 1) (slot-of G.Flow.back ∙ e)
 
-    stands-on : Standing table (atPair c (c .j + 1) 0)
-    stands-on =
-        stands-pair c (c .j + 1) 0 st (pair .ready .left) (let l = pair .right in omega arith) (λ z. absurd (z refl))
+    stands-on : Standing table (atPair c after 0)
+    stands-on = stands-next c st (pair .ready .left) (pair .right)
 
     module _ (p q : Row) (letter : ℕ) (left : p ≡ rowIn (c .w)) (right : q ≡ rowAt table (c .j))
         (told : letter ≡ letterBetween G.Flow.forward p q) where
       told₀ : letter ≡ letterBetween G.Flow.forward p₀ q₀
-      told₀ = told ∙ ap₂ (letterBetween G.Flow.forward) (left ∙ st .row) right
+      told₀ = told ∙ ap₂ (letterBetween G.Flow.forward) (left ∙ st .row (pair .ready .left)) right
 
       -- with no forward edge there is none
-      pub stepped-none : (r : Step) → letter ≡ 0 → r ≡ nothingAt (atPair c (c .j + 1) 0) → Stepped table c r
-      stepped-none r none e = rw e (record {
+      pub stepped-none : (onto : ℕ) (d : Cursor) (r : Step) → letter ≡ 0 → onto ≡ after → d ≡ atPair c onto 0 → r ≡ nothingAt d → Stepped table c r
+      stepped-none onto d r none onto-is d-is e = rw (e, d-is, onto-is) (record {
         stands = stands-on;
         found = λ t. absurd (true-false t refl);
-        skipped = λ _. record { none = refl; later = omega arith; below = same };
+        skipped = λ _. record {
+          none = refl;
+          later = let h = on-next c st (pair .ready .left) (pair .right) .low in omega arith;
+          below = same;
+        };
       })
         where
           forward : rowStands G.Flow.forward p₀ q₀ ≡ false
           forward = stands-without G.Flow.forward p₀ q₀ told₀ none
 
-          same : edgesBelow table (slotOf (atPair c (c .j + 1) 0)) ≡ edgesBelow table (slotOf c)
+          same : edgesBelow table (slotOf (atPair c after 0)) ≡ edgesBelow table (slotOf c)
           same =
               past-back (back-forward p₀ q₀ forward)
               ∙ ap (λ (x : ℕ). edgesBelow table (x + 1)) (sym (add-zero spot))
@@ -436,7 +530,7 @@ module _ (table : List ℕ) where
           → m < 2 ^ 64
           → e ≡ edgeBy 0x66 letter m p q
           → back ≡ backIs p q
-          → next ≡ rowAfter (c .j) back
+          → next ≡ rowAfter table (c .linked) (c .j) back
           → d ≡ atPair c next back
           → Stepped table c (record { there = true; edge = e; cursor = d })
       stepped-forward m back next e d there is small made back-is next-is d-is = rw (d-is, next-is) (record {
@@ -449,11 +543,11 @@ module _ (table : List ℕ) where
           stands = stands-with G.Flow.forward p₀ q₀ told₀ there
 
           back₀ : back ≡ backIs p₀ q₀
-          back₀ = back-is ∙ ap₂ backIs (left ∙ st .row) right
+          back₀ = back-is ∙ ap₂ backIs (left ∙ st .row (pair .ready .left)) right
 
           shared : m ≡ rowShared (rowLetter G.Flow.forward p₀ q₀) p₀ q₀
           shared =
-              is ∙ ap₂ (λ (p q : Row). sharedBy letter p q) (left ∙ st .row) right
+              is ∙ ap₂ (λ (p q : Row). sharedBy letter p q) (left ∙ st .row (pair .ready .left)) right
               ∙ ap (λ (l : ℕ). sharedBy l p₀ q₀) (letter-with G.Flow.forward p₀ q₀ told₀ there)
               ∙ shared-letter (rowLetter G.Flow.forward p₀ q₀) p₀ q₀
 
@@ -461,7 +555,7 @@ module _ (table : List ℕ) where
           edge-is =
               ap (λ (x : ℕ). getElem? (map coded (tableEdges table)) (edgesBelow table x)) spot-is
               ∙ slot-told table (c .n) (c .i) (c .j) (st .rows) (pair .ready .left) (pair .right) G.Flow.forward stands
-              ∙ ap some (sym (made ∙ ap₂ (λ (p q : Row). edgeBy 0x66 letter m p q) (left ∙ st .row) right
+              ∙ ap some (sym (made ∙ ap₂ (λ (p q : Row). edgeBy 0x66 letter m p q) (left ∙ st .row (pair .ready .left)) right
               ∙ edge-made G.Flow.forward p₀ q₀ m told₀ there shared small))
 
           one-more : edgesBelow table (spot + 1) ≡ edgesBelow table (slotOf c) + 1
@@ -469,13 +563,13 @@ module _ (table : List ℕ) where
               ap (λ (x : ℕ). edgesBelow table (x + 1)) (sym (add-zero spot))
               ∙ below-next table (spot + 0) (slot-of G.Flow.forward ∙ stands) ∙ ap (λ (x : ℕ). edgesBelow table x + 1) (sym spot-is)
 
-          after-none : back ≡ 0 → rowAfter (c .j) back ≡ c .j + 1
-          after-none z = ap (λ (b : Bool). cond b (c .j + 1) (c .j)) (eq-eqb back 0 z)
+          after-none : back ≡ 0 → rowAfter table (c .linked) (c .j) back ≡ after
+          after-none z = ap (λ (b : Bool). cond b after (c .j)) (eq-eqb back 0 z)
 
-          after-some : (back ≡ 0 → ⊥) → rowAfter (c .j) back ≡ c .j
-          after-some z = ap (λ (b : Bool). cond b (c .j + 1) (c .j)) (ne-eqb back 0 z)
+          after-some : (back ≡ 0 → ⊥) → rowAfter table (c .linked) (c .j) back ≡ c .j
+          after-some z = ap (λ (b : Bool). cond b after (c .j)) (ne-eqb back 0 z)
 
-          go : Dec (back ≡ 0) → edgesBelow table (slotOf (atPair c (rowAfter (c .j) back) back)) ≡ edgesBelow table (slotOf c) + 1
+          go : Dec (back ≡ 0) → edgesBelow table (slotOf (atPair c (rowAfter table (c .linked) (c .j) back) back)) ≡ edgesBelow table (slotOf c) + 1
           go (yes z) =
               ap₂ (λ (j b : ℕ). edgesBelow table (slotOf (atPair c j b))) (after-none z) z
               ∙ past-back (stands-without G.Flow.back p₀ q₀ back₀ z) ∙ one-more
@@ -483,84 +577,67 @@ module _ (table : List ℕ) where
               ap (λ (j : ℕ). edgesBelow table (slotOf (atPair c j back))) (after-some z)
               ∙ ap (edgesBelow table) (slot-back (atPair c (c .j) back) z) ∙ one-more
 
-          go-stands : Dec (back ≡ 0) → Standing table (atPair c (rowAfter (c .j) back) back)
+          go-stands : Dec (back ≡ 0) → Standing table (atPair c (rowAfter table (c .linked) (c .j) back) back)
           go-stands (yes z) = rw (after-none z, z) stands-on
           go-stands (no z) =
               rw (after-some z)
-              (stands-pair c (c .j) back st (pair .ready .left) (st .inside) (λ y. (pair .right, back-is ∙ ap₂ backIs left right)))
+              (stands-pair c (c .j) back st (pair .ready .left) (st .inside) (λ z l. st .chain z (pair .ready .left) l) (λ y.
+              (pair .right, back-is ∙ ap₂ backIs left right)))
 
-  -- the next row of one relation
-  module _ (c : Cursor) (ready : Open table c) (j : ℕ) (scan : AlikeFrom table (c .n) (c .w .relation) (c .j) j) where
-    sta : Standing table c
+  -- past the last row
+  module _ (c : Cursor) (ready : Open table c) (past : c .n ≤ c .j) where
+    abbrev sta : Standing table c
     sta = ready .stands
 
-    most : c .n ≤ 512
-    most = rows-most (sta .rows)
+    abbrev i₁ : ℕ
+    i₁ = c .i + 1
 
-    abbrev from : ℕ
-    from = c .i * 1024 + c .j * 2 + 0
+    pub row-fits : c .i + 1 < 2 ^ 64
+    row-fits = let few = rows-most (sta .rows) in let l = ready .left in omega arith
 
-    -- no edge to a row of another relation
-    over-others : edgesBelow table (c .i * 1024 + j * 2 + 0) ≡ edgesBelow table (slotOf c)
-    over-others =
-        let few = most in let a = scan .low in let b = scan .high in
-        let e : c .i * 1024 + j * 2 + 0 ≡ from + (j - c .j) * 2 = omega arith in
-        ap (edgesBelow table) e ∙ below-same table from ((j - c .j) * 2) empty ∙ ap (edgesBelow table) (sym (slot-open c (ready .none)))
-      where
-        empty : (y : ℕ) → from ≤ y → y < from + (j - c .j) * 2 → standsAt table y ≡ false
-        empty y l m =
-            let few = most in let a = scan .low in let b = scan .high in
-            let row : y / 1024 ≡ c .i = omega arith in
-            sym (stands-apart table y (λ same. scan .others (y % 1024 / 2) (omega arith) (omega arith)
-            (ap (λ (r : Row). r .relation) (sta .row ∙ ap (rowAt table) (sym row)) ∙ same)))
+    -- no edge to rows past the last
+    below-row : edgesBelow table (i₁ * 1024 + 0 * 2 + 0) ≡ edgesBelow table (slotOf c)
+    below-row =
+        let few = rows-most (sta .rows) in let h = sta .inside in
+        let e : i₁ * 1024 + 0 * 2 + 0 ≡ c .i * 1024 + c .j * 2 + 0 + (1024 - c .j * 2) = omega arith in
+        ap (edgesBelow table) e
+        ∙ below-same table (c .i * 1024 + c .j * 2 + 0) (1024 - c .j * 2)
+        (λ y l m. sym (stands-past table y (c .n) (sta .rows) (omega arith)))
+        ∙ ap (edgesBelow table) (sym (slot-open c (ready .none)))
 
-    -- past the last row
-    pub stepped-row : (d : Cursor) (r : Step) → c .n ≤ j → d ≡ rowStart table (c .n) (c .i + 1) → r ≡ nothingAt d → Stepped table c r
-    unfolding rowStart
-    stepped-row d r past is e = rw (e, is) (record {
-      stands = stands-row (c .n) (c .i + 1) (sta .rows) (let l = ready .left in omega arith);
+    module _ (on : i₁ < c .n) where
+      abbrev first : ℕ
+      first = firstRow table (c .linked) i₁
+
+      looked : LookedAt table (c .n) (c .linked) i₁ 0 first
+      looked = looked-first table (c .n) (c .linked) i₁ (sta .rows) (sta .links) on
+
+      pub next-inside : Inside table i₁
+      next-inside = inside-table (c .n) i₁ (sta .rows) on
+
+      pub stepped-row : (f : ℕ) (d : Cursor) (r : Step) → f ≡ first → d ≡ rowStart table (c .n) (c .linked) i₁ f → r ≡ nothingAt d
+          → Stepped table c r
+      unfolding rowStart
+      stepped-row f d r first-is start-is e = rw (e, start-is, first-is) (record {
+        stands = stands-first (c .n) (c .linked) i₁ first (sta .rows) (sta .links) on (looked .high) (looked .chain);
+        found = λ t. absurd (true-false t refl);
+        skipped = λ _. record {
+          none = refl;
+          later = let few = rows-most (sta .rows) in let h = sta .inside in omega arith;
+          below = over-others (c .n) (c .linked) i₁ 0 first (sta .rows) on looked ∙ below-row;
+        };
+      })
+
+    pub stepped-past : (d : Cursor) (r : Step) → c .n ≤ i₁ → d ≡ pastAll (c .n) → r ≡ nothingAt d → Stepped table c r
+    stepped-past d r over is e = rw (e, is) (record {
+      stands = stands-over (c .n) (sta .rows);
       found = λ t. absurd (true-false t refl);
-      skipped = λ _. skipped-row;
-    })
-      where
-        end : j ≡ c .n
-        end = le-antisymm (scan .high) past
-
-        skipped-row : Skipped table c (rowStart table (c .n) (c .i + 1))
-        skipped-row =
-            let few = most in
-            let e : (c .i + 1) * 1024 + 0 * 2 + 0 ≡ c .i * 1024 + j * 2 + 0 + (1024 - j * 2) = let h = scan .high in omega arith in
-            record {
-              none = refl;
-              later = let h = sta .inside in omega arith;
-              below = ap (edgesBelow table) e
-                  ∙ below-same table (c .i * 1024 + j * 2 + 0) (1024 - j * 2)
-                  (λ y l m. sym (stands-past table y (c .n) (sta .rows) (omega arith))) ∙ over-others;
-            }
-
-    pub alike-pair : j < c .n → Paired table (atPair c j 0)
-    alike-pair h = record {
-      ready = record {
-        stands = stands-pair c j 0 sta (ready .left) (scan .high) (λ z. absurd (z refl));
+      skipped = λ _. record {
         none = refl;
-        left = ready .left;
+        later = let few = rows-most (sta .rows) in let h = sta .inside in let l = ready .left in omega arith;
+        below = ap (λ (i : ℕ). edgesBelow table (i * 1024 + 0 * 2 + 0)) (let l = ready .left in let m : c .n ≡ i₁ = omega arith in m) ∙ below-row;
       };
-      right = h;
-    }
-
-    pub stepped-alike : (d : Cursor) (r : Step) → d ≡ atPair c j 0 → Stepped table d r → Stepped table c r
-    stepped-alike d r e t = let s = subst (λ (x : Cursor). Stepped table x r) e t in record {
-      stands = s .stands;
-      found = λ t. record {
-        edge = ap (getElem? (map coded (tableEdges table))) (sym over-others) ∙ s .found t .edge;
-        after = s .found t .after ∙ ap (λ (k : ℕ). k + 1) over-others;
-      };
-      skipped = λ t. record {
-        none = s .skipped t .none;
-        later = let h = s .skipped t .later in let l = scan .low in omega arith;
-        below = s .skipped t .below ∙ over-others;
-      };
-    }
+    })
 
   -- ---- from step to step
 
@@ -637,3 +714,11 @@ edges-most table n e =
 -- so they fit where there is as much room
 pub fits-surely : (table : List ℕ) (n room : ℕ) → n ≡ rowCount table → 2 * n * n ≤ room → true ≡ leb (length (tableEdges table)) room
 fits-surely table n room rows h = sym (le-leb _ _ (le-trans (edges-most table n rows) h))
+
+-- ---- links
+
+pub links-told : {table : List ℕ} {r : Bool} → LinkedTold table r → r ≡ true → LinksIn table 1
+links-told h e _ = h .held e .1
+
+pub links-none : (table : List ℕ) → LinksIn table 0
+links-none table z = absurd (z refl)

@@ -12,6 +12,8 @@ use Rattle.spec_graph.specs.Graph as G
 use Rattle.edge_kinds.specs.Kinds.{kindNumber, kindOf}
 use Rattle.place_row.specs.declared.Row.{Row}
 use Rattle.place_row.specs.RowTable.{rowAt, rowCount}
+use Rattle.place_next.specs.Chains.{chainOf}
+use Rattle.place_next.specs.Links.{kindWord, nextIn, firstIn, Links}
 use Rattle.edge_record.specs.declared.Edge.{Edge}
 use Rattle.edge_record.specs.Coded.{coded}
 use Rattle.edge_test.specs.Letters.{letterBetween}
@@ -45,17 +47,31 @@ rowIn w = record {
   keys = w .keys;
 }
 
--- before the edges that leave row i
-unfoldable pub rowStart : List ℕ → ℕ → ℕ → Cursor
-rowStart table n i = record { n = n; i = i; j = 0; back = 0; w = wordsIn (rowAt table i) }
+-- row i left, of which row j may be entered first
+unfoldable pub rowStart : List ℕ → ℕ → ℕ → ℕ → ℕ → Cursor
+rowStart table n linked i j = record { n = n; i = i; j = j; back = 0; linked = linked; w = wordsIn (rowAt table i) }
 
--- before the first edge, or past the last
-unfoldable pub startFor : List ℕ → Bool → Cursor
-startFor table fits = rowStart table (rowCount table) (cond fits 0 (rowCount table))
+-- all rows left
+abbrev pub pastAll : ℕ → Cursor
+pastAll n = record {
+  n = n;
+  i = n;
+  j = 0;
+  back = 0;
+  linked = 0;
+  w = record { node = 0; place = 0; kind = 0; relation = 0; reads = 0; writes = 0; tests = 0; keys = 0 };
+}
+
+-- the first row to be looked at for row i, and the row after row j: where rows are linked, those on the chain
+unfoldable pub firstRow : List ℕ → ℕ → ℕ → ℕ
+firstRow table linked i = cond (eqb linked 0) 0 (firstIn (kindWord table i))
+
+unfoldable pub nextRow : List ℕ → ℕ → ℕ → ℕ
+nextRow table linked j = cond (eqb linked 0) (j + 1) (nextIn (kindWord table j))
 
 -- the same row left, another row that may be entered
 abbrev pub atPair : Cursor → ℕ → ℕ → Cursor
-atPair c j back = record { n = c .n; i = c .i; j = j; back = back; w = c .w }
+atPair c j back = record { n = c .n; i = c .i; j = j; back = back; linked = c .linked; w = c .w }
 
 -- no edge so far
 abbrev pub nothingAt : Cursor → Step
@@ -87,25 +103,29 @@ abbrev pub backIs : Row → Row → ℕ
 backIs p q = letterBetween G.Flow.back p q
 
 -- the row to look at next
-abbrev pub rowAfter : ℕ → ℕ → ℕ
-rowAfter j back = cond (eqb back 0) (j + 1) j
+abbrev pub rowAfter : List ℕ → ℕ → ℕ → ℕ → ℕ
+rowAfter table linked j back = cond (eqb back 0) (nextRow table linked j) j
 
 -- the slot that is looked at next
 abbrev pub slotOf : Cursor → ℕ
 slotOf c = c .i * 1024 + c .j * 2 + cond (eqb (c .back) 0) 0 1
 
--- ---- rows of one relation
+-- ---- rows looked at
 
-pub record Scanned (table : List ℕ) (n from : ℕ) : Type 0 where
-  pub rows : n ≡ rowCount table
-  pub low : from ≤ n
+pub record Inside (table : List ℕ) (j : ℕ) : Type 0 where
+  pub few : j < 512
+  pub whole : j * 8 + 8 ≤ length table
 
--- row r is the first with this relation from a row on, or there is none and r is n
-pub record AlikeFrom (table : List ℕ) (n relation from r : ℕ) : Type 0 where
+-- where a word says that rows are linked, they are
+abbrev pub LinksIn : List ℕ → ℕ → Type 0
+LinksIn table linked = (linked ≡ 0 → ⊥) → Links table
+
+-- row r is looked at for row i after those below `from`: the rows between are of other relations
+pub record LookedAt (table : List ℕ) (n linked i from r : ℕ) : Type 0 where
   pub low : from ≤ r
   pub high : r ≤ n
-  pub others : (z : ℕ) → from ≤ z → z < r → relation ≡ rowAt table z .relation → ⊥
-  pub same : r < n → relation ≡ rowAt table r .relation
+  pub others : (z : ℕ) → from ≤ z → z < r → rowAt table i .relation ≡ rowAt table z .relation → ⊥
+  pub chain : (linked ≡ 0 → ⊥) → r < n → chainOf table r ≡ chainOf table i
 
 -- ---- where the next edge is looked for
 
@@ -120,7 +140,9 @@ pub record Standing (table : List ℕ) (c : Cursor) : Type 0 where
   pub rows : c .n ≡ rowCount table
   pub few : slotOf c ≤ c .n * 1024
   pub inside : c .j ≤ c .n
-  pub row : rowIn (c .w) ≡ rowAt table (c .i)
+  pub row : c .i < c .n → rowIn (c .w) ≡ rowAt table (c .i)
+  pub links : LinksIn table (c .linked)
+  pub chain : (c .linked ≡ 0 → ⊥) → c .i < c .n → c .j < c .n → chainOf table (c .j) ≡ chainOf table (c .i)
   pub pending : (c .back ≡ 0 → ⊥) → Pending table c
 
 pub record BackNext (table : List ℕ) (c : Cursor) : Type 0 where
@@ -160,3 +182,8 @@ pub record Passed (table : List ℕ) (c : Cursor) (r : Step) : Type 0 where
   pub stands : Standing table (r .cursor)
   pub found : r .there ≡ true → Found table c r
   pub ended : r .there ≡ false → edgesBelow table (slotOf c) ≡ length (tableEdges table)
+
+-- before the first edge, or past the last
+pub record Begun (table : List ℕ) (fits : Bool) (c : Cursor) : Type 0 where
+  pub stands : Standing table c
+  pub slot : slotOf c ≡ cond fits 0 (rowCount table * 1024)

@@ -1,5 +1,5 @@
 -- Laws of edges by their numbers, and of edges put one after the other.
-use mathlib.Core.Path.{_≡_, refl, sym, ap, _∙_}
+use mathlib.Core.Path.{_≡_, refl, sym, ap, subst, _∙_}
 use mathlib.Core.Bool.{Bool, true, false, cond}
 use mathlib.Core.Logic.{inr}
 use mathlib.Core.Option.{none, some}
@@ -29,7 +29,7 @@ use Rattle.edge_put.specs.declared.Put.{Put}
 use Rattle.edge_put.specs.declared.Put.the-variants.{All, Refused}
 use Rattle.edge_put.specs.declared.Cursor.{Cursor}
 use Rattle.edge_put.specs.declared.Step.{Step}
-use Rattle.edge_put.specs.Cursors.{startFor, rowStart, slotOf, Standing, Found}
+use Rattle.edge_put.specs.Cursors.{slotOf, Begun, Standing, Found}
 use Rattle.edge_put.specs.CursorLaws.{below-most}
 use Rattle.edge_put.specs.Put.{records, Ahead, Numbered, putFirst, answerFor, putSaid, PutAs}
 use Rattle.edge_put.specs.Put.PutAs.{short, put}
@@ -129,15 +129,13 @@ pub data Kept (table : List ℕ) (fits : Bool) (x k : ℕ) : Type 0 where
 
 module _ (table : List ℕ) (fits : Bool) where
   -- before the first step
-  pub kept-start : Kept table fits (slotOf (startFor table fits)) 0
-  unfolding startFor rowStart edgesBelow slots
-  kept-start = go fits
+  pub kept-start : (c : Cursor) → Begun table fits c → Kept table fits (slotOf c) 0
+  unfolding edgesBelow slots
+  kept-start c begun = subst (λ (x : ℕ). Kept table fits x 0) (sym (begun .slot)) (go fits)
     where
-      go : (b : Bool) → Kept table b (slotOf (startFor table b)) 0
+      go : (b : Bool) → Kept table b (cond b 0 (rowCount table * 1024)) 0
       go true = going refl refl
-      go false =
-          let e : rowCount table * 1024 + 0 * 2 + 0 ≡ slots table = omega arith in
-          over refl (let a = below-all table in let f = ap (edgesBelow table) e in omega arith) refl
+      go false = over refl (let a = below-all table in omega arith) refl
 
   module _ (c : Cursor) (r : Step) (k : ℕ) (kept : Kept table fits (slotOf c) k) (found : Found table c r) where
     abbrev before : ℕ

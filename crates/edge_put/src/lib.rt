@@ -8,8 +8,8 @@ ghost use Rattle.kind_table.specs.Codes.{codeOf};
 ghost use Rattle.place_row.specs.RowTable.{rowAt};
 ghost use Rattle.edge_record.specs.Coded.{foundAs};
 ghost use Rattle.edge_count.specs.Slots.{tableEdges};
-ghost use Rattle.edge_put.specs.Cursors.{rowIn, rowStart, startFor, atPair, nothingAt, edgeBy, backShared, backIs, rowAfter};
-ghost use Rattle.edge_put.specs.Cursors.{Scanned, AlikeFrom, Standing, BackNext, Open, Paired, Stepped, Passed};
+ghost use Rattle.edge_put.specs.Cursors.{rowIn, rowStart, pastAll, firstRow, nextRow, atPair, nothingAt, edgeBy, backShared, backIs, rowAfter};
+ghost use Rattle.edge_put.specs.Cursors.{Inside, LinksIn, Begun, Standing, BackNext, Open, Paired, Stepped, Passed};
 ghost use Rattle.edge_put.specs.Put.{answerFor, Ahead, Numbered, PutAs};
 use edge_count::count_edges;
 use edge_find::edge_from;
@@ -23,8 +23,11 @@ use edge_record::Found;
 use edge_test::back_letter;
 use edge_test::forward_letter;
 use kind_pair::pair_code;
-use place_fetch::row_at;
 use place_fetch::row_count;
+use place_next::FIRST;
+use place_next::NEXT;
+use place_next::NEXTS;
+use place_next::rows_linked;
 use place_row::KEYS;
 use place_row::KIND;
 use place_row::PLACE;
@@ -118,12 +121,14 @@ struct Words {
 }
 
 // A place in the order of a table's edges: row i of n with its words, and the rows from j on are still to be looked at as those that an edge from
-// it enters. Where `back` is not 0 it is the letter of the back edge to row j, which comes next.
+// it enters. Where `back` is not 0 it is the letter of the back edge to row j, which comes next. Where `linked` is not 0 the rows are linked, and
+// those of other chains are passed over.
 struct Cursor {
     n: usize,
     i: usize,
     j: usize,
     back: u64,
+    linked: u64,
     w: Words,
 }
 
@@ -170,11 +175,12 @@ fn row_in(w: Words) -> Row
     }
 }
 
-// Before the edges that leave row i.
-fn row_start(table: &[u64], n: usize, i: usize) -> Cursor
-    ensures { λ r. ⌜ r ≡ rowStart (now (table .entry)) n i ⌝ }
+// Row i left, of which row j may be entered first.
+fn row_start(table: &[u64], n: usize, linked: u64, i: usize, j: usize) -> Cursor
+    requires { ⌜ Inside (now table) i ⌝ }
+    ensures { λ r. ⌜ r ≡ rowStart (now (table .entry)) n linked i j ⌝ }
 {
-    let p = row_at(table, i);
+    let p = row_whole(table, i);
     let k = p.kind;
     let kind = kind_number(k);
     let w = Words {
@@ -190,25 +196,57 @@ fn row_start(table: &[u64], n: usize, i: usize) -> Cursor
     Cursor {
         n,
         i,
-        j: 0,
+        j,
         back: 0,
+        linked,
         w,
     }
 }
 
-// The first row of a relation from some row on; n where there is none.
-fn alike_from(table: &[u64], n: usize, relation: u64, from: usize) -> usize
-    requires { ⌜ Scanned (now table) n from ⌝ }
-    ensures { λ r. ⌜ AlikeFrom (now (table .entry)) n relation from r ⌝ }
+// All rows left: the words are those of no row, so that none is fetched.
+fn past_all(n: usize) -> Cursor
+    ensures { λ r. ⌜ r ≡ pastAll n ⌝ }
 {
-    let mut j = from;
-    while j < n {
-        if table[j * ROW_WORDS + RELATION] == relation {
-            return j;
-        }
-        j += 1;
+    let w = Words {
+        node: 0,
+        place: 0,
+        kind: 0,
+        relation: 0,
+        reads: 0,
+        writes: 0,
+        tests: 0,
+        keys: 0,
+    };
+    Cursor {
+        n,
+        i: n,
+        j: 0,
+        back: 0,
+        linked: 0,
+        w,
     }
-    j
+}
+
+// The first row to be looked at for the edges that leave row i.
+fn row_first(table: &[u64], linked: u64, i: usize) -> usize
+    requires { ⌜ Inside (now table) i ⌝ }
+    ensures { λ r. ⌜ r ≡ firstRow (now (table .entry)) linked i ⌝ }
+{
+    if linked == 0 {
+        return 0;
+    }
+    (table[i * ROW_WORDS + KIND] / FIRST) as usize
+}
+
+// The row to be looked at after row j.
+fn row_next(table: &[u64], linked: u64, j: usize) -> usize
+    requires { ⌜ Inside (now table) j ⌝ }
+    ensures { λ r. ⌜ r ≡ nextRow (now (table .entry)) linked j ⌝ }
+{
+    if linked == 0 {
+        return j + 1;
+    }
+    (table[j * ROW_WORDS + KIND] / NEXT % NEXTS) as usize
 }
 
 // The same row left, another row that may be entered.
@@ -280,7 +318,7 @@ fn back_step(table: &[u64], c: Cursor) -> Step
     let q = row_whole(table, j);
     let m = back_shared(letter, p, q);
     let edge = edge_by(b'b', letter, m, p, q);
-    let cursor = at_pair(c, j + 1, 0);
+    let cursor = at_pair(c, row_next(table, c.linked, j), 0);
     Step {
         there: true,
         edge,
@@ -301,17 +339,17 @@ fn back_told(code: u32, p: Row, q: Row) -> u64
 }
 
 // The row to look at next: the same where a back edge comes next.
-fn row_after(j: usize, back: u64) -> usize
-    requires { ⌜ j < 512 ⌝ }
-    ensures { λ r. ⌜ r ≡ rowAfter j back ⌝ }
+fn row_after(table: &[u64], linked: u64, j: usize, back: u64) -> usize
+    requires { ⌜ Inside (now table) j ⌝ }
+    ensures { λ r. ⌜ r ≡ rowAfter (now (table .entry)) linked j back ⌝ }
 {
     if back == 0 {
-        return j + 1;
+        return row_next(table, linked, j);
     }
     j
 }
 
-// The edge between two rows of one relation. Where no forward edge stands, no back edge does.
+// The edge between two rows. Where no forward edge stands, no back edge does.
 fn pair_step(table: &[u64], c: Cursor) -> Step
     requires { ⌜ Paired (now table) c ⌝ }
     ensures { λ r. ⌜ Stepped (now (table .entry)) c r ⌝ }
@@ -325,12 +363,12 @@ fn pair_step(table: &[u64], c: Cursor) -> Step
     let code = pair_code(k, l);
     let letter = forward_letter(code, p, q);
     if letter == 0 {
-        return nothing_at(at_pair(c, j + 1, 0));
+        return nothing_at(at_pair(c, row_next(table, c.linked, j), 0));
     }
     let m = shared_by(letter, p, q);
     let edge = edge_by(b'f', letter as u64, m, p, q);
     let back = back_told(code, p, q);
-    let cursor = at_pair(c, row_after(j, back), back);
+    let cursor = at_pair(c, row_after(table, c.linked, j, back), back);
     Step {
         there: true,
         edge,
@@ -338,18 +376,21 @@ fn pair_step(table: &[u64], c: Cursor) -> Step
     }
 }
 
-// The edge to the next row of one relation with the row left; past the last, the row after it is left next.
+// The edge to the row to be looked at; past the last, the row after the one left is left next.
 fn look_on(table: &[u64], c: Cursor) -> Step
     requires { ⌜ Open (now table) c ⌝ }
     ensures { λ r. ⌜ Stepped (now (table .entry)) c r ⌝ }
 {
     let n = c.n;
-    let w = c.w;
-    let j = alike_from(table, n, w.relation, c.j);
-    if n <= j {
-        return nothing_at(row_start(table, n, c.i + 1));
+    if n <= c.j {
+        let i = c.i + 1;
+        if n <= i {
+            return nothing_at(past_all(n));
+        }
+        let first = row_first(table, c.linked, i);
+        return nothing_at(row_start(table, n, c.linked, i, first));
     }
-    pair_step(table, at_pair(c, j, 0))
+    pair_step(table, c)
 }
 
 // The edge that comes next.
@@ -383,15 +424,27 @@ fn fits_in(table: &[u64], room: usize) -> bool
     c.edges <= room
 }
 
+// 1 where the rows of a table are linked, else 0.
+fn links_in(table: &[u64]) -> u64
+    ensures { λ r. ⌜ LinksIn (now (table .entry)) r ⌝ }
+{
+    if rows_linked(table) {
+        return 1;
+    }
+    0
+}
+
 // Before the first edge; where they do not fit, past the last.
 fn start_for(table: &[u64], fits: bool) -> Cursor
-    ensures { λ r. ⌜ r ≡ startFor (now (table .entry)) fits ⌝ }
+    ensures { λ r. ⌜ Begun (now (table .entry)) fits r ⌝ }
 {
     let n = row_count(table);
     if fits {
-        return row_start(table, n, 0);
+        if 0 < n {
+            return row_start(table, n, links_in(table), 0, 0);
+        }
     }
-    row_start(table, n, n)
+    past_all(n)
 }
 
 // The answer where k edges are put: all, or none because they do not fit.

@@ -11,6 +11,7 @@ use export_word::verdict_word;
 use line_state::WORDS;
 use place_row::ROWS;
 use place_row::TABLE_WORDS;
+use place_text::TextRows;
 use spec_text::CELLS;
 use spec_text::Line;
 use spec_text::LineKind;
@@ -22,12 +23,15 @@ ghost use mathlib.Core.Path.{_≡_};
 ghost use Prim.Native.Nat.{_≤_};
 ghost use lib.ListN.{length, take};
 ghost use Rattle.spec_text.specs.Reading.{read};
+ghost use Rattle.lent_words.specs.Lent.{Lent};
 ghost use Rattle.unfold.specs.UnfoldLines.{LinesSettled};
 ghost use Rattle.edge_put.specs.Put.{putSaid};
+ghost use Rattle.verdict_of.specs.TextVerdict.{RowsLeft};
 ghost use Rattle.exports.specs.Stages.{given, readWord, UnfoldStage, VerdictStage};
 ghost use Rattle.exports_lent.specs.Middle.{tableMiddle};
 ghost use Rattle.exports.specs.TextEdges.{FewPut, TextEdges};
 ghost use Rattle.exports_lent.specs.EdgesTold.{edgesTold};
+ghost use Rattle.exports_lent.specs.Linked.{FirstLinked, TextLinked, RowsLinked};
 
 // The values of the line in the middle of a table of so many lines, all 0 where there is none. Its kind is not told.
 fn middle_line(lines: &[u64], count: usize) -> Line
@@ -57,7 +61,7 @@ fn middle_line(lines: &[u64], count: usize) -> Line
     }
 }
 
-// Reads the text into the table of its lines. The words are lent to work in: what they hold afterwards is free.
+// Reads the text into the table of its lines. State and lines are lent to work in: what they hold afterwards is free.
 #[no_mangle]
 pub extern "C" fn lent_read(
     text: &[u8],
@@ -65,6 +69,7 @@ pub extern "C" fn lent_read(
     lines: &mut [u64; LINE_TABLE],
 ) -> u32
     ensures { λ r. ⌜ r ≡ readWord (given (now (text .entry))) ⌝ }
+    ensures { λ _. ⌜ Lent (now (state .entry)) (now (state .exit)) × Lent (now (lines .entry)) (now (lines .exit)) ⌝ }
 {
     let t = text_table::read_table(text, state, lines);
     if t.number != 0 {
@@ -91,6 +96,7 @@ pub extern "C" fn lent_unfold(
     area: &mut [u64],
 ) -> u32
     ensures { λ r. ⌜ UnfoldStage (given (now (text .entry))) (now (area .entry)) r (now (area .exit)) ⌝ }
+    ensures { λ _. ⌜ Lent (now (state .entry)) (now (state .exit)) × Lent (now (lines .entry)) (now (lines .exit)) ⌝ }
 {
     let t = text_table::read_table(text, state, lines);
     if t.number != 0 {
@@ -118,9 +124,35 @@ fn edges_word(number: u8, line: u64, put: Put) -> u32
     }
 }
 
+// Links the rows in the first words of a table. Words are lent for it.
+fn link_first(rows: &mut [u64], words: usize, next: &mut [u64])
+    requires { ⌜ words ≤ length (now rows) ⌝ }
+    ensures { λ _. ⌜ FirstLinked words (now (rows .entry)) (now (rows .exit)) ⌝ }
+    ensures { λ _. ⌜ Lent (now (next .entry)) (now (next .exit)) ⌝ }
+{
+    place_next::link_rows(&mut rows[..words], next)
+}
+
+// The rows of a text's places, linked.
+fn linked_rows(
+    text: &[u8],
+    state: &mut [u64; WORDS],
+    lines: &mut [u64; LINE_TABLE],
+    places: &mut [u64; ROWS],
+    rows: &mut [u64; TABLE_WORDS],
+) -> TextRows
+    ensures { λ r. ⌜ TextLinked (read (now (text .entry))) (now (rows .entry)) r (now (rows .exit))
+        × (Lent (now (state .entry)) (now (state .exit)) × Lent (now (lines .entry)) (now (lines .exit))
+        × Lent (now (places .entry)) (now (places .exit))) ⌝ }
+{
+    let t = place_text::text_rows(text, state, lines, places, rows);
+    link_first(rows, t.words, places);
+    t
+}
+
 // Puts the edges of a text at the front of the caller's list; the rest of it stays as it was, and a refusal leaves all of it. Answers how many
-// edges are put, at most 524,288, or the refusal. No text is refused by 21: its value is one that a text gives. The words are lent to work in:
-// what they hold before and afterwards is free.
+// edges are put, at most 524,288, or the refusal. No text is refused by 21: its value is one that a text gives. The rows of its places
+// stand in `rows`, linked; the other words are lent to work in: what they hold before and afterwards is free.
 #[no_mangle]
 pub extern "C" fn lent_edges<'b, 'c, 'd, 'e, 'f, 'a>(
     text: &'b [u8],
@@ -130,9 +162,11 @@ pub extern "C" fn lent_edges<'b, 'c, 'd, 'e, 'f, 'a>(
     rows: &'f mut [u64; TABLE_WORDS],
     out: &'a mut [Edge],
 ) -> u32
-    ensures { λ r. ⌜ TextEdges (read (now (text .entry))) (now (out .entry)) r (now (out .exit)) ⌝ }
+    ensures { λ r. ⌜ TextEdges (read (now (text .entry))) (now (out .entry)) r (now (out .exit))
+        × (Lent (now (state .entry)) (now (state .exit)) × Lent (now (lines .entry)) (now (lines .exit))
+        × Lent (now (places .entry)) (now (places .exit)) × RowsLinked (read (now (text .entry))) (now (rows .entry)) (now (rows .exit))) ⌝ }
 {
-    let t = place_text::text_rows(text, state, lines, places, rows);
+    let t = linked_rows(text, state, lines, places, rows);
     let n = t.words;
     let put = edge_put::put_edges(&rows[..n], out);
     edges_word(t.number, t.line, put)
@@ -146,13 +180,28 @@ pub extern "C" fn lent_verdict(
     lines: &mut [u64; LINE_TABLE],
     places: &mut [u64; ROWS],
     rows: &mut [u64; TABLE_WORDS],
+    work: &mut [u64; TABLE_WORDS],
     forwards: &mut [u64; PAIRS],
     backs: &mut [u64; PAIRS],
     area: &mut [u64],
 ) -> u32
     ensures { λ r. ⌜ VerdictStage (given (now (text .entry))) (now (area .entry)) r (now (area .exit)) ⌝ }
+    ensures { λ _. ⌜ Lent (now (state .entry)) (now (state .exit)) × Lent (now (lines .entry)) (now (lines .exit))
+        × Lent (now (places .entry)) (now (places .exit)) × RowsLeft (read (now (text .entry))) (now (rows .entry)) (now (rows .exit))
+        × Lent (now (work .entry)) (now (work .exit)) × Lent (now (forwards .entry)) (now (forwards .exit))
+        × Lent (now (backs .entry)) (now (backs .exit)) ⌝ }
 {
-    let told = verdict_of::text_verdict(text, state, lines, places, rows, forwards, backs, area);
+    let told = verdict_of::text_verdict(
+        text,
+        state,
+        lines,
+        places,
+        rows,
+        work,
+        forwards,
+        backs,
+        area,
+    );
     match told {
         TextVerdict::Unread(number, line) => refusal_word(number, line),
         TextVerdict::Judged(v) => verdict_word(v),

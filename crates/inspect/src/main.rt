@@ -1,5 +1,6 @@
 // Shows what the parts make of workload texts: what is read, the unfoldings, the edges, the report, and what lent areas hold afterwards. Arguments
-// are words and file names in order: `--read`, `--unfold`, `--edges`, `--report` and `--areas` say what is printed of the files after them.
+// are words and file names in order: `--read`, `--unfold`, `--edges`, `--report` and `--areas` say what is printed of the files after them; at
+// `--input` standard input is answered, as the program `verdict` answers it.
 
 use check::same;
 use edge_list::EdgeAnswer;
@@ -33,6 +34,9 @@ const EDGES: u8 = 3;
 const REPORT: u8 = 4;
 
 const AREAS: u8 = 5;
+
+// What is printed of standard input, and not of a file.
+const INPUT: u8 = 6;
 
 // ---- what all listings print
 
@@ -523,6 +527,9 @@ fn listing_of(word: &[u8]) -> u8 {
     if same(word, b"--areas") {
         return AREAS;
     }
+    if same(word, b"--input") {
+        return INPUT;
+    }
     NOTHING
 }
 
@@ -531,6 +538,10 @@ fn take_argument(i: usize, before: u8) -> u8 {
     let mut word = io::buffer();
     let n = os::arg(i, &mut word);
     let asked = listing_of(&word[..n]);
+    if asked == INPUT {
+        verdict_run::answer_input();
+        return before;
+    }
     if asked != NOTHING {
         return asked;
     }

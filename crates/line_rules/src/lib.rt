@@ -5,9 +5,7 @@ use spec_text::Line;
 ghost use mathlib.Core.Path.{_≡_};
 ghost use mathlib.Core.List.{List, [], _∷_, _++_};
 ghost use mathlib.Core.Option.{none};
-ghost use Prim.Native.Nat.{_≤_};
 ghost use lib.Dec.{eqb};
-ghost use lib.ListN.{length};
 ghost use Rattle.spec_text.specs.declared.Line.{Line as LineValue};
 ghost use Rattle.spec_text.specs.Reading.{fault, noneOpen};
 ghost use Rattle.line_state.specs.StateSteps.{checkOf};
@@ -18,8 +16,7 @@ ghost use Rattle.line_rules.specs.WordsHold.{HoldsWords};
 // No line taken yet. The words may hold anything before.
 pub fn start(words: &mut [u64; WORDS])
     ensures { λ _. ⌜
-        (now (words .exit) ≡ startedIn (now (words .entry)))
-        × (424 ≤ length (now (words .entry)) → HoldsWords (now (words .exit)) [])
+        (now (words .exit) ≡ startedIn (now (words .entry))) × HoldsWords (now (words .exit)) []
         ⌝ }
 {
     line_state::start(words);

@@ -1,5 +1,7 @@
 // The words in which reading keeps what it needs of the lines taken so far.
 ghost use mathlib.Core.Path.{_≡_};
+ghost use Prim.Native.Nat.{_≤_};
+ghost use lib.ListN.{length};
 ghost use Rattle.line_state.specs.StateSteps.{cellOf};
 ghost use Rattle.line_state.specs.StateWords.{arrayIn, startedIn};
 
@@ -97,8 +99,9 @@ pub fn cell(words: &[u64; WORDS], from: usize, i: u64) -> u64
     cell_in(words, from, i)
 }
 
-// No line taken yet. Only what is looked at before the first line is set: the words may hold anything.
-pub fn start(words: &mut [u64; WORDS])
+// Only what is looked at before the first line is set.
+fn start_in(words: &mut [u64])
+    requires { ⌜ 424 ≤ length (now words) ⌝ }
     ensures { λ _. ⌜ now (words .exit) ≡ startedIn (now (words .entry)) ⌝ }
 {
     words[OPEN_PLACES] = 0;
@@ -114,4 +117,12 @@ pub fn start(words: &mut [u64; WORDS])
     words[PROGRAMS] = 0;
     words[RELATIONS] = 0;
     words[KEYS] = 0;
+}
+
+// No line taken yet; the words may hold anything. That there are as many as the type says is told, since a caller that has the words behind a
+// reference cannot know it.
+pub fn start(words: &mut [u64; WORDS])
+    ensures { λ _. ⌜ (now (words .exit) ≡ startedIn (now (words .entry))) × (length (now (words .entry)) ≡ 424) ⌝ }
+{
+    start_in(words);
 }

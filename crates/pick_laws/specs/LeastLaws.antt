@@ -4,6 +4,7 @@ use mathlib.Core.Bool.{true, false}
 use mathlib.Core.Logic.{_⊎_, inl, inr}
 use Prim.Native.Nat.{ℕ, zero, suc, _≤_, _<_, min, max}
 use native.Mathlib.Nat.{not-suc-le-zero}
+use native.Mathlib.Decide.{decLt}
 use native.Mathlib.Omega.{arith}
 use lib.Dec.{eqb, ltb, leb}
 use borrow.Author.Tests.{eqb-true, eqb-false, ltb-true, ltb-false, leb-true, leb-false}
@@ -62,3 +63,27 @@ greatest-some f (suc n) k h = by-last (greatest-some f n k) (decide (ltb k (f n)
         let l = ltb-false k (f n) e in
         let t = rest (omega arith) in
         let inside = t .1 in (t .0, omega arith, t .2)
+
+-- numbers that add nothing from one on
+pub least-rest : (f : ℕ → ℕ) (most k n : ℕ) → k ≤ n → ((x : ℕ) → k ≤ x → x < n → most ≤ f x) → leastBelow f most k ≡ leastBelow f most n
+unfolding leastBelow
+least-rest f most k zero h past = let same : k ≡ 0 = omega arith in ap (leastBelow f most) same
+least-rest f most k (suc n) h past = go (λ l. least-rest f most k n l (λ x a b. past x a (omega arith))) (decLt n k)
+  where
+    go : (k ≤ n → leastBelow f most k ≡ leastBelow f most n) → Dec (n < k) → leastBelow f most k ≡ leastBelow f most (suc n)
+    go again (yes l) = let same : k ≡ suc n = omega arith in ap (leastBelow f most) same
+    go again (no d) =
+        let rest = again (omega arith) in
+        let last = past n (omega arith) (omega arith) in
+        let bound = least-most f most n in omega arith
+
+pub greatest-rest : (f : ℕ → ℕ) (k n : ℕ) → k ≤ n → ((x : ℕ) → k ≤ x → x < n → f x ≡ 0) → greatestBelow f k ≡ greatestBelow f n
+unfolding greatestBelow
+greatest-rest f k zero h past = let same : k ≡ 0 = omega arith in ap (greatestBelow f) same
+greatest-rest f k (suc n) h past = go (λ l. greatest-rest f k n l (λ x a b. past x a (omega arith))) (decLt n k)
+  where
+    go : (k ≤ n → greatestBelow f k ≡ greatestBelow f n) → Dec (n < k) → greatestBelow f k ≡ greatestBelow f (suc n)
+    go again (yes l) = let same : k ≡ suc n = omega arith in ap (greatestBelow f) same
+    go again (no d) =
+        let rest = again (omega arith) in
+        let last = past n (omega arith) (omega arith) in omega arith

@@ -54,6 +54,17 @@ module _ (lines : List ℕ) (i child seen word n : ℕ) (en : n ≡ getD lines (
             shifted-bit word key (omega arith)
             ∙ sym (link ∙ rw (same, ← ep, ← eb, not-false b z, ← ek, lt-ltb key 32 (omega arith)) refl)
 
+-- a line of another child has no part, whatever it is
+pub other-child : (lines : List ℕ) (i child seen word of : ℕ) → of ≡ getD lines (i * 8 + 2) 0 → (of ≡ child → ⊥)
+    → word ≡ keyAt lines i child seen word
+unfolding keyAt withLink linkAt
+other-child lines i child seen word of eo d =
+    sym (rw (ne-eqb (getD lines (i * 8 + 2) 0) child (λ z. d (eo ∙ z))) (go (eqb (getD lines (i * 8) 0) liNumber)))
+  where
+    go : (b : Bool) → cond b word word ≡ word
+    go true = refl
+    go false = refl
+
 -- the lines from a place on
 module _ (lines : List ℕ) (child seen : ℕ) where
   pub keys-next : (n i word : ℕ) → i < n → (m : ℕ) → m ≡ getD lines (i * 8) 0 → (m ≡ prNumber → ⊥) → (r : ℕ) → r ≡ keyAt lines i child seen word

@@ -38,7 +38,8 @@ fn key_at(lines: &[u64], i: usize, child: u64, parents: u64, word: u64) -> u64
 }
 
 // The keys that shield a place, as the word of a row, from the links of its program, which stand from line `first` up to the next `pr`. An edge that
-// leaves the place is shielded by a parent that is seen there, one that enters it by a parent anywhere: by any that is marked.
+// leaves the place is shielded by a parent that is seen there, one that enters it by a parent anywhere: by any that is marked. Most links are of
+// other children: these are passed by first.
 pub fn keys_from(lines: &[u64], first: usize, child: u64, seen: u64, marks: u64) -> u64
     ensures { λ r. ⌜ r ≡ placeKeys (now (lines .entry)) first child seen marks ⌝ }
 {
@@ -49,6 +50,10 @@ pub fn keys_from(lines: &[u64], first: usize, child: u64, seen: u64, marks: u64)
     while i < n {
         if word_at(lines, i * LINE_WORDS) == PR {
             return near + far * FAR;
+        }
+        if word_at(lines, i * LINE_WORDS + REL) != child {
+            i += 1;
+            continue;
         }
         near = key_at(lines, i, child, seen, near);
         far = key_at(lines, i, child, marks, far);

@@ -14,37 +14,26 @@ pub struct Begun {
     pub firsts: [u64; 16],
 }
 
-// A line's part in the programs: a `pr` line begins one more, whose lines begin after it.
-fn begin_line(lines: &[u64], i: usize, b: Begun) -> Begun
-    requires { ⌜ (i < length (now lines) / 8) × (b .programs ≤ i) × (length (b .firsts) ≡ 16) ⌝ }
-    ensures { λ r. ⌜ r ≡ begunLine (now (lines .entry)) i b ⌝ }
-{
-    if word_at(lines, i * LINE_WORDS) != PR {
-        return b;
-    }
-    let n = b.programs;
-    let mut r = b;
-    r.programs = n + 1;
-    if n > 15 {
-        return r;
-    }
-    r.firsts[n] = (i + 1) as u64;
-    r
-}
-
-// The programs of the lines.
+// The programs of the lines: a `pr` line begins one more, whose lines begin after it.
 pub fn programs_in(lines: &[u64]) -> Begun
     ensures { λ r. ⌜ r ≡ begunIn (now (lines .entry)) ⌝ }
 {
-    let mut b = Begun {
-        programs: 0,
-        firsts: [0u64; 16],
-    };
+    let mut firsts = [0u64; 16];
+    let mut programs: usize = 0;
     let n = lines.len() / LINE_WORDS;
     let mut i: usize = 0;
     while i < n {
-        b = begin_line(lines, i, b);
+        let kind = word_at(lines, i * LINE_WORDS);
         i += 1;
+        if kind != PR {
+            continue;
+        }
+        let p = programs;
+        programs = p + 1;
+        if p > 15 {
+            continue;
+        }
+        firsts[p] = i as u64;
     }
-    b
+    Begun { programs, firsts }
 }

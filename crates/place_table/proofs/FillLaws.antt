@@ -23,6 +23,9 @@ use Rattle.unfold.specs.PieceTable.{table}
 use Rattle.unfold_laws.specs.Pieces.{Piece, flat}
 use Rattle.unfold.specs.UnfoldSettled.{PlacesSettled}
 use Rattle.unfold.specs.UnfoldLines.{LinePlacesSettled}
+use Rattle.unfold.specs.declared.Told.{Told as ToldCount}
+use Rattle.unfold.specs.UnfoldInto.{Into}
+use Rattle.unfold.specs.IntoLaws.{into-cells}
 use Rattle.unfold.specs.Stand.{PlacesStand, places-stand}
 use Rattle.spec_report.specs.Refusals.{refusal-some, refusal-none, places-few, taken-given, other-area}
 use Rattle.place_programs.specs.declared.Begun.{Begun}
@@ -70,7 +73,7 @@ total-pieces (p ∷ ps) rest =
     ∙ sym (length-append (p .words) (flat ps))
 
 -- what found room in 512 words is no more
-pub places-told-few : {codes numbers marks before after : List ℕ} {told : Unfolded} → Tabled codes numbers marks before told after
+places-told-few : {codes numbers marks before after : List ℕ} {told : Unfolded} → Tabled codes numbers marks before told after
     → length before ≡ 512 → length after ≡ 512 → told .refusal ≡ 0 → totalOf (told .length) (told .count) ≤ 512
 unfolding refusedWith tableTold table cells
 places-told-few {codes} {numbers} {marks} {before} {after} {told} t size long none-told =
@@ -184,25 +187,27 @@ module _ (w : Workload) (zeros : List ℕ) (size : length zeros ≡ 512) (told :
 -- ---- over a table of lines
 
 module _ {lines places₀ table₀ : List ℕ} {told : Unfolded} {places : List ℕ} (unfolded : LinePlacesSettled lines places₀ told places)
-    (size : length places₀ ≡ 512) where
+    (size : length places₀ ≡ 512) (long : length places ≡ 512) where
   -- a refusal
-  pub lines-refused : (told .refusal ≡ 0 → ⊥) → LinesFilled lines places₀ table₀ (Refused (told .refusal)) places table₀
+  lines-refused : (told .refusal ≡ 0 → ⊥) → LinesFilled lines places₀ table₀ (Refused (told .refusal)) places table₀
   lines-refused other =
       record {
         told = told;
         tabled = unfolded .tabled;
+        lent = long ∙ sym size;
         refuses = λ _. (refl, refl);
         fills = λ e. absurd (other e);
         settled = λ ls e g. refused-number (valueOf ls) places₀ size told places (unfolded .settled ls e g) table₀ other;
       }
 
   -- rows
-  pub lines-filled : told .refusal ≡ 0 → {r : Rows} {table′ : List ℕ}
+  lines-filled : told .refusal ≡ 0 → {r : Rows} {table′ : List ℕ}
       → FilledBy lines (told .program) (told .length) places (told .count) table₀ r table′ → LinesFilled lines places₀ table₀ r places table′
   lines-filled none-told {r} {table′} f =
       record {
         told = told;
         tabled = unfolded .tabled;
+        lent = long ∙ sym size;
         refuses = λ other. absurd (other none-told);
         fills = λ _. f;
         settled =
@@ -210,6 +215,30 @@ module _ {lines places₀ table₀ : List ℕ} {told : Unfolded} {places : List 
             (subst (λ (l : List ℕ). FilledBy l (told .program) (told .length) places (told .count) table₀ r table′)
             (e ∙ ap lineTable (sym (lines-of-value ls))) f);
       }
+
+-- the same where what is told of the unfoldings stands in cells that held zeros
+module _ {lines places₀ : List ℕ} {r : ToldCount} {programs starts lengths places : List ℕ}
+    (i : Into (λ u. LinePlacesSettled lines places₀ u places) (replicate 64 0) (replicate 64 0) (replicate 64 0) r programs starts lengths)
+  where
+    same : (programs ≡ i .unfolded .program) × (starts ≡ i .unfolded .start) × (lengths ≡ i .unfolded .length)
+    same = into-cells i (i .settles .tabled)
+
+    pub told-programs : 64 ≡ length programs
+    told-programs = sym (i .program-cells)
+
+    pub told-lengths : 64 ≡ length lengths
+    told-lengths = sym (i .length-cells)
+
+    pub told-few : length places₀ ≡ 512 → length places ≡ 512 → r .refusal ≡ 0 → totalOf lengths (r .count) ≤ 512
+    told-few size long none = rw (same .2, i .count) (places-told-few (i .settles .tabled) size long (sym (i .refusal) ∙ none))
+
+    pub told-refused : {table₀ : List ℕ} → length places₀ ≡ 512 → length places ≡ 512 → (r .refusal ≡ 0 → ⊥)
+        → LinesFilled lines places₀ table₀ (Refused (r .refusal)) places table₀
+    told-refused size long other = rw (i .refusal) (lines-refused (i .settles) size long (λ z. other (i .refusal ∙ z)))
+
+    pub told-filled : {table₀ : List ℕ} → length places₀ ≡ 512 → length places ≡ 512 → r .refusal ≡ 0 → {rows : Rows} {table′ : List ℕ}
+        → FilledBy lines programs lengths places (r .count) table₀ rows table′ → LinesFilled lines places₀ table₀ rows places table′
+    told-filled size long none f = lines-filled (i .settles) size long (sym (i .refusal) ∙ none) (rw (same .0, same .2, i .count) at f)
 
 -- ---- of a value
 

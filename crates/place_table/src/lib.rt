@@ -8,7 +8,8 @@ use place_row::ROW_WORDS;
 use place_row::ROWS;
 use place_row::TABLE_WORDS;
 use spec_text::Workload;
-use unfold::unfold_line_places;
+use unfold::unfold_into;
+use unfold_laws::UNFOLDINGS;
 use unfold_laws::WORD_LINES;
 use value_given::is_given;
 use value_tables::ID;
@@ -155,8 +156,7 @@ fn fill_table(
         (now (table .exit)) ⌝ }
 {
     let b = programs_in(lines);
-    let firsts = b.firsts;
-    let places = put_nodes(lines, &firsts, programs, lengths, words, nodes, table);
+    let places = put_nodes(lines, &b.firsts, programs, lengths, words, nodes, table);
     Rows::Filled {
         programs: b.programs as u64,
         nodes: nodes as u64,
@@ -169,14 +169,15 @@ fn fill_table(
 pub fn fill_lines(lines: &[u64], places: &mut [u64; ROWS], table: &mut [u64; TABLE_WORDS]) -> Rows
     ensures { λ r. ⌜ LinesFilled (now (lines .entry)) (now (places .entry)) (now (table .entry)) r (now (places .exit)) (now (table .exit)) ⌝ }
 {
-    let told = unfold_line_places(lines, places);
+    let mut programs = [0u8; UNFOLDINGS];
+    let mut starts = [0u64; UNFOLDINGS];
+    let mut lengths = [0u64; UNFOLDINGS];
+    let told = unfold_into(lines, &mut programs, &mut starts, &mut lengths, places);
     let number = told.refusal;
     if number != 0 {
         return Rows::Refused(number);
     }
     let nodes = told.count as usize;
-    let lengths = told.length;
-    let programs = told.program;
     fill_table(lines, nodes, &programs, &lengths, places, table)
 }
 

@@ -10,6 +10,7 @@ ghost use mathlib.Core.Path.{_≡_};
 ghost use Prim.Native.Nat.{_≤_};
 ghost use lib.ListN.{length, take};
 ghost use Rattle.spec_text.specs.Reading.{read};
+ghost use Rattle.lent_words.specs.Lent.{Lent};
 ghost use Rattle.place_table.specs.LineRows.{LinesFilled};
 ghost use Rattle.place_text.specs.Placed.{noRows, TextPlaced};
 
@@ -52,7 +53,7 @@ fn line_rows(
 }
 
 // Reads any text and puts the rows of its places at the front of the lent table; the rest of the table stays as it was, all of it where the text is
-// refused. The other words are lent to work in: what they hold afterwards is free.
+// refused. State, lines and places are lent to work in: what they hold afterwards is free.
 pub fn text_rows(
     text: &[u8],
     state: &mut [u64; line_state::WORDS],
@@ -61,6 +62,8 @@ pub fn text_rows(
     rows: &mut [u64; TABLE_WORDS],
 ) -> TextRows
     ensures { λ r. ⌜ TextPlaced (read (now (text .entry))) (now (rows .entry)) r (now (rows .exit)) ⌝ }
+    ensures { λ _. ⌜ Lent (now (state .entry)) (now (state .exit)) × Lent (now (lines .entry)) (now (lines .exit))
+        × Lent (now (places .entry)) (now (places .exit)) ⌝ }
 {
     let t = text_table::read_table(text, state, lines);
     let number = t.number;

@@ -17,6 +17,7 @@ pub fn report_of(text: &[u8]) -> Printed
     let mut lines = [0u64; LINE_TABLE];
     let mut places = [0u64; ROWS];
     let mut rows = [0u64; TABLE_WORDS];
+    let mut work = [0u64; TABLE_WORDS];
     let mut forwards = [0u64; PAIRS];
     let mut backs = [0u64; PAIRS];
     let mut area = [0u64; WALK_WORDS];
@@ -26,6 +27,7 @@ pub fn report_of(text: &[u8]) -> Printed
         &mut lines,
         &mut places,
         &mut rows,
+        &mut work,
         &mut forwards,
         &mut backs,
         &mut area,

@@ -46,7 +46,7 @@ fn before_lines(text: &[u8], start: usize) -> Before
     line_rules::start(&mut words);
     let mut at = start;
     loop {
-        let Step::Line(span) = text_lines::line_from(text, at, 0) else {
+        let Step::Line(span) = text_lines::line_at(text, at, 0) else {
             break;
         };
         let begin = span.start;

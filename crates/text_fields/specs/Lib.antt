@@ -1,5 +1,6 @@
 pub mod Answer
 pub mod AnswerLaws
+pub mod BrokenLaws
 pub mod Field
 pub mod FieldLaws
 pub mod FieldStep
@@ -8,7 +9,6 @@ pub mod InPlaceLaws
 pub mod InPlaceLine
 pub mod LineIn
 pub mod LineInLaws
-pub mod Progress
 pub mod RunLaws
 pub mod Word
 pub mod WordLaws

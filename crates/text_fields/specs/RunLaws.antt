@@ -128,15 +128,7 @@ module _ (text : List ℕ) (at : ℕ) where
   unfolding dashAt
   dash-here last h e = rw (drop-cons text at 0 h, eq-eqb _ _ e, add-one)
 
--- a byte that is a decimal digit, and one that is none
-pub decimal-is : (b : ℕ) → isDecimal b ≡ true → (0x30 ≤ b) × (b ≤ 0x39) × (hexadecimal b ≡ b - 0x30)
-decimal-is b e = go (digit-view b)
-  where
-    go : Digit b → (0x30 ≤ b) × (b ≤ 0x39) × (hexadecimal b ≡ b - 0x30)
-    go (decimal l h d x v w) = (l, h, v)
-    go (letter l h d x v w) = let z : _≡_ {A = Bool} true false = sym e ∙ d in let y : _≡_ {A = ℕ} 0 1 = cc in absurd (omega arith)
-    go (neither d x v) = let z : _≡_ {A = Bool} true false = sym e ∙ d in let y : _≡_ {A = ℕ} 0 1 = cc in absurd (omega arith)
-
+-- a byte that is no decimal digit
 pub decimal-not : (b : ℕ) → isDecimal b ≡ false → 10 ≤ hexadecimal b
 decimal-not b e = leb-true 10 (hexadecimal b) (below-ten b ∙ ap not e)
 

@@ -2,7 +2,7 @@
 use mathlib.Core.Bool.{Bool, true, false, cond}
 use mathlib.Core.List.{List, [], _∷_, _++_}
 use mathlib.Core.Option.{Option, none, some}
-use mathlib.Core.Path.{_≡_, refl, sym, _∙_, ap}
+use mathlib.Core.Path.{_≡_, refl, _∙_, ap}
 use Prim.Native.Nat.{ℕ, _<_}
 use native.Mathlib.Omega.{arith}
 use lib.Dec.{eqb}
@@ -102,10 +102,3 @@ kind-length word other = go (kindOf word) refl
     go : (o : Option LineKind) → kindOf word ≡ o → kindOf word ≡ none
     go none e = e
     go (some k) e = absurd (other (ap length (kind-word word e) ∙ word-two k))
-
--- a word of two bytes is its bytes
-pub word-bytes : (word : List ℕ) → length word ≡ 2 → getD word 0 0 ∷ getD word 1 0 ∷ [] ≡ word
-word-bytes [] e = absurd (omega arith)
-word-bytes (a ∷ []) e = absurd (omega arith)
-word-bytes (a ∷ b ∷ []) e = refl
-word-bytes (a ∷ b ∷ d ∷ word) e = absurd (omega arith)

@@ -3,8 +3,6 @@ use spec_text::Line;
 use spec_text::LineKind;
 use spec_text::StatementKind;
 use text_lines::Reader;
-use text_number::FieldForm;
-use text_number::FieldRead;
 ghost use mathlib.Core.Path.{_≡_};
 ghost use mathlib.Core.List.{[], _∷_};
 ghost use mathlib.Core.Bool.{true, false, cond, not};
@@ -12,10 +10,8 @@ ghost use lib.Dec.{eqb};
 ghost use Prim.Native.Nat.{_+_, _≤_, _<_};
 ghost use lib.ListN.{length, drop};
 ghost use Rattle.spec_text.specs.Text.{lineOf, kindOf, newline, space};
-ghost use Rattle.text_number.specs.Digits.{formOf};
-ghost use Rattle.text_fields.specs.Field.{fieldLength, formIf, stepAt, stepsAt, lineAfterWord};
 ghost use Rattle.text_fields.specs.Answer.{lineAnswer, valueOr4};
-ghost use Rattle.text_fields.specs.FieldStep.{kindAnswer, stepAnswer, fieldsAnswer, Read, ReadLine, Reach, Decimal};
+ghost use Rattle.text_fields.specs.FieldStep.{kindAnswer, Read, ReadLine, Reach, Decimal};
 ghost use Rattle.text_fields.specs.Field.{numberIf, setIf};
 ghost use Rattle.text_fields.specs.InPlace.{endedWith, digitsRun, digitsAt, dashAt, fieldAt, lineAfter};
 ghost use Rattle.text_fields.specs.LineIn.{lineStep};
@@ -38,55 +34,9 @@ enum FieldStep {
     Wrong,
 }
 
-// The values of three fields and where the last of them ends.
-enum FieldsRead {
-    Values(u64, u64, u64, usize),
-    Wrong,
-}
-
 enum KindRead {
     Kind(LineKind),
     Wrong,
-}
-
-// Where the field that begins at a place ends: at the next space, or with the line.
-fn field_end(bytes: &[u8], at: usize) -> usize
-    ensures { λ r. ⌜ r ≡ at + fieldLength (drop at (now (bytes .entry))) ⌝ }
-{
-    let mut i = at;
-    while i < bytes.len() {
-        if bytes[i] == 0x20 {
-            return i;
-        }
-        i += 1;
-    }
-    i
-}
-
-// The form of a field: nothing but `-` where the kind lacks the field.
-fn form_if(there: bool, form: FieldForm) -> FieldForm
-    ensures { λ r. ⌜ formOf r ≡ formIf there (formOf form) ⌝ }
-{
-    if there {
-        return form;
-    }
-    FieldForm::Nothing
-}
-
-// The field after the space at a place, read by its form where the kind has it.
-fn next_field(bytes: &[u8], at: usize, form: FieldForm, there: bool) -> FieldStep
-    ensures { λ r. ⌜ stepAnswer (now (bytes .entry)) r ≡ stepAt (formIf there (formOf form)) (drop at (now (bytes .entry))) ⌝ }
-{
-    if bytes.len() <= at {
-        return FieldStep::Wrong;
-    }
-    let start = at + 1;
-    let end = field_end(bytes, start);
-    let r = text_number::field_of(form_if(there, form), &bytes[start..end]);
-    match r {
-        FieldRead::Value(v) => FieldStep::Value(v, end),
-        FieldRead::Wrong => FieldStep::Wrong,
-    }
 }
 
 fn wide(b: u8) -> u32
@@ -127,86 +77,6 @@ fn kind_by(first: u8, second: u8) -> KindRead
     }
 }
 
-// The kind whose word this is.
-fn kind_of(word: &[u8]) -> KindRead
-    ensures { λ r. ⌜ kindAnswer r ≡ kindOf (now (word .entry)) ⌝ }
-{
-    if word.len() != 2 {
-        return KindRead::Wrong;
-    }
-    kind_by(word[0], word[1])
-}
-
-// Three fields of one form, each where the kind has it and each after the space at the place where the one before it ends.
-fn next_fields(bytes: &[u8], at: usize, form: FieldForm, f: bool, g: bool, h: bool) -> FieldsRead
-    ensures { λ r. ⌜
-        fieldsAnswer (now (bytes .entry)) r
-        ≡ stepsAt (formIf f (formOf form) ∷ formIf g (formOf form) ∷ formIf h (formOf form) ∷ []) (drop at (now (bytes .entry)))
-        ⌝ }
-{
-    let FieldStep::Value(x, x_end) = next_field(bytes, at, form, f) else {
-        return FieldsRead::Wrong;
-    };
-    let FieldStep::Value(y, y_end) = next_field(bytes, x_end, form, g) else {
-        return FieldsRead::Wrong;
-    };
-    let FieldStep::Value(z, end) = next_field(bytes, y_end, form, h) else {
-        return FieldsRead::Wrong;
-    };
-    FieldsRead::Values(x, y, z, end)
-}
-
-// The line of a kind whose six fields stand after its word, from the place where the word ends.
-fn line_after_word(bytes: &[u8], at: usize, kind: LineKind) -> LineRead
-    ensures { λ r. ⌜ lineAnswer r ≡ valueOr4 (lineAfterWord kind (drop at (now (bytes .entry)))) ⌝ }
-{
-    let facts = line_kinds::line_facts(kind);
-    let FieldsRead::Values(id, rel, to, middle) = next_fields(
-        bytes,
-        at,
-        FieldForm::Number,
-        facts & line_kinds::ID != 0,
-        facts & line_kinds::REL != 0,
-        facts & line_kinds::TO != 0,
-    ) else {
-        return LineRead::Wrong;
-    };
-    let FieldsRead::Values(reads, writes, tests, end) = next_fields(
-        bytes,
-        middle,
-        FieldForm::Set,
-        facts & line_kinds::READS != 0,
-        facts & line_kinds::WRITES != 0,
-        facts & line_kinds::TESTS != 0,
-    ) else {
-        return LineRead::Wrong;
-    };
-    if end < bytes.len() {
-        return LineRead::Wrong;
-    }
-    LineRead::Value(Line {
-        kind,
-        id: id as u8,
-        rel: rel as u8,
-        to: to as u8,
-        reads,
-        writes,
-        tests,
-    })
-}
-
-// The value line that the bytes are.
-pub fn line_of(bytes: &[u8]) -> LineRead
-    ensures { λ r. ⌜ lineAnswer r ≡ valueOr4 (lineOf (now (bytes .entry))) ⌝ }
-{
-    let end = field_end(bytes, 0);
-    let r = kind_of(&bytes[..end]);
-    match r {
-        KindRead::Kind(kind) => line_after_word(bytes, end, kind),
-        KindRead::Wrong => LineRead::Wrong,
-    }
-}
-
 // The byte that ends a field: the last of a line, or another.
 fn end_byte(last: bool) -> u8
     ensures { λ r. ⌜ r ≡ cond last newline space ⌝ }
@@ -234,34 +104,41 @@ fn ended(text: &[u8], at: usize, value: u64, last: bool) -> FieldStep
     FieldStep::Wrong
 }
 
-// How far at most so many bytes more reach.
-fn reach(at: usize, more: usize, size: usize) -> usize
-    requires { ⌜ at ≤ size ⌝ }
-    ensures { λ r. ⌜ Reach at more size r ⌝ }
-{
-    if more < size - at {
-        return at + more;
-    }
-    size
-}
-
-// At most 15 digits of a set more after a first one, up to a byte that is none; 16 digits still fit a word.
-fn set_run(text: &[u8], at: usize, first: u64, last: bool) -> FieldStep
-    requires { ⌜ (at ≤ length (now text)) × (first < 16) ⌝ }
+// The digits of a set after a first one, before a place that 15 of them reach, up to a byte that is none; 16 digits still fit a word. The tests are
+// those of `digit_of`: of its answer the compiler would make a number first and then test that.
+fn set_run(text: &[u8], at: usize, first: u64, last: bool, limit: usize) -> FieldStep
+    requires { ⌜ (Reach at 15 (length (now text)) limit) × (first < 16) ⌝ }
     ensures { λ r. ⌜ Read (now (text .entry)) r (digitsRun last 16 15 first (drop at (now (text .entry)))) ⌝ }
 {
-    let limit = reach(at, 15, text.len());
     let mut value = first;
     let mut i = at;
     while i < limit {
-        let d = text_number::digit_of(text[i]);
-        if 16 <= d {
-            return ended(text, i, value, last);
+        let b = text[i];
+        if (0x30 <= b) & (b <= 0x39) {
+            value = value * 16 + (b - 0x30) as u64;
+            i += 1;
+            continue;
         }
-        value = value * 16 + d;
-        i += 1;
+        if (0x61 <= b) & (b <= 0x66) {
+            value = value * 16 + (b - 0x57) as u64;
+            i += 1;
+            continue;
+        }
+        return ended(text, i, value, last);
     }
     ended(text, i, value, last)
+}
+
+// At most 15 digits of a set more after a first one. Where the text has so many bytes the compiler knows how often the loop can turn, and lays the
+// turns out one after the other.
+fn set_more(text: &[u8], at: usize, first: u64, last: bool) -> FieldStep
+    requires { ⌜ (at ≤ length (now text)) × (first < 16) ⌝ }
+    ensures { λ r. ⌜ Read (now (text .entry)) r (digitsRun last 16 15 first (drop at (now (text .entry)))) ⌝ }
+{
+    if 15 < text.len() - at {
+        return set_run(text, at, first, last, at + 15);
+    }
+    set_run(text, at, first, last, text.len())
 }
 
 // The digits of a set; a zero stands alone.
@@ -278,7 +155,7 @@ fn set_digits(text: &[u8], at: usize, last: bool) -> FieldStep
     if d == 0 {
         return ended(text, at + 1, 0, last);
     }
-    set_run(text, at + 1, d, last)
+    set_more(text, at + 1, d, last)
 }
 
 // What the decimal digit at a place stands for, or 10 where there is none.
@@ -414,6 +291,26 @@ pub fn line_in(text: &[u8], at: usize) -> LineStep
         KindRead::Kind(kind) => line_after(text, at + 3, kind),
         KindRead::Wrong => LineStep::Wrong,
     }
+}
+
+// The value line that the bytes are: the line that stands in front, where nothing follows it. The byte 0A ends a line and is none of it.
+pub fn line_of(bytes: &[u8]) -> LineRead
+    ensures { λ r. ⌜ lineAnswer r ≡ valueOr4 (lineOf (now (bytes .entry))) ⌝ }
+{
+    let n = bytes.len();
+    if n == 0 {
+        return LineRead::Wrong;
+    }
+    if bytes[n - 1] == 0x0a {
+        return LineRead::Wrong;
+    }
+    let LineStep::Value(l, next) = line_in(bytes, 0) else {
+        return LineRead::Wrong;
+    };
+    if next < n {
+        return LineRead::Wrong;
+    }
+    LineRead::Value(l)
 }
 
 // The value line that a reader comes to: the reader is taken apart.

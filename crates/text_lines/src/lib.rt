@@ -1,4 +1,4 @@
-// The lines of any text, one after the other: a reader that remembers the place and the line number.
+// The lines of any text, one after the other, and a reader that remembers the place and the line number (text_fields reads by it).
 ghost use mathlib.Core.Path.{_≡_};
 ghost use mathlib.Core.Bool.{cond};
 ghost use Prim.Native.Nat.{_+_};
@@ -75,25 +75,11 @@ fn line_span(text: &[u8], place: usize, line: u64) -> Span
 }
 
 // The line at a place of any text, where there is one.
-fn line_at(text: &[u8], place: usize, line: u64) -> Step
+pub fn line_at(text: &[u8], place: usize, line: u64) -> Step
     ensures { λ r. ⌜ r ≡ lineAt (now (text .entry)) place line ⌝ }
 {
     if place < text.len() {
         return Step::Line(line_span(text, place, line));
     }
     Step::End
-}
-
-// The next line that a reader comes to.
-pub fn next_line<'a>(r: Reader<'a>) -> Step
-    ensures { λ s. ⌜ s ≡ lineAt (now (r .entry .text)) (r .entry .place) (r .entry .line) ⌝ }
-{
-    line_at(r.text, r.place, r.line)
-}
-
-// The line that a reader at a place of a text comes to, for callers with plain parameters: the reader is made here and passed on.
-pub fn line_from(text: &[u8], place: usize, line: u64) -> Step
-    ensures { λ s. ⌜ s ≡ lineAt (now (text .entry)) place line ⌝ }
-{
-    next_line(Reader { text, place, line })
 }

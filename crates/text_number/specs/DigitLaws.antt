@@ -1,21 +1,18 @@
 -- Digits read one by one give what the believed definitions give.
 use mathlib.Core.Bool.{Bool, true, false, cond, not, _&&_, _||_}
 use mathlib.Core.List.{List, [], _∷_}
-use mathlib.Core.Option.{Option, none, some}
+use mathlib.Core.Option.{none, some}
 use mathlib.Core.Path.{_≡_, refl, sym, _∙_}
-use Prim.Native.Nat.{ℕ, zero, suc, _+_, _*_, _-_, _/_, _%_, _^_, _≤_, _<_}
+use Prim.Native.Nat.{ℕ, zero, suc, _+_, _*_, _-_, _^_, _≤_, _<_}
 use native.Mathlib.Nat.{mul-le-mul, pow-suc, pow-le-pow-right}
 use native.Mathlib.Numerals.{add-one}
 use native.Mathlib.Omega.{arith}
-use lib.Bits.{bitAnd}
 use lib.Dec.{eqb, leb, ltb, eqb·suc-zero}
-use lib.ListN.{length, drop, getD, drop-of-length-le}
-use lib.Seq.{drop-cons}
-use borrow.Author.Tests.{ltb-true, ltb-false, leb-true, leb-false, lt-ltb, le-ltb, le-leb, lt-leb, eq-eqb, ne-eqb, not-true, not-false}
+use lib.ListN.{length}
+use borrow.Author.Tests.{ltb-true, ltb-false, leb-true, leb-false, lt-ltb, le-ltb, le-leb, lt-leb}
 use Rattle.spec_base.specs.Basic.{all}
-use Rattle.law_base.specs.BoolLaws.{and-true, and-right}
-use Rattle.law_base.specs.ListLaws.{all-numbers}
-use Rattle.spec_text.specs.Text.{same, isDecimal, isHexadecimal, digitsForm, digitValue, valueAfter, numberOf, setOf, dashOf}
+use Rattle.law_base.specs.BoolLaws.{and-true}
+use Rattle.spec_text.specs.Text.{isDecimal, isHexadecimal, digitsForm, digitValue, valueAfter, numberOf, setOf}
 use Rattle.text_number.specs.Digits.{hexadecimal, digitsFrom, digitsIn, atMost255}
 
 -- what the tests and the values say of a byte: it is a decimal digit, a letter a to f, or no digit
@@ -97,15 +94,7 @@ decimal-value b e = go (digit-view b)
     go (letter l h d x v w) = v ∙ sym w
     go (neither d x v) = let z : true ≡ false = sym e ∙ d in cc
 
--- a digit's value from the byte's parts, and no digit
-pub digit-parts : (b : ℕ) → isHexadecimal b ≡ true → (b + b / 64 * 9) % 16 ≡ hexadecimal b
-digit-parts b e = go (digit-view b)
-  where
-    go : Digit b → (b + b / 64 * 9) % 16 ≡ hexadecimal b
-    go (decimal l h d x v w) = let high : b / 64 ≡ 0 = omega arith in rw high (omega arith)
-    go (letter l h d x v w) = let high : b / 64 ≡ 1 = omega arith in rw high (omega arith)
-    go (neither d x v) = let z : true ≡ false = sym e ∙ x in cc
-
+-- no digit
 pub digit-none : (b : ℕ) → isHexadecimal b ≡ false → 16 ≡ hexadecimal b
 digit-none b e = go (digit-view b)
   where
@@ -183,34 +172,6 @@ number-in field = rw (digits-in 10 isDecimal below-ten decimal-value 3 field) (g
     go true = refl
     go false = refl
 
--- a number is below 256
-pub number-small : (field : List ℕ) {v : ℕ} → numberOf field ≡ some v → v < 256
-unfolding numberOf
-number-small field {v} e = go (digitsForm isDecimal 3 field && leb (valueAfter 10 0 field) 255) refl e
-  where
-    go : (t : Bool) → digitsForm isDecimal 3 field && leb (valueAfter 10 0 field) 255 ≡ t
-        → cond t (some (valueAfter 10 0 field)) none ≡ some v → v < 256
-    go true h q =
-        let same : valueAfter 10 0 field ≡ v = cc in
-        let small : valueAfter 10 0 field ≤ 255 = leb-true _ 255 (and-true (digitsForm isDecimal 3 field) _ h .1) in
-        omega arith
-    go false h q = let z : _≡_ {A = ℕ} 0 1 = cc in omega arith
-
--- reading digits from a place: a byte that is no digit of the base, one that is, and the end
-pub digits-wrong : (base n : ℕ) (field : List ℕ) (i : ℕ) → i < length field → base ≤ hexadecimal (getD field i 0)
-    → digitsFrom base n (drop i field) ≡ none
-unfolding digitsFrom
-digits-wrong base n field i h l = rw (drop-cons field i 0 h, le-leb base (hexadecimal (getD field i 0)) l)
-
-pub digits-more : (base n : ℕ) (field : List ℕ) (i : ℕ) → i < length field → hexadecimal (getD field i 0) < base
-    → digitsFrom base n (drop i field) ≡ digitsFrom base (n * base + hexadecimal (getD field i 0)) (drop (i + 1) field)
-unfolding digitsFrom
-digits-more base n field i h l = rw (drop-cons field i 0 h, lt-leb base (hexadecimal (getD field i 0)) l, add-one)
-
-pub digits-done : (base n : ℕ) (field : List ℕ) (i : ℕ) → length field ≤ i → digitsFrom base n (drop i field) ≡ some n
-unfolding digitsFrom
-digits-done base n field i h = rw (drop-of-length-le field h)
-
 -- one digit more takes a value below the next power of 16, and 16 digits fit a word
 pub next-power : (base n i d : ℕ) → base ≤ 16 → n < 16 ^ i → d < base → n * base + d < 16 ^ (i + 1)
 next-power base n i d small below h =
@@ -220,68 +181,25 @@ next-power base n i d small below h =
 pub power-fits : (i : ℕ) → i < 16 → 16 ^ (i + 1) ≤ 2 ^ 64
 power-fits i h = pow-le-pow-right {n = 16} (omega arith) {i = i + 1} {j = 16} (omega arith)
 
--- a number from its digits: one that is at most 255, one that is more, and no digits
-pub number-some : (field : List ℕ) {v : ℕ} → digitsIn 10 3 field ≡ some v → v ≤ 255 → numberOf field ≡ some v
-unfolding atMost255
-number-some field {v} e h = number-in field ∙ rw (e, le-leb v 255 h)
+-- a byte that is a decimal digit, one that is a letter a to f, and one that is neither
+abbrev pub isHexLetter : ℕ → Bool
+isHexLetter b = leb 0x61 b && leb b 0x66
 
-pub number-large : (field : List ℕ) {v : ℕ} → digitsIn 10 3 field ≡ some v → 255 < v → numberOf field ≡ none
-unfolding atMost255
-number-large field {v} e h = number-in field ∙ rw (e, lt-leb v 255 h)
-
-pub number-none : (field : List ℕ) → digitsIn 10 3 field ≡ none → numberOf field ≡ none
-unfolding atMost255
-number-none field e = number-in field ∙ rw e
-
--- a dash is one byte, and that byte
-pub dash-is : (field : List ℕ) → length field ≡ 1 → getD field 0 0 ≡ 0x2d → dashOf field ≡ some 0
-unfolding dashOf same
-dash-is [] e h = absurd (omega arith)
-dash-is (b ∷ []) e h = rw (eq-eqb b 0x2d h)
-dash-is (b ∷ d ∷ field) e h = absurd (omega arith)
-
-pub dash-none : (field : List ℕ) → (length field ≡ 1 → getD field 0 0 ≡ 0x2d → ⊥) → dashOf field ≡ none
-unfolding dashOf same
-dash-none [] h = refl
-dash-none (b ∷ []) h = rw (ne-eqb b 0x2d (h refl))
-dash-none (b ∷ d ∷ field) h = rw (and-right (eqb b 0x2d) {b = false} refl)
-
--- a dash holds 0
-pub dash-zero : (field : List ℕ) {v : ℕ} → dashOf field ≡ some v → v ≡ 0
-unfolding dashOf
-dash-zero field {v} e = go (same field (0x2d ∷ [])) e
+pub decimal-is : (b : ℕ) → isDecimal b ≡ true → (0x30 ≤ b) × (b ≤ 0x39) × (hexadecimal b ≡ b - 0x30)
+decimal-is b e = go (digit-view b)
   where
-    go : (t : Bool) → _≡_ {A = Option ℕ} (cond t (some 0) none) (some v) → v ≡ 0
-    go true q = cc
-    go false q = cc
+    go : Digit b → (0x30 ≤ b) × (b ≤ 0x39) × (hexadecimal b ≡ b - 0x30)
+    go (decimal l h d x v w) = (l, h, v)
+    go (letter l h d x v w) = let z : _≡_ {A = Bool} true false = sym e ∙ d in let y : _≡_ {A = ℕ} 0 1 = cc in absurd (omega arith)
+    go (neither d x v) = let z : _≡_ {A = Bool} true false = sym e ∙ d in let y : _≡_ {A = ℕ} 0 1 = cc in absurd (omega arith)
 
--- a byte that is below or above all digits, and the bits of those between
-pub digit-below : (b : ℕ) → b < 0x30 → 16 ≡ hexadecimal b
+pub letter-is : (b : ℕ) → isHexLetter b ≡ true → (0x61 ≤ b) × (b ≤ 0x66) × (hexadecimal b ≡ b - 0x57)
 unfolding hexadecimal
-digit-below b h = rw (lt-ltb b 0x30 h)
+letter-is b e =
+    let both = and-true (leb 0x61 b) (leb b 0x66) e in
+    let from : 0x61 ≤ b = leb-true 0x61 b (both .0) in
+    let to : b ≤ 0x66 = leb-true b 0x66 (both .1) in
+    (from, to, rw (le-ltb b 0x30 (omega arith), lt-leb b 0x39 (omega arith), le-ltb b 0x61 from, both .1))
 
-pub digit-above : (b : ℕ) → 0x66 < b → 16 ≡ hexadecimal b
-unfolding hexadecimal
-digit-above b h = rw (le-ltb b 0x30 (omega arith), lt-leb b 0x39 (omega arith), le-ltb b 0x61 (omega arith), lt-leb b 0x66 h)
-
-abbrev bit-tells : ℕ → Bool
-bit-tells k = cond (eqb (bitAnd (0x7e0000000003ff / 2 ^ k) 1) 0) (not (isHexadecimal (0x30 + k))) (isHexadecimal (0x30 + k))
-
-digit-bits : (b : ℕ) → 0x30 ≤ b → b ≤ 0x66 → eqb (bitAnd (0x7e0000000003ff / 2 ^ (b - 0x30)) 1) 0 ≡ not (isHexadecimal b)
-digit-bits b l h =
-    let back : 0x30 + (b - 0x30) ≡ b = omega arith in
-    let told : bit-tells (b - 0x30) ≡ true = all-numbers bit-tells 0x37 refl (b - 0x30) (omega arith) in
-    go (eqb (bitAnd (0x7e0000000003ff / 2 ^ (b - 0x30)) 1) 0) (isHexadecimal b) (rw back at told)
-  where
-    go : (x y : Bool) → cond x (not y) y ≡ true → x ≡ not y
-    go true true e = sym e
-    go true false e = refl
-    go false true e = refl
-    go false false e = cc
-
-pub bit-none : (b : ℕ) → 0x30 ≤ b → b ≤ 0x66 → bitAnd (0x7e0000000003ff / 2 ^ (b - 0x30)) 1 ≡ 0 → 16 ≡ hexadecimal b
-bit-none b l h e = digit-none b (not-true _ (sym (digit-bits b l h) ∙ eq-eqb _ _ e))
-
-pub bit-some : (b : ℕ) → 0x30 ≤ b → b ≤ 0x66 → (bitAnd (0x7e0000000003ff / 2 ^ (b - 0x30)) 1 ≡ 0 → ⊥)
-    → (b + b / 64 * 9) % 16 ≡ hexadecimal b
-bit-some b l h e = digit-parts b (not-false _ (sym (digit-bits b l h) ∙ ne-eqb _ _ e))
+pub digit-neither : (b : ℕ) → isDecimal b ≡ false → isHexLetter b ≡ false → 16 ≡ hexadecimal b
+digit-neither b e f = digit-none b (rw (e, f))

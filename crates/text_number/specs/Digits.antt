@@ -5,21 +5,6 @@ use mathlib.Core.Option.{Option, none, some}
 use Prim.Native.Nat.{ℕ, _+_, _*_, _-_}
 use lib.Dec.{eqb, leb, ltb}
 use lib.ListN.{length, getD}
-use Rattle.spec_text.specs.Text.{Form}
-use Rattle.spec_text.specs.Text.Form.{number, set, nothing}
-use Rattle.text_number.specs.declared.FieldRead.{FieldRead}
-use Rattle.text_number.specs.declared.FieldForm.{FieldForm}
-
--- the value of a field, or none
-abbrev pub fieldAnswer : FieldRead → Option ℕ
-fieldAnswer (FieldRead.Value n) = some n
-fieldAnswer FieldRead.Wrong = none
-
--- the forms of fields
-abbrev pub formOf : FieldForm → Form
-formOf FieldForm.Number = number
-formOf FieldForm.Set = set
-formOf FieldForm.Nothing = nothing
 
 -- what a byte stands for as a hexadecimal digit, 16 where it is none
 unfoldable pub hexadecimal : ℕ → ℕ

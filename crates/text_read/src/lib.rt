@@ -82,7 +82,7 @@ fn read_lines(text: &[u8], start: usize) -> Parsed
     let mut at = start;
     let mut line: u64 = 2;
     loop {
-        let Step::Line(span) = text_lines::line_from(text, at, line) else {
+        let Step::Line(span) = text_lines::line_at(text, at, line) else {
             break;
         };
         let begin = span.start;

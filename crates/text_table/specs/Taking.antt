@@ -8,12 +8,14 @@ use Rattle.spec_text.specs.Text.{linesIn}
 use Rattle.spec_text.specs.Reading.{fault, readLines}
 use Rattle.line_rules.specs.Holds.{faultOf}
 use Rattle.line_rules.specs.WordsHold.{HoldsWords}
+use Rattle.lent_words.specs.Lent.{Lent}
 use Rattle.value_tables.specs.Lines.{lineTable, linePut}
 
--- a line's fault is told; without one the line is put into the table, and is one of the lines that the state holds
+-- a line's fault is told; without one the line is put into the table, and is one of the lines that the state holds; the state is lent
 pub record LineTaken (state table : List ℕ) (n : ℕ) (l : Line) (r : ℕ) (state′ table′ : List ℕ) : Type 0 where
   pub told : (lines : List Line) → HoldsWords state lines → faultOf r ≡ fault lines l
   pub put : r ≡ 0 → table′ ≡ linePut table n l
+  pub lent : Lent state state′
   pub held : r ≡ 0 → (lines : List Line) → HoldsWords state lines → HoldsWords state′ (lines ++ (l ∷ []))
 
 -- between two lines: these were taken, the words hold them, and what is read is what the lines left give after them

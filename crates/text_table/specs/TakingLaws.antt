@@ -13,7 +13,8 @@ use Rattle.spec_text.specs.declared.Line.{Line}
 use Rattle.spec_text.specs.Text.{linesIn, lineOf}
 use Rattle.spec_text.specs.Reading.{fault, noneOpen, readLines, Outcome}
 use Rattle.spec_text.specs.Reading.Outcome.{refused, accepted}
-use Rattle.line_state.specs.StateWords.{stateIn}
+use Rattle.line_state.specs.StateWords.{stateIn, startedIn}
+use Rattle.line_state.specs.StartLaws.{started-size}
 use Rattle.line_rules.specs.Holds.{faultOf}
 use Rattle.line_rules.specs.HoldsLaws.{holds-few}
 use Rattle.line_rules.specs.WordsHold.{HoldsWords}
@@ -23,6 +24,7 @@ use Rattle.text_lines.specs.Going.{Came}
 use Rattle.text_lines.specs.GoingLaws.{came}
 use Rattle.text_fields.specs.LineIn.{lineBytes, placeAfter}
 use Rattle.text_fields.specs.LineInLaws.{span-bytes, span-next}
+use Rattle.lent_words.specs.Lent.{Lent}
 use Rattle.value_tables.specs.Lines.{lineWords, lineTable, linePut}
 use Rattle.value_tables.specs.LineLaws.{lineTable-length, lineTable-more, put-there}
 use Rattle.word_rows.specs.Put.{putAt}
@@ -89,20 +91,29 @@ fault-none {n} e z = sym e ∙ ap (λ t. cond t none (some n)) (eq-eqb n 0 z)
 
 -- a line that fails a test is not taken
 pub not-taken : {state table : List ℕ} {n : ℕ} {l : Line} {r : ℕ} {state′ table′ : List ℕ}
-    → ((lines : List Line) → HoldsWords state lines → faultOf r ≡ fault lines l) → (r ≡ 0 → ⊥) → LineTaken state table n l r state′ table′
-not-taken told other = record { told = told; put = λ z. absurd (other z); held = λ z. absurd (other z) }
+    → ((lines : List Line) → HoldsWords state lines → faultOf r ≡ fault lines l) → (r ≡ 0 → ⊥) → state′ ≡ state
+    → LineTaken state table n l r state′ table′
+unfolding Lent
+not-taken told other kept = record { told = told; put = λ z. absurd (other z); lent = ap length kept; held = λ z. absurd (other z) }
 
 -- one that passes them is
 pub is-taken : {state table : List ℕ} {n : ℕ} {l : Line} {r : ℕ} {state′ table′ : List ℕ}
     → ((lines : List Line) → HoldsWords state lines → faultOf r ≡ fault lines l) → r ≡ 0
     → ((lines : List Line) → HoldsWords state lines → fault lines l ≡ none → HoldsWords state′ (lines ++ (l ∷ [])))
-    → table′ ≡ linePut table n l → LineTaken state table n l 0 state′ table′
-is-taken told z taken put =
+    → length state′ ≡ length state → table′ ≡ linePut table n l → LineTaken state table n l 0 state′ table′
+unfolding Lent
+is-taken told z taken size put =
     record {
       told = λ lines h. ap faultOf (sym z) ∙ told lines h;
       put = λ e. put;
+      lent = size;
       held = λ e lines h. taken lines h (fault-none (told lines h) z);
     }
+
+-- ---- the state, lent
+
+pub started-long : (before : List ℕ) {after : List ℕ} → after ≡ startedIn before → length after ≡ length before
+started-long before e = ap length e ∙ started-size before
 
 -- ---- the table
 

@@ -10,6 +10,7 @@ ghost use mathlib.Core.List.{[]};
 ghost use lib.ListN.{length, drop};
 ghost use Rattle.spec_text.specs.Text.{linesIn};
 ghost use Rattle.spec_text.specs.Reading.{readLines, read};
+ghost use Rattle.lent_words.specs.Lent.{Lent};
 ghost use Rattle.text_table.specs.Tabled.{notRead, TextTabled};
 ghost use Rattle.text_table.specs.Taking.{LineTaken};
 
@@ -43,9 +44,6 @@ fn take_line(state: &mut [u64; line_state::WORDS], lines: &mut [u64], n: usize, 
     0
 }
 
-// Does nothing: the prover learns how long a fixed array is where it is lent as a slice.
-fn lend(_words: &[u64]) {}
-
 // Reads line after line from a place on, after the names line, up to a fault or the end, where no block may be open. The names line is line 1.
 fn table_lines(
     text: &[u8],
@@ -54,9 +52,12 @@ fn table_lines(
     lines: &mut [u64],
 ) -> TextTable
     requires { ⌜ length (now lines) ≡ 12928 ⌝ }
-    ensures { λ r. ⌜ TextTabled (readLines [] (linesIn (drop start (now (text .entry))))) (now (lines .entry)) r (now (lines .exit)) ⌝ }
+    ensures { λ r. ⌜
+        TextTabled (readLines [] (linesIn (drop start (now (text .entry))))) (now (lines .entry)) r (now (lines .exit))
+        × Lent (now (state .entry)) (now (state .exit))
+        × Lent (now (lines .entry)) (now (lines .exit))
+        ⌝ }
 {
-    lend(state);
     line_rules::start(state);
     let mut at = start;
     let mut n: usize = 0;
@@ -81,13 +82,14 @@ fn table_lines(
     }
 }
 
-// Reads any text. The state is lent to work in: what it holds afterwards is free.
+// Reads any text. The state is lent to work in: what it holds afterwards is free, and so is what the lines hold where the text is refused.
 pub fn read_table(
     text: &[u8],
     state: &mut [u64; line_state::WORDS],
     lines: &mut [u64; LINE_TABLE],
 ) -> TextTable
     ensures { λ r. ⌜ TextTabled (read (now (text .entry))) (now (lines .entry)) r (now (lines .exit)) ⌝ }
+    ensures { λ _. ⌜ Lent (now (state .entry)) (now (state .exit)) × Lent (now (lines .entry)) (now (lines .exit)) ⌝ }
 {
     let whole = text_whole::whole_text(text);
     match whole {

@@ -1,9 +1,9 @@
 -- Words laid over an area, one after the other.
 use mathlib.Core.List.{List, [], _∷_, _++_, append-nil}
-use mathlib.Core.Path.{_≡_, refl, ap}
+use mathlib.Core.Path.{_≡_, refl, sym, ap, _∙_}
 use Prim.Native.Nat.{ℕ, suc, _+_, _-_, _≤_, min}
 use native.Mathlib.Omega.{arith}
-use lib.ListN.{length, take, drop, set, length-append, length-take, length-drop, drop-of-length-le}
+use lib.ListN.{length, take, drop, length-append, length-take, length-drop, drop-of-length-le}
 use lib.Seq.{take-all}
 use borrow.Rule.Slice.PartMut.{putMid}
 use Rattle.unfold.specs.Laid.{laid, Laid}
@@ -42,16 +42,25 @@ pub lays-nothing : (words before : List ℕ) → words ≡ [] → Laid words bef
 unfolding laid
 lays-nothing words before e = rw e (record { many = omega arith; inside = omega arith; stands = refl })
 
--- one word
-pub lays-none : (w : ℕ) (before : List ℕ) → length before ≡ 0 → Laid (w ∷ []) before 0 before
-unfolding laid
-lays-none w [] e = record { many = omega arith; inside = omega arith; stands = refl }
-lays-none w (x ∷ before) e = absurd (omega arith)
+pub lays-length : (a before : List ℕ) (m : ℕ) (area : List ℕ) → Laid a before m area → length area ≡ length before
+lays-length a before m area l = ap length (l .stands) ∙ laid-length a before
 
-pub lays-one : (w : ℕ) (before : List ℕ) → (length before ≡ 0 → ⊥) → Laid (w ∷ []) before 1 (set before 0 w)
-unfolding laid
-lays-one w [] h = absurd (h refl)
-lays-one w (x ∷ before) h = record { many = omega arith; inside = omega arith; stands = refl }
+-- words laid over an area that they fill, whatever comes after them
+pub lays-full : (a b w before : List ℕ) (m : ℕ) (area : List ℕ) → w ≡ a ++ b → Laid a before m area → length before ≤ m → Laid w before m area
+lays-full a b w before m area e l h =
+    record {
+      many = rw (e, length-append) (omega (arith, l .many, l .inside));
+      inside = l .inside;
+      stands = rw (e, ← laid-append a b before m (l .many), ← l .stands, drop-of-length-le area {i = m} short, laid-none, append-nil)
+          (sym (take-all m area short));
+    }
+  where
+    short : length area ≤ m
+    short = omega (arith, ap length (l .stands), laid-length a before)
+
+-- words with nothing after them
+pub lays-end : (a b w before : List ℕ) (m : ℕ) (area : List ℕ) → w ≡ a ++ b → b ≡ [] → Laid a before m area → Laid w before m area
+lays-end a b w before m area e none l = rw (e, none, append-nil) l
 
 pub lays-as : (w v before : List ℕ) (r : ℕ) (area : List ℕ) → w ≡ v → Laid v before r area → Laid w before r area
 lays-as w v before r area e h = rw e h

@@ -1,6 +1,7 @@
 pub mod PrefixLaws
 pub mod WordsLaws
 pub mod LaidLaws
+pub mod StretchLaws
 pub mod PathLaws
 pub mod WriteLaws
 pub mod WriteRowLaws

@@ -15,12 +15,10 @@ use Rattle.unfold_laws.specs.declared.Counted.{Counted}
 use Rattle.unfold.specs.PieceTable.{UnfoldingTable}
 use Rattle.unfold_laws.specs.CodesLaws.{count-positive}
 use Rattle.unfold_laws.specs.Pieces.{Piece, flat, tabulate, row, countedAfter, linePrograms, linePieces, programsBefore, piecesBefore}
-use Rattle.unfold.specs.PieceTable.{Wide, addAll, table}
-use Rattle.unfold.specs.PieceTableLaws.{addAll-append, flat-append, from-nothing, wide-all, wide-empty}
+use Rattle.unfold.specs.PieceTable.{Wide, addAll, tableOver}
+use Rattle.unfold.specs.PieceTableLaws.{addAll-append, flat-append, from-nothing, wide-all}
 use Rattle.unfold_count.specs.Counted.{RunCounted}
 use Rattle.unfold.specs.Written.{Wrote, Rows, Rowed, LineFits, Lined, AllFit, AllTold}
-use Rattle.unfold.specs.UnfoldSteps.{tableTold}
-use Rattle.unfold.specs.declared.Unfolded.{Unfolded}
 
 -- no rows
 pub lined-none : (codes words marks : List ℕ) (i program : ℕ) (t : UnfoldingTable) (before : List ℕ) → (getD codes i 0 ≡ 3 → ⊥)
@@ -115,28 +113,30 @@ wrote-line w v before area end u e h fits d =
     }
 
 -- what holds at each turn
-pub record Going (codes words marks before : List ℕ) (i : ℕ) (area : List ℕ) (t : UnfoldingTable) (program : ℕ) : Type 0 where
+pub record Going (codes words marks : List ℕ) (none : UnfoldingTable) (before : List ℕ) (i : ℕ) (area : List ℕ) (t : UnfoldingTable) (program : ℕ)
+    : Type 0 where
   pub inside : i ≤ length codes
-  pub filled : t ≡ addAll (table []) (piecesBefore codes words marks i)
+  pub filled : t ≡ addAll none (piecesBefore codes words marks i)
   pub number : program ≡ programsBefore codes i
   pub stands : Wrote (flat (piecesBefore codes words marks i)) before (length (flat (piecesBefore codes words marks i))) area
 
-pub going-start : (codes words marks before : List ℕ) (t : UnfoldingTable) → t ≡ table [] → Going codes words marks before 0 before t 0
+pub going-start : (codes words marks : List ℕ) (none : UnfoldingTable) (before : List ℕ) → Going codes words marks none before 0 before none 0
 unfolding piecesBefore programsBefore flat addAll
-going-start codes words marks before t e =
-    record { inside = omega arith; filled = e; number = refl; stands = record { many = refl; inside = omega arith; stands = refl } }
+going-start codes words marks none before =
+    record { inside = omega arith; filled = refl; number = refl; stands = record { many = refl; inside = omega arith; stands = refl } }
 
 -- the table keeps its room
-pub going-wide : (codes words marks before : List ℕ) (i : ℕ) (area : List ℕ) (t : UnfoldingTable) (program : ℕ)
-    → Going codes words marks before i area t program → Wide t
-going-wide codes words marks before i area t program g =
-    rw (g .filled) (wide-all (table []) (piecesBefore codes words marks i) wide-empty)
+pub going-wide : (codes words marks : List ℕ) (none : UnfoldingTable) (before : List ℕ) (i : ℕ) (area : List ℕ) (t : UnfoldingTable) (program : ℕ)
+    → Wide none → Going codes words marks none before i area t program → Wide t
+going-wide codes words marks none before i area t program wide g =
+    rw (g .filled) (wide-all none (piecesBefore codes words marks i) wide)
 
 pub less-lines : (i n m : ℕ) → n ≡ m → i < n → i < m
 less-lines i n m e h = omega arith
 
-module _ (codes words marks before : List ℕ) (all : AllFit (piecesBefore codes words marks (length codes)) before) where
-  module _ (i : ℕ) (area : List ℕ) (t : UnfoldingTable) (program : ℕ) (g : Going codes words marks before i area t program) where
+module _ (codes words marks : List ℕ) (none : UnfoldingTable) (wide : Wide none) (no-count : none .count ≡ 0) (no-used : none .used ≡ 0)
+    (before : List ℕ) (all : AllFit (piecesBefore codes words marks (length codes)) before) where
+  module _ (i : ℕ) (area : List ℕ) (t : UnfoldingTable) (program : ℕ) (g : Going codes words marks none before i area t program) where
     ps : List Piece
     ps = piecesBefore codes words marks i
 
@@ -150,16 +150,16 @@ module _ (codes words marks before : List ℕ) (all : AllFit (piecesBefore codes
     few : length ps ≤ 64
     few = omega (arith, all .cells, ap length (whole .1), length-append ps (whole .0))
 
-    as-table : t ≡ table ps
+    as-table : t ≡ tableOver none ps
     unfolding ps
-    as-table = g .filled ∙ from-nothing ps few
+    as-table = g .filled ∙ from-nothing none wide no-count no-used ps few
 
     counted : t .count ≡ length ps
-    unfolding table
+    unfolding tableOver
     counted = ap (λ (x : UnfoldingTable). x .count) as-table
 
     used : t .used ≡ length (flat ps)
-    unfolding table
+    unfolding tableOver
     used = ap (λ (x : UnfoldingTable). x .used) as-table
 
     same-length : length area ≡ length before
@@ -201,19 +201,19 @@ module _ (codes words marks before : List ℕ) (all : AllFit (piecesBefore codes
       unfolding new
       going-fits =
           record {
-            wide = going-wide codes words marks before i area t program g;
+            wide = going-wide codes words marks none before i area t program wide g;
             cells = omega (arith, cells-fit, counted);
             places = omega (arith, places-fit, used, same-length);
           }
 
       pub going-next : (r : UnfoldingTable) (end : List ℕ) (next : ℕ) → Lined (linePieces codes words marks i program) t area r end → next ≡
           linePrograms codes i program
-          → Going codes words marks before (i + 1) end r next
+          → Going codes words marks none before (i + 1) end r next
       unfolding piecesBefore programsBefore new ps
       going-next r end next s n =
           record {
             inside = omega arith;
-            filled = rw add-one (s .same ∙ rw (g .filled, g .number) (sym (addAll-append (table []) ps new′)));
+            filled = rw add-one (s .same ∙ rw (g .filled, g .number) (sym (addAll-append none ps new′)));
             number = rw add-one (n ∙ ap (linePrograms codes i) (g .number));
             stands = rw (add-one, flat-append, ← g .number)
                 (wrote-line (flat ps) (flat new) before area end (t .used) used (g .stands) places-fit (s .stands));
@@ -222,12 +222,11 @@ module _ (codes words marks before : List ℕ) (all : AllFit (piecesBefore codes
           new′ : List Piece
           new′ = linePieces codes words marks i (programsBefore codes i)
 
-  pub going-length : (i : ℕ) (area : List ℕ) (t : UnfoldingTable) (program : ℕ) → Going codes words marks before i area t program → length
-      area ≡ length before
+  pub going-length : (i : ℕ) (area : List ℕ) (t : UnfoldingTable) (program : ℕ) → Going codes words marks none before i area t program
+      → length area ≡ length before
   going-length i area t program g = same-length i area t program g
 
-  pub going-end : (i : ℕ) (area : List ℕ) (t : UnfoldingTable) (program : ℕ) → Going codes words marks before i area t program → length codes ≤ i
-      → (r : Unfolded) → r ≡ tableTold t → AllTold (piecesBefore codes words marks (length codes)) before r area
-  going-end i area t program g h r told =
-      let e : length codes ≡ i = omega (arith, g .inside) in
-      record { tells = told ∙ ap tableTold (rw e (g .filled)); stands = rw e (g .stands) }
+  pub going-end : (i : ℕ) (area : List ℕ) (t : UnfoldingTable) (program : ℕ) → Going codes words marks none before i area t program
+      → length codes ≤ i → AllTold (piecesBefore codes words marks (length codes)) none before t area
+  going-end i area t program g h =
+      let e : length codes ≡ i = omega (arith, g .inside) in record { tells = rw e (g .filled); stands = rw e (g .stands) }

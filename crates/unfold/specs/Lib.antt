@@ -9,4 +9,6 @@ pub mod OwnLaws
 pub mod Stand
 pub mod UnfoldSettled
 pub mod UnfoldLines
+pub mod UnfoldInto
+pub mod IntoLaws
 pub mod NotGiven

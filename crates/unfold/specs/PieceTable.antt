@@ -1,8 +1,8 @@
 -- The table of what is written: each piece's program, start and length.
-use mathlib.Core.List.{List, [], _∷_, map}
+use mathlib.Core.List.{List, [], _∷_, _++_, map}
 use mathlib.Core.Path.{_≡_}
 use Prim.Native.Nat.{ℕ, _+_}
-use lib.ListN.{length, set}
+use lib.ListN.{length, set, drop}
 use Rattle.unfold_laws.specs.Pieces.{Piece, flat}
 use Rattle.unfold.specs.UnfoldTold.{cells}
 
@@ -48,4 +48,23 @@ table ps =
       program = cells (map (λ p. p .program) ps);
       start = cells (starts 0 ps);
       lengths = cells (map (λ p. length (p .words)) ps);
+    }
+
+-- the table with no rows
+abbrev pub tableNone : List ℕ → List ℕ → List ℕ → UnfoldingTable
+tableNone program start lengths = record { count = 0; used = 0; program = program; start = start; lengths = lengths }
+
+-- numbers over cells from the first on; past them the cells are as they were
+unfoldable pub over : List ℕ → List ℕ → List ℕ
+over l before = l ++ drop (length l) before
+
+-- the same table over cells that held something before
+unfoldable pub tableOver : UnfoldingTable → List Piece → UnfoldingTable
+tableOver t ps =
+    record {
+      count = length ps;
+      used = length (flat ps);
+      program = over (map (λ p. p .program) ps) (t .program);
+      start = over (starts 0 ps) (t .start);
+      lengths = over (map (λ p. length (p .words)) ps) (t .lengths);
     }

@@ -1,14 +1,12 @@
 -- What the writing functions ask for and say of their results.
-use mathlib.Core.List.{List, [], _++_}
+use mathlib.Core.List.{List, _++_}
 use mathlib.Core.Path.{_≡_}
 use Prim.Native.Nat.{ℕ, _+_, _≤_, _<_}
 use lib.ListN.{length, take, drop}
 use Rattle.unfold.specs.PieceTable.{UnfoldingTable}
 use Rattle.unfold_laws.specs.Pieces.{Piece, flat}
-use Rattle.unfold.specs.PieceTable.{Wide, addAll, table}
+use Rattle.unfold.specs.PieceTable.{Wide, addAll}
 use Rattle.unfold.specs.declared.Used.{Used}
-use Rattle.unfold.specs.declared.Unfolded.{Unfolded}
-use Rattle.unfold.specs.UnfoldSteps.{tableTold}
 
 -- the table whose parts are lent apart
 abbrev pub tableAt : Used → List ℕ → List ℕ → List ℕ → UnfoldingTable
@@ -48,7 +46,7 @@ pub record AllFit (rows : List Piece) (area : List ℕ) : Type 0 where
   pub cells : length rows ≤ 64
   pub places : length (flat rows) ≤ length area
 
--- all pieces stand from an area's start on and are told
-pub record AllTold (rows : List Piece) (before : List ℕ) (r : Unfolded) (area : List ℕ) : Type 0 where
-  pub tells : r ≡ tableTold (addAll (table []) rows)
+-- all pieces stand from an area's start on and are told over a table with no rows
+pub record AllTold (rows : List Piece) (t : UnfoldingTable) (before : List ℕ) (r : UnfoldingTable) (area : List ℕ) : Type 0 where
+  pub tells : r ≡ addAll t rows
   pub stands : Wrote (flat rows) before (length (flat rows)) area

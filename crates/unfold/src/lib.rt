@@ -22,7 +22,6 @@ use value_tables::id_at;
 use value_tables::line_table;
 use value_tables::lines_in;
 use value_tables::mark_at;
-ghost use mathlib.Core.List.{[], _∷_};
 ghost use mathlib.Core.Path.{_≡_};
 ghost use Prim.Native.Nat.{_+_, _-_, _<_};
 ghost use lib.ListN.{length, getD};
@@ -34,12 +33,17 @@ ghost use Rattle.unfold_count.specs.Counted.{AllCounted};
 ghost use Rattle.unfold_count.specs.CountWords.{Held};
 ghost use Rattle.value_tables.specs.Lines.{tableCodes};
 ghost use Rattle.unfold.specs.LineWords.{wordsBy, marksBy};
-ghost use Rattle.unfold.specs.Laid.{Laid, Known};
+ghost use Rattle.unfold.specs.Laid.{Laid, Stretched, Known, Parted};
 ghost use Rattle.unfold.specs.Written.{tableAt, Rows, Rowed, LineFits, Lined, AllFit, AllTold};
+ghost use Rattle.unfold.specs.PieceTable.{Wide, tableNone};
+ghost use Rattle.unfold.specs.UnfoldInto.{Into};
 ghost use Rattle.unfold.specs.UnfoldTold.{refusedWith};
 ghost use Rattle.unfold.specs.UnfoldSettled.{Settled, PlacesSettled};
 ghost use Rattle.unfold.specs.UnfoldLines.{LinesSettled, LinePlacesSettled};
 ghost use Rattle.unfold.specs.UnfoldSteps.{Tabled};
+
+// So many lines have their counts in few words.
+const FEW_LINES: usize = 48;
 
 // The unfoldings of a workload: the number of the refusal, or 0 and how many there are, with each one's program, start and length.
 pub struct Unfolded {
@@ -48,6 +52,26 @@ pub struct Unfolded {
     pub program: [u8; UNFOLDINGS],
     pub start: [u64; UNFOLDINGS],
     pub length: [u64; UNFOLDINGS],
+}
+
+// The number of the refusal, or 0, and how many unfoldings there are, where the caller lends the cells that tell of each.
+pub struct Told {
+    pub refusal: u8,
+    pub count: u64,
+}
+
+// What is laid of a stretch of statements: how many words, and what is seen after them.
+struct Stretch {
+    many: usize,
+    sees: u32,
+}
+
+// A block's part in an unfolding: so many turns of the run at a line, the first by its number, the second by its.
+struct Part {
+    turns: u8,
+    at: usize,
+    one: u64,
+    two: u64,
 }
 
 // What is written so far: how many unfoldings, and how many places they take.
@@ -77,15 +101,37 @@ fn mark_by(lines: &[u64], ids: bool, at: usize) -> u32
     mark_at(lines, at)
 }
 
-// Lays one word over an area; answers how many found room.
-fn lay_word(word: u64, out: &mut [u64]) -> usize
-    ensures { λ r. ⌜ Laid (word ∷ []) (now (out .entry)) r (now (out .exit)) ⌝ }
+// Lays the words of the statements from a line on over an area, up to the first line that is none, or to the area's end; answers how many, and
+// what is seen after them: each one's mark is.
+fn write_stretch(lines: &[u64], ids: bool, seen: u32, at: usize, out: &mut [u64]) -> Stretch
+    ensures { λ r. ⌜ Stretched (tableCodes (now (lines .entry))) (wordsBy ids (now (lines .entry))) (marksBy ids (now (lines .entry))) seen at
+        (now (out .entry)) r (now (out .exit)) ⌝ }
 {
-    if out.len() == 0 {
-        return 0;
+    let n = lines_in(lines);
+    let mut sees = seen;
+    let mut m: usize = 0;
+    while m < out.len() {
+        let line = at + m;
+        if n <= line {
+            return Stretch {
+                many: m,
+                sees: sees,
+            };
+        }
+        if code_at(lines, line) != STATEMENT {
+            return Stretch {
+                many: m,
+                sees: sees,
+            };
+        }
+        out[m] = place_word(lines, ids, line, sees);
+        sees = sees | mark_by(lines, ids, line);
+        m += 1;
     }
-    out[0] = word;
-    1
+    Stretch {
+        many: m,
+        sees: sees,
+    }
 }
 
 // The line after the block at a place.
@@ -106,7 +152,7 @@ fn block_end(lines: &[u64], counts: &[u32], at: usize, left: usize) -> usize
 
 // Lays the words of unfolding number k of the run at a place over an area, as far as it reaches; answers how many found room.
 // The leftmost choice changes slowest: a block takes the quotient by what the run after it counts, that run the remainder.
-// After a statement its mark is seen too; what is seen inside a block is not seen after it.
+// What is seen inside a block is not seen after it.
 fn write_run(
     lines: &[u64],
     counts: &[u32],
@@ -121,30 +167,96 @@ fn write_run(
     ensures { λ r. ⌜ Laid (writeAt left (tableCodes (now (lines .entry))) (wordsBy ids (now (lines .entry)))
         (marksBy ids (now (lines .entry))) seen at k) (now (out .entry)) r (now (out .exit)) ⌝ }
 {
-    if left == 0 {
-        return 0;
+    let mut m: usize = 0;
+    let mut here = at;
+    let mut sees = seen;
+    let mut rest = left;
+    let mut number = k;
+    while m < out.len() {
+        let s = write_stretch(lines, ids, sees, here, &mut out[m..]);
+        let line = here + s.many;
+        m += s.many;
+        if out.len() <= m {
+            return m;
+        }
+        if lines_in(lines) <= line {
+            return m;
+        }
+        if code_at(lines, line) > BRANCH {
+            return m;
+        }
+        rest = rest - s.many - 1;
+        here = block_end(lines, counts, line, rest);
+        let more = run_at(lines, counts, here, rest);
+        let n = more.count;
+        sees = s.sees;
+        m += write_block(
+            lines,
+            counts,
+            ids,
+            sees,
+            line,
+            rest,
+            number / n,
+            &mut out[m..],
+        );
+        number = number % n;
     }
-    if lines_in(lines) <= at {
-        return 0;
-    }
-    let code = code_at(lines, at);
-    if code > BRANCH {
-        return 0;
-    }
-    let rest = left - 1;
-    if code == STATEMENT {
-        let m = lay_word(place_word(lines, ids, at, seen), out);
-        let sees = seen | mark_by(lines, ids, at);
-        return m + write_run(lines, counts, ids, sees, at + 1, rest, k, &mut out[m..]);
-    }
-    let end = block_end(lines, counts, at, rest);
-    let more = run_at(lines, counts, end, rest);
-    let n = more.count;
-    let m = write_block(lines, counts, ids, seen, at, rest, k / n, out);
-    m + write_run(lines, counts, ids, seen, end, rest, k % n, &mut out[m..])
+    m
 }
 
-// The same for the block at a place: of a loop no turn, one turn of each, two turns of each; of a branch the first arm's, then the second's.
+// What unfolding number k of the block at a place is: of a loop no turn, one turn of each, two turns of each; of a branch the first arm's, then the
+// second's.
+fn block_part(lines: &[u64], counts: &[u32], at: usize, left: usize, k: u64) -> Part
+    requires { ⌜ (at < length (tableCodes (now lines))) × Known (tableCodes (now lines)) (now counts) (at + 1) left ⌝ }
+    ensures { λ r. ⌜ Parted (tableCodes (now (lines .entry))) (now (counts .entry)) left at k r ⌝ }
+{
+    let first = at + 1;
+    let body = run_at(lines, counts, first, left);
+    let n = body.count;
+    if code_at(lines, at) != LOOP {
+        if k < n {
+            return Part {
+                turns: 1,
+                at: first,
+                one: k,
+                two: 0,
+            };
+        }
+        let second = line_after(lines_in(lines), body.end);
+        return Part {
+            turns: 1,
+            at: second,
+            one: k - n,
+            two: 0,
+        };
+    }
+    if k == 0 {
+        return Part {
+            turns: 0,
+            at: first,
+            one: 0,
+            two: 0,
+        };
+    }
+    if k <= n {
+        return Part {
+            turns: 1,
+            at: first,
+            one: k - 1,
+            two: 0,
+        };
+    }
+    let j = k - 1 - n;
+    Part {
+        turns: 2,
+        at: first,
+        one: j / n,
+        two: j % n,
+    }
+}
+
+// Lays the words of unfolding number k of the block at a place in the same way, turn after turn.
 fn write_block(
     lines: &[u64],
     counts: &[u32],
@@ -160,25 +272,45 @@ fn write_block(
         (marksBy ids (now (lines .entry))) seen) (countAt left (tableCodes (now (lines .entry)))) (tableCodes (now (lines .entry))) at k)
         (now (out .entry)) r (now (out .exit)) ⌝ }
 {
-    let first = at + 1;
-    let body = run_at(lines, counts, first, left);
-    let n = body.count;
-    if code_at(lines, at) == LOOP {
-        if k == 0 {
-            return 0;
-        }
-        if k <= n {
-            return write_run(lines, counts, ids, seen, first, left, k - 1, out);
-        }
-        let j = k - 1 - n;
-        let m = write_run(lines, counts, ids, seen, first, left, j / n, out);
-        return m + write_run(lines, counts, ids, seen, first, left, j % n, &mut out[m..]);
+    let p = block_part(lines, counts, at, left, k);
+    if p.turns == 0 {
+        return 0;
     }
-    if k < n {
-        return write_run(lines, counts, ids, seen, first, left, k, out);
+    let m = write_turn(lines, counts, ids, seen, p.at, left, p.one, out);
+    if p.turns == 1 {
+        return m;
     }
-    let second = line_after(lines_in(lines), body.end);
-    write_run(lines, counts, ids, seen, second, left, k - n, out)
+    m + write_run(lines, counts, ids, seen, p.at, left, p.two, &mut out[m..])
+}
+
+// Lays the words of unfolding number k of the run at a place in the same way; a run of statements alone is laid with no call.
+fn write_turn(
+    lines: &[u64],
+    counts: &[u32],
+    ids: bool,
+    seen: u32,
+    at: usize,
+    left: usize,
+    k: u64,
+    out: &mut [u64],
+) -> usize
+    requires { ⌜ Known (tableCodes (now lines)) (now counts) at left ⌝ }
+    ensures { λ r. ⌜ Laid (writeAt left (tableCodes (now (lines .entry))) (wordsBy ids (now (lines .entry)))
+        (marksBy ids (now (lines .entry))) seen at k) (now (out .entry)) r (now (out .exit)) ⌝ }
+{
+    let s = write_stretch(lines, ids, seen, at, out);
+    let m = s.many;
+    if out.len() <= m {
+        return m;
+    }
+    let line = at + m;
+    if lines_in(lines) <= line {
+        return m;
+    }
+    if code_at(lines, line) > BRANCH {
+        return m;
+    }
+    m + write_run(lines, counts, ids, s.sees, line, left - m, k, &mut out[m..])
 }
 
 // Writes the unfoldings k to n - 1 of the run at a place one after the other, the rest of the area lent on each time, and tells each.
@@ -289,17 +421,25 @@ fn next_program(lines: &[u64], i: usize, number: u8) -> u8
     number
 }
 
-// Writes the unfoldings of all programs one after the other from the area's start.
-fn write_all(lines: &[u64], counts: &[u32], ids: bool, area: &mut [u64]) -> Unfolded
+// Writes the unfoldings of all programs one after the other from the area's start, and tells each.
+fn write_all(
+    lines: &[u64],
+    counts: &[u32],
+    ids: bool,
+    programs: &mut [u8],
+    starts: &mut [u64],
+    lengths: &mut [u64],
+    area: &mut [u64],
+) -> Used
     requires { ⌜ Held (tableCodes (now lines)) (now counts) 0 ⌝ }
     requires { ⌜ AllFit (piecesBefore (tableCodes (now lines)) (wordsBy ids (now lines)) (marksBy ids (now lines))
         (length (tableCodes (now lines)))) (now area) ⌝ }
+    requires { ⌜ Wide (tableNone (now programs) (now starts) (now lengths)) ⌝ }
     ensures { λ r. ⌜ AllTold (piecesBefore (tableCodes (now (lines .entry))) (wordsBy ids (now (lines .entry)))
-        (marksBy ids (now (lines .entry))) (length (tableCodes (now (lines .entry))))) (now (area .entry)) r (now (area .exit)) ⌝ }
+        (marksBy ids (now (lines .entry))) (length (tableCodes (now (lines .entry)))))
+        (tableNone (now (programs .entry)) (now (starts .entry)) (now (lengths .entry))) (now (area .entry))
+        (tableAt r (now (programs .exit)) (now (starts .exit)) (now (lengths .exit))) (now (area .exit)) ⌝ }
 {
-    let mut program = [0u8; UNFOLDINGS];
-    let mut start = [0u64; UNFOLDINGS];
-    let mut length = [0u64; UNFOLDINGS];
     let mut t = Used { count: 0, used: 0 };
     let mut number: u8 = 0;
     let mut i: usize = 0;
@@ -311,17 +451,131 @@ fn write_all(lines: &[u64], counts: &[u32], ids: bool, area: &mut [u64]) -> Unfo
             i,
             number,
             t,
-            &mut program,
-            &mut start,
-            &mut length,
+            programs,
+            starts,
+            lengths,
             area,
         );
         number = next_program(lines, i, number);
         i += 1;
     }
-    Unfolded {
+    t
+}
+
+// Writes the unfoldings of lines whose totals and runs are counted, or refuses 22 or 20.
+fn unfold_counted(
+    lines: &[u64],
+    counts: &[u32],
+    ids: bool,
+    t: UnfoldingTotals,
+    programs: &mut [u8],
+    starts: &mut [u64],
+    lengths: &mut [u64],
+    area: &mut [u64],
+) -> Told
+    requires { ⌜ Held (tableCodes (now lines)) (now counts) 0 × AllCounted (tableCodes (now lines)) t ⌝ }
+    requires { ⌜ Wide (tableNone (now programs) (now starts) (now lengths)) ⌝ }
+    ensures { λ r. ⌜ Into (λ u. Tabled (tableCodes (now (lines .entry))) (wordsBy ids (now (lines .entry))) (marksBy ids (now (lines .entry)))
+        (now (area .entry)) u (now (area .exit))) (now (programs .entry)) (now (starts .entry)) (now (lengths .entry)) r
+        (now (programs .exit)) (now (starts .exit)) (now (lengths .exit)) ⌝ }
+{
+    let number = totals_refused(t, area.len() as u64);
+    if number != 0 {
+        return Told {
+            refusal: number,
+            count: 0,
+        };
+    }
+    let all = write_all(lines, counts, ids, programs, starts, lengths, area);
+    Told {
         refusal: 0,
-        count: t.count as u64,
+        count: all.count as u64,
+    }
+}
+
+// Counts the runs of a table of lines and writes its unfoldings, or refuses 22 or 20. Of more lines than a workload has, each run is counted anew.
+fn unfold_many(
+    lines: &[u64],
+    ids: bool,
+    programs: &mut [u8],
+    starts: &mut [u64],
+    lengths: &mut [u64],
+    area: &mut [u64],
+) -> Told
+    requires { ⌜ Wide (tableNone (now programs) (now starts) (now lengths)) ⌝ }
+    ensures { λ r. ⌜ Into (λ u. Tabled (tableCodes (now (lines .entry))) (wordsBy ids (now (lines .entry))) (marksBy ids (now (lines .entry)))
+        (now (area .entry)) u (now (area .exit))) (now (programs .entry)) (now (starts .entry)) (now (lengths .entry)) r
+        (now (programs .exit)) (now (starts .exit)) (now (lengths .exit)) ⌝ }
+{
+    let mut counts = [0u32; CELLS];
+    let n = lines_in(lines);
+    if CELLS < n {
+        let all = count_all(lines);
+        return unfold_counted(
+            lines,
+            &counts[..0],
+            ids,
+            all,
+            programs,
+            starts,
+            lengths,
+            area,
+        );
+    }
+    let t = measure(lines, &mut counts[..n]);
+    unfold_counted(lines, &counts[..n], ids, t, programs, starts, lengths, area)
+}
+
+// The same with few words for the counts where there are few lines: a small text is unfolded in less time than it takes to clear many.
+fn unfold_told(
+    lines: &[u64],
+    ids: bool,
+    programs: &mut [u8],
+    starts: &mut [u64],
+    lengths: &mut [u64],
+    area: &mut [u64],
+) -> Told
+    requires { ⌜ Wide (tableNone (now programs) (now starts) (now lengths)) ⌝ }
+    ensures { λ r. ⌜ Into (λ u. Tabled (tableCodes (now (lines .entry))) (wordsBy ids (now (lines .entry))) (marksBy ids (now (lines .entry)))
+        (now (area .entry)) u (now (area .exit))) (now (programs .entry)) (now (starts .entry)) (now (lengths .entry)) r
+        (now (programs .exit)) (now (starts .exit)) (now (lengths .exit)) ⌝ }
+{
+    let n = lines_in(lines);
+    if FEW_LINES < n {
+        return unfold_many(lines, ids, programs, starts, lengths, area);
+    }
+    let mut counts = [0u32; FEW_LINES];
+    let t = measure(lines, &mut counts[..n]);
+    unfold_counted(lines, &counts[..n], ids, t, programs, starts, lengths, area)
+}
+
+// The words for the places of the unfoldings of a table of lines, one after the other from the area's start, with each unfolding's program, start and
+// length in the lent cells; or refuses 22 or 20.
+pub fn unfold_into(
+    lines: &[u64],
+    programs: &mut [u8; UNFOLDINGS],
+    starts: &mut [u64; UNFOLDINGS],
+    lengths: &mut [u64; UNFOLDINGS],
+    area: &mut [u64],
+) -> Told
+    ensures { λ r. ⌜ Into (λ u. LinePlacesSettled (now (lines .entry)) (now (area .entry)) u (now (area .exit)))
+        (now (programs .entry)) (now (starts .entry)) (now (lengths .entry)) r (now (programs .exit)) (now (starts .exit)) (now (lengths .exit)) ⌝ }
+{
+    unfold_told(lines, false, programs, starts, lengths, area)
+}
+
+// The same told as a value, by ids or by numbers of lines.
+fn unfold_by(lines: &[u64], ids: bool, area: &mut [u64]) -> Unfolded
+    ensures { λ r. ⌜ Tabled (tableCodes (now (lines .entry))) (wordsBy ids (now (lines .entry))) (marksBy ids (now (lines .entry)))
+        (now (area .entry)) r (now (area .exit)) ⌝ }
+{
+    let mut program = [0u8; UNFOLDINGS];
+    let mut start = [0u64; UNFOLDINGS];
+    let mut length = [0u64; UNFOLDINGS];
+    let t = unfold_told(lines, ids, &mut program, &mut start, &mut length, area);
+    Unfolded {
+        refusal: t.refusal,
+        count: t.count,
         program: program,
         start: start,
         length: length,
@@ -338,40 +592,6 @@ fn refused(number: u8) -> Unfolded
         start: [0u64; UNFOLDINGS],
         length: [0u64; UNFOLDINGS],
     }
-}
-
-// Writes the unfoldings of lines whose totals and runs are counted, or refuses 22 or 20.
-fn unfold_counted(
-    lines: &[u64],
-    counts: &[u32],
-    ids: bool,
-    t: UnfoldingTotals,
-    area: &mut [u64],
-) -> Unfolded
-    requires { ⌜ Held (tableCodes (now lines)) (now counts) 0 × AllCounted (tableCodes (now lines)) t ⌝ }
-    ensures { λ r. ⌜ Tabled (tableCodes (now (lines .entry))) (wordsBy ids (now (lines .entry))) (marksBy ids (now (lines .entry)))
-        (now (area .entry)) r (now (area .exit)) ⌝ }
-{
-    let number = totals_refused(t, area.len() as u64);
-    if number != 0 {
-        return refused(number);
-    }
-    write_all(lines, counts, ids, area)
-}
-
-// Counts the runs of a table of lines and writes its unfoldings, or refuses 22 or 20. Of more lines than a workload has, each run is counted anew.
-fn unfold_by(lines: &[u64], ids: bool, area: &mut [u64]) -> Unfolded
-    ensures { λ r. ⌜ Tabled (tableCodes (now (lines .entry))) (wordsBy ids (now (lines .entry))) (marksBy ids (now (lines .entry)))
-        (now (area .entry)) r (now (area .exit)) ⌝ }
-{
-    let mut counts = [0u32; CELLS];
-    let n = lines_in(lines);
-    if CELLS < n {
-        let all = count_all(lines);
-        return unfold_counted(lines, &counts[..0], ids, all, area);
-    }
-    let t = measure(lines, &mut counts[..n]);
-    unfold_counted(lines, &counts[..n], ids, t, area)
 }
 
 // Writes the unfoldings of a table of lines as statement ids, one after the other from the area's start, or refuses 22 or 20.

@@ -207,12 +207,15 @@ fn word_counted(word: u32) -> Counted
     }
 }
 
-// The run at a place: as the word for it says where the words reach, else counted.
+// The run at a place: as the word for it says where the words reach, else counted; past the lines nothing, with no call.
 pub fn run_at(lines: &[u64], counts: &[u32], at: usize, left: usize) -> Counted
     ensures { λ r. ⌜ Looked left (tableCodes (now (lines .entry))) (now (counts .entry)) at r ⌝ }
 {
     if at < counts.len() {
         return word_counted(counts[at]);
+    }
+    if lines_in(lines) <= at {
+        return nothing(at);
     }
     count_run(lines, at, left)
 }

@@ -10,7 +10,7 @@ use lib.Seq.{take-at}
 use borrow.Author.Tests.{ltb-false}
 use Rattle.law_base.specs.BoolLaws.{or-false}
 use Rattle.spec_text.specs.declared.Line.{Line}
-use Rattle.spec_text.specs.Reading.{read}
+use Rattle.spec_text.specs.Reading.{Outcome, read}
 use Rattle.spec_text.specs.Reading.Outcome.{refused, accepted}
 use Rattle.spec_text.specs.Value.{Given, linesOf, valueOf}
 use Rattle.law_text.specs.ValueLaws.{lines-of-value, value-given}
@@ -26,11 +26,12 @@ use Rattle.place_text.specs.declared.TextRows.{TextRows}
 use Rattle.place_text.specs.Placed.{noRows, rowsTold, TextPlaced}
 use Rattle.place_text.specs.Placed.TextPlaced.{unread as not-read, large, placed}
 use Rattle.verdict_told.specs.declared.Verdict.{Verdict}
-use Rattle.verdict_told.specs.Told.{told}
+use Rattle.verdict_told.specs.Told.{Told, told}
 use Rattle.verdict_of.specs.declared.TextVerdict.{TextVerdict}
 use Rattle.verdict_of.specs.Verdict.{Judged}
 use Rattle.verdict_of.specs.Verdict.Judged.{refused as refused-answer}
 use Rattle.verdict_of.specs.Steps.{RowsWhole, RowsJudged}
+use Rattle.verdict_of.specs.VerdictLaws.{judged-one}
 use Rattle.verdict_of.specs.TextVerdict.{TextJudged}
 use Rattle.verdict_of.specs.TextVerdict.TextJudged.{unread, judged}
 
@@ -129,3 +130,31 @@ module _ (text : List ℕ) {rows₀ : List ℕ} {t : TextRows} {rows : List ℕ}
     pub text-word : {before after : List ℕ} (v : Verdict) → RowsJudged (take (t .words) rows) (t .programs) (t .nodes) before (told v) after
         → TextJudged (read text) before (TextVerdict.Judged v) after
     text-word v answered = judged (rows-of .lines) (rows-of .is-read) v refl (answered _ (rows-of .whole))
+
+-- ---- nothing is free
+
+-- an answer is told by what it tells
+verdictOf : Told → Verdict
+verdictOf (Told.refused number) = Verdict.Refused number
+verdictOf (Told.robust c) = Verdict.Robust (record { programs = c .programs; nodes = c .nodes; edges = c .edges; back = c .back })
+verdictOf (Told.danger c steps) = Verdict.Danger (record { programs = c .programs; nodes = c .nodes; edges = c .edges; back = c .back }) steps
+
+verdict-told : (v : Verdict) → v ≡ verdictOf (told v)
+unfolding verdictOf
+verdict-told (Verdict.Robust c) = refl
+verdict-told (Verdict.Danger c steps) = refl
+verdict-told (Verdict.Refused number) = refl
+
+-- Req 01: the text and the area before settle the answer and the area after
+pub text-judged-one : {o : Outcome} {before : List ℕ} {a b : TextVerdict} {after rest : List ℕ} → TextJudged o before a after
+    → TextJudged o before b rest → (a ≡ b) × (after ≡ rest)
+text-judged-one (unread number line e r s) (unread other at f q t) =
+    let number-is : number ≡ other = cc in
+    let line-is : line ≡ at = cc in
+    (r ∙ ap (λ x. TextVerdict.Unread x line) number-is ∙ ap (TextVerdict.Unread other) line-is ∙ sym q, s ∙ sym t)
+text-judged-one (unread number line e r s) (judged lines f v q j) = let wrong : _≡_ {A = ℕ} 0 1 = cc in absurd (omega arith)
+text-judged-one (judged lines e v r j) (unread number line f q t) = let wrong : _≡_ {A = ℕ} 0 1 = cc in absurd (omega arith)
+text-judged-one {o} {before} {a} {b} {after} {rest} (judged lines e v r j) (judged others f w q k) =
+    let lines-are : others ≡ lines = cc in
+    let same = judged-one j (subst (λ (l : List Line). Judged (valueOf l) before (told w) rest) lines-are k) in
+    (r ∙ ap TextVerdict.Judged (verdict-told v ∙ ap verdictOf (same .0) ∙ sym (verdict-told w)) ∙ sym q, same .1)

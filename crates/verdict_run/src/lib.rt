@@ -1,5 +1,5 @@
-// What the program `verdict` does: standard input is read into an area, and its report is handed to standard output. The programs `verdict`
-// and `verdict_twice` call this and nothing else.
+// What the program `verdict` does: standard input is read into an area, and its report is handed to standard output. The program `verdict`
+// calls this and nothing else; `inspect` calls it for the gate to run it on more texts.
 //
 // Proved: `show` is called only with a report of the text that was read, and never where a read failed. Seen in these lines and tested
 // (outside/), since C's contracts tie no bytes to a descriptor: that `show` alone writes to standard output, that nothing here changes the

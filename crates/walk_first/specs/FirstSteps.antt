@@ -24,8 +24,8 @@ use Rattle.walk_lead.specs.Leads.{leadRows, wrapStart}
 use Rattle.walk_return.specs.Returns.{shortestReturn}
 use Rattle.walk_ways.specs.Ways.{waysTo, openings, firstStart}
 use Rattle.walk_wide.specs.Wide.{widestTable}
-use Rattle.walk_need.specs.Needs.{needsOf}
-use Rattle.walk_limit.specs.Limits.{limitsOf}
+use Rattle.walk_need.specs.Needs.{needAt, needsOf}
+use Rattle.walk_limit.specs.Limits.{limitAt, limitsOf}
 use Rattle.step_word.specs.declared.Taken.{Taken}
 use Rattle.step_word.specs.StepWord.{flowOf, stepOf}
 use Rattle.walk_step.specs.LeastStep.{looseAt, leastStep}
@@ -59,6 +59,11 @@ taken table backs p r going x =
     stepOf
     (leastStep table x (needsOf backs (p .ways) (p .opened) (p .wide) (p .start) (p .nodes) r going)
     (limitsOf (p .ways) (p .wide) (p .nodes) r going))
+
+-- no step into a node from the n-th on counts
+pub record Unasked (backs : List ℕ) (p : Prepared) (r : ℕ) (going : Going) (n : ℕ) : Type 0 where
+  pub forward : (y : ℕ) → n ≤ y → y < 64 → 1025 ≡ needAt backs (p .ways) (p .opened) (p .wide) (p .start) r going y
+  pub back : (y : ℕ) → n ≤ y → y < 64 → 0 ≡ limitAt (p .ways) (p .wide) r going y
 
 abbrev pub stepTaken : ℕ → Taken → Step
 stepTaken x t = record { node = x; leaves = t .leaves; enters = t .enters; flow = flowOf (t .back) }

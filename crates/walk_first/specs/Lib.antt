@@ -3,6 +3,8 @@ pub mod ReturnLaws
 pub mod NeedLaws
 pub mod GreedyLaws
 pub mod FirstLaws
+pub mod SameLaws
+pub mod AskedLaws
 pub mod TakingLaws
 pub mod ChosenLaws
 pub mod AnswerLaws

@@ -16,6 +16,7 @@ use walk_lead::lead_rows;
 use walk_lead::wrap_start;
 use walk_limit::limits_in;
 use walk_need::needs_in;
+use walk_reach::capped;
 use walk_reach::joined_rows;
 use walk_reach::rows_in;
 use walk_return::shortest_return;
@@ -29,12 +30,14 @@ use word_list::has_bit;
 use word_list::word_at;
 ghost use mathlib.Core.Bool.{Bool, cond};
 ghost use mathlib.Core.Path.{_≡_};
-ghost use Prim.Native.Nat.{_+_, _*_, _≤_, _<_};
+ghost use Prim.Native.Nat.{ℕ, _+_, _*_, _≤_, _<_, min, max};
 ghost use lib.ListN.{length};
+ghost use Rattle.lent_words.specs.Lent.{Lent};
 ghost use Rattle.pick_laws.specs.Demands.{goingAfter};
-ghost use Rattle.walk_reach.specs.Layers.{joinedRows};
+ghost use Rattle.pick_laws.specs.declared.Going.{Going};
+ghost use Rattle.walk_reach.specs.Layers.{rowsIn, joinedRows};
 ghost use Rattle.walk_lead.specs.Leads.{leadRows};
-ghost use Rattle.walk_first.specs.FirstSteps.{opensAt, prepared, stepsFrom, chosenWord, chosenWords, putWords, putSteps};
+ghost use Rattle.walk_first.specs.FirstSteps.{opensAt, prepared, Unasked, stepsFrom, chosenWord, chosenWords, putWords, putSteps};
 ghost use Rattle.walk_first.specs.FirstSteps.{refusalIn, stepsIn, TakenAs, Searched, WalkAnswered};
 
 // The words of the longest walk that is shown: 65 steps.
@@ -103,7 +106,8 @@ struct Spot {
     going: Going,
 }
 
-// Takes the least step out of x that counts, where r steps are left after it, and writes it as step k.
+// Takes the least step out of x that counts, where r steps are left after it, and writes it as step k. What is asked of a step into each node is
+// written into `needs` and `limits`, which have words for the nodes that can be entered.
 fn take_step(
     table: &[u64],
     backs: &[u64],
@@ -116,17 +120,23 @@ fn take_step(
     going: Going,
     x: usize,
     k: usize,
+    needs: &mut [u64],
+    limits: &mut [u64],
     out: &mut [u64],
 ) -> Spot
-    requires { ⌜ (k * 4 + 4 ≤ length (now out)) × (k < 65) ⌝ }
+    requires { ⌜
+        (k * 4 + 4 ≤ length (now out)) × (k < 65) × (length (now limits) ≡ length (now needs))
+        × Unasked (now backs) (prepared nodes s (now ways) (now opened) (now wide)) r going (length (now needs))
+        ⌝ }
     ensures { λ t. ⌜
         TakenAs (now (table .entry)) (now (backs .entry)) (prepared nodes s (now (ways .entry)) (now (opened .entry)) (now (wide .entry))) r going x k
         (now (out .entry)) (now (out .exit)) (t .node) (t .going)
         ⌝ }
+    ensures { λ _. ⌜ Lent (now (needs .entry)) (now (needs .exit)) × Lent (now (limits .entry)) (now (limits .exit)) ⌝ }
 {
-    let needs = needs_in(backs, ways, opened, wide, s, nodes, r, going);
-    let limits = limits_in(ways, wide, nodes, r, going);
-    let word = least_step(table, x as u64, &needs, &limits);
+    needs_in(backs, ways, opened, wide, s, nodes, r, going, needs);
+    limits_in(ways, wide, nodes, r, going, limits);
+    let word = least_step(table, x as u64, needs, limits);
     let t = step_of(word);
     put_words(out, k, x as u64, t.leaves, t.enters, flow_word(t.back));
     let opens = opens_at(table, x as u64, t.leaves, t.enters);
@@ -147,9 +157,15 @@ fn put_walk(
     s: usize,
     nodes: u64,
     steps: usize,
+    needs: &mut [u64],
+    limits: &mut [u64],
     out: &mut [u64],
 )
-    requires { ⌜ (steps ≤ 65) × (260 ≤ length (now out)) ⌝ }
+    requires { ⌜
+        (steps ≤ 65) × (260 ≤ length (now out)) × (length (now limits) ≡ length (now needs))
+        × ((r : ℕ) → r < steps → (going : Going)
+        → Unasked (now backs) (prepared nodes s (now ways) (now opened) (now wide)) r going (length (now needs)))
+        ⌝ }
     ensures { λ _. ⌜
         now (out .exit)
         ≡ putSteps (now (out .entry)) 0
@@ -174,12 +190,34 @@ fn put_walk(
             going,
             node,
             k,
+            needs,
+            limits,
             out,
         );
         node = t.node;
         going = t.going;
         k += 1;
     }
+}
+
+// The greater of two numbers.
+fn greater(a: usize, b: usize) -> usize
+    ensures { λ r. ⌜ r ≡ max a b ⌝ }
+{
+    if a < b {
+        return b;
+    }
+    a
+}
+
+// How many nodes a step can enter: those with a row, and the node at which the walk ends; 64 at most.
+fn nodes_asked(rows: &[u64], backs: &[u64], s: usize) -> usize
+    ensures { λ r. ⌜
+        (min (length (now (rows .entry))) 64 ≤ r) × (rowsIn (now (backs .entry)) ≤ r) × (min (s + 1) 64 ≤ r) × (r ≤ 64)
+        ⌝ }
+{
+    let n = greater(capped(rows.len()), rows_in(backs));
+    greater(n, capped(capped(s) + 1))
 }
 
 // Searches tables that have the edges between nodes of the word alone; `rows` has for each node the nodes to which a forward edge goes from it,
@@ -191,6 +229,7 @@ fn search_rows(
     rows: &[u64],
     leads: &[u64],
     nodes: u64,
+    wide: &mut [u64; PAIRS],
     out: &mut [u64],
 ) -> WalkFound
     requires { ⌜ (260 ≤ length (now out)) × (now rows ≡ joinedRows (now forwards)) × (now leads ≡ leadRows (now forwards) (now backs)) ⌝ }
@@ -198,6 +237,7 @@ fn search_rows(
         Searched (now (table .entry)) (now (forwards .entry)) (now (backs .entry)) nodes (now (out .entry)) (stepsIn r) (refusalIn r)
         (now (out .exit))
         ⌝ }
+    ensures { λ _. ⌜ Lent (now (wide .entry)) (now (wide .exit)) ⌝ }
 {
     let d = shortest_return(rows, leads);
     if NODES <= d {
@@ -208,23 +248,55 @@ fn search_rows(
     let s = wrap_start(forwards, backs, rows, d, later);
     let ways = ways_to(rows, s, steps);
     let opened = openings(rows, leads, &ways, steps);
-    let wide = widest_table(forwards, rows, s, d + 1);
-    put_walk(table, backs, &ways, &opened, &wide, s, nodes, steps, out);
+    widest_table(forwards, rows, s, d + 1, wide);
+    let n = nodes_asked(rows, backs, s);
+    let mut needs = [0u64; NODES];
+    let mut limits = [0u64; NODES];
+    put_walk(
+        table,
+        backs,
+        &ways,
+        &opened,
+        wide,
+        s,
+        nodes,
+        steps,
+        &mut needs[..n],
+        &mut limits[..n],
+        out,
+    );
     WalkFound::Shown(steps)
 }
 
 // The same with the rows worked out, as many as the table of forward edges has.
-fn search(table: &[u64], forwards: &[u64], backs: &[u64], nodes: u64, out: &mut [u64]) -> WalkFound
+fn search(
+    table: &[u64],
+    forwards: &[u64],
+    backs: &[u64],
+    nodes: u64,
+    wide: &mut [u64; PAIRS],
+    out: &mut [u64],
+) -> WalkFound
     requires { ⌜ 260 ≤ length (now out) ⌝ }
     ensures { λ r. ⌜
         Searched (now (table .entry)) (now (forwards .entry)) (now (backs .entry)) nodes (now (out .entry)) (stepsIn r) (refusalIn r)
         (now (out .exit))
         ⌝ }
+    ensures { λ _. ⌜ Lent (now (wide .entry)) (now (wide .exit)) ⌝ }
 {
     let n = rows_in(forwards);
     let rows = joined_rows(forwards);
     let leads = lead_rows(forwards, backs);
-    search_rows(table, forwards, backs, &rows[..n], &leads[..n], nodes, out)
+    search_rows(
+        table,
+        forwards,
+        backs,
+        &rows[..n],
+        &leads[..n],
+        nodes,
+        wide,
+        out,
+    )
 }
 
 // The word of the edge for a pair of nodes, where both are among the nodes; past the end of the table there is none.
@@ -254,26 +326,28 @@ fn chosen_words(table: &[u64], nodes: u64) -> [u64; PAIRS]
 }
 
 // Shows the first dangerous closed walk of the tables among the nodes of the word, four words to a step, in an area with room for 65 steps. A table
-// need only be as long as the rows of its nodes: words past its end count as 0.
+// need only be as long as the rows of its nodes: words past its end count as 0. `wide` is lent to work in.
 pub fn find_walk(
     table: &[u64],
     forwards: &[u64],
     backs: &[u64],
     nodes: u64,
+    wide: &mut [u64; PAIRS],
     out: &mut [u64],
 ) -> WalkFound
     ensures { λ r. ⌜
         WalkAnswered (now (table .entry)) (now (forwards .entry)) (now (backs .entry)) nodes (now (out .entry)) (refusalIn r) (stepsIn r)
         (now (out .exit))
         ⌝ }
+    ensures { λ _. ⌜ Lent (now (wide .entry)) (now (wide .exit)) ⌝ }
 {
     if out.len() < WALK_WORDS {
         return WalkFound::NoRoom;
     }
     if nodes == EVERY_NODE {
-        return search(table, forwards, backs, nodes, out);
+        return search(table, forwards, backs, nodes, wide, out);
     }
     let f = chosen_words(forwards, nodes);
     let b = chosen_words(backs, nodes);
-    search(table, &f, &b, nodes, out)
+    search(table, &f, &b, nodes, wide, out)
 }

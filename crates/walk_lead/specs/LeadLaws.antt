@@ -1,28 +1,28 @@
 -- Leads and the start of a walk, turn by turn: one law for each path of the code.
 use mathlib.Core.Path.{_≡_, refl, sym, ap, ap₂, _∙_}
-use mathlib.Core.Bool.{Bool, true, false, not, _||_}
+use mathlib.Core.Bool.{Bool, true, false, cond, not, _||_}
 use mathlib.Core.Logic.{_⊎_, inl, inr}
 use mathlib.Core.List.{List}
-use Prim.Native.Nat.{ℕ, zero, suc, _+_, _*_, _%_, _^_, _≤_, _<_, min}
+use Prim.Native.Nat.{ℕ, zero, suc, _+_, _*_, _/_, _%_, _^_, _≤_, _<_, min}
 use native.Mathlib.Decide.{decLt}
 use native.Mathlib.Numerals.{add-one}
 use native.Mathlib.Omega.{arith}
 use lib.Bits.{bitAnd, bitOr, or-zero-r}
 use lib.Dec.{eqb, ltb}
 use lib.ListN.{getD}
-use borrow.Author.Tests.{eqb-true, eqb-false, eq-eqb, ltb-true, lt-ltb, le-ltb}
+use borrow.Author.Tests.{eqb-true, eqb-false, eq-eqb, ltb-true, ltb-false, lt-ltb, le-ltb}
 use Rattle.spec_base.specs.Basic.{any, numbers, has, meets}
 use Rattle.law_base.specs.BoolLaws.{decide, same-test, true-false, false-of, or-true, or-left, or-right, or-of}
 use Rattle.law_base.specs.ListLaws.{any-numbers, any-numbers-of}
 use Rattle.law_base.specs.SetLaws.{has-nonzero, has-equal, has-bitOr, meets-has, has-meets, meets-empty}
 use Rattle.pick_laws.specs.Pick.{dangerousPicks}
 use Rattle.pick_laws.specs.Completing.{leastBelow, opensBelow, leavesAt, leads}
-use Rattle.pick_laws.specs.LeastLaws.{least-most, least-at, least-some}
+use Rattle.pick_laws.specs.LeastLaws.{least-at, least-rest}
 use Rattle.edge_word.specs.Coding.{forwardPick, backPick, entry, forwardsIn, backsIn}
 use Rattle.edge_opens.specs.OpensLaws.{leaves-none, leaves-some, word-opens, dangerous-words}
 use Rattle.walk_reach.specs.Layers.{withNode, wordBelow, joinedBit, joinedRow, rowsIn, rowsFilled}
 use Rattle.walk_reach.specs.LayerLaws.{rows-bound, entry-past, filled-row}
-use Rattle.walk_reach.specs.NodeWordLaws.{bit-shifted, last-turn, word-in, word-inside, word-none, word-or, list-at, meets-none}
+use Rattle.walk_reach.specs.NodeWordLaws.{bit-shifted, last-turn, word-in, word-inside, word-none, word-rest, word-or, list-at, has-high, meets-none}
 use Rattle.walk_reach.specs.Search.{firstFrom}
 use Rattle.walk_lead.specs.Leads.{leadsAlong, leadsThrough, leadsBy, leadsOn, leadRow, leavesTo, earliest, earlyFilled}
 use Rattle.walk_lead.specs.Leads.{layersAt, wrapsFrom, wrapsAmong, wrapStart}
@@ -111,19 +111,27 @@ module _ (backs : List ℕ) (e v : ℕ) where
   unfolding leastBelow leavesTo
   place-turn w a b c m = rw add-one (m ∙ ap₂ min a (c ∙ ap (λ (y : ℕ). leavesAt (backPick y)) b))
 
-  -- there is none where no back edge goes anywhere
-  pub place-none : {t : ℕ} → t ≡ joinedRow backs v → t ≡ 0 → 1024 ≡ earliest backs v
-  unfolding earliest leavesTo joinedRow
-  place-none p z = go (decLt (earliest backs v) 1024)
-    where
-      go : Dec (earliest backs v < 1024) → 1024 ≡ earliest backs v
-      go (yes l) =
-          let f = least-some (leavesTo backs v) 1024 64 l in
-          let same = f .2 in
-          absurd (has-nonzero (joinedRow backs v) (f .0)
-          (word-in (joinedBit backs v) 64 (f .0) (f .1) ∙ sym (leaves-some (entry backs v (f .0)))
-          ∙ lt-ltb (leavesAt (backsIn backs v (f .0))) 1024 (omega arith)) (sym p ∙ z))
-      go (no d) = let most = least-most (leavesTo backs v) 1024 64 in omega arith
+  -- past the last of the nodes to which a back edge goes there is none
+  no-later : {t w : ℕ} → t ≡ joinedRow backs v → t / 2 ^ w ≡ 0 → (k : ℕ) → w ≤ k → k < 64 → ltb (leavesAt (backsIn backs v k)) 1024 ≡ false
+  unfolding joinedRow
+  no-later {t} {w} p z k h l =
+      leaves-some (entry backs v k) ∙ sym (word-in (joinedBit backs v) 64 k l) ∙ ap (λ (x : ℕ). has x k) (sym p) ∙ has-high t w k z h
+
+  pub place-past : {t w best : ℕ} → t ≡ joinedRow backs v → t / 2 ^ w ≡ 0 → w ≤ 64 → best ≡ leastBelow (leavesTo backs v) 1024 w
+      → best ≡ earliest backs v
+  unfolding earliest leavesTo
+  place-past {w = w} p z h q =
+      q ∙ least-rest (leavesTo backs v) 1024 w 64 h (λ k a l. ltb-false (leavesAt (backsIn backs v k)) 1024 (no-later p z k a l))
+
+  pub through-past : {t w word : ℕ} → t ≡ joinedRow backs v → t / 2 ^ w ≡ 0 → w ≤ 64 → word ≡ wordBelow (leadsAlong backs e v) w
+      → word ≡ leadsThrough backs e v
+  unfolding leadsThrough leadsAlong
+  through-past {w = w} p z h q =
+      q ∙ word-rest (leadsAlong backs e v) w 64 h
+      (λ k a l.
+      let far = ltb-false (leavesAt (backsIn backs v k)) 1024 (no-later p z k a l) in
+      let most = word-opens e in
+      dangerous-words e (entry backs v k) ∙ le-ltb (leavesAt (backsIn backs v k)) (opensBelow (forwardPick e)) (omega arith))
 
 -- the places of the rows that are there
 pub early-at : (backs : List ℕ) (v : ℕ) {early : List ℕ} → early ≡ earlyFilled backs → v < rowsIn backs → getD early v 0 ≡ earliest backs v
@@ -133,6 +141,9 @@ early-at backs v p h = ap (λ (l : List ℕ). getD l v 0) p ∙ list-at (earlies
 -- the nodes to which back edges go
 pub turns-at : (backs : List ℕ) (v : ℕ) {turns : List ℕ} → turns ≡ rowsFilled backs → v < 64 → getD turns v 0 ≡ joinedRow backs v
 turns-at backs v p h = ap (λ (l : List ℕ). getD l v 0) p ∙ filled-row backs v h
+
+pub turns-of : (backs : List ℕ) (v : ℕ) {turns : ℕ} → turns ≡ cond (ltb v 64) (joinedRow backs v) 0 → v < 64 → turns ≡ joinedRow backs v
+turns-of backs v e h = e ∙ ap (λ (t : Bool). cond t (joinedRow backs v) 0) (lt-ltb v 64 h)
 
 module _ (forwards backs : List ℕ) (u v word : ℕ) where
   abbrev Onward : ℕ → Type 0

@@ -11,6 +11,7 @@ use edge_word::PLACES;
 use walk_reach::capped;
 use walk_reach::joined_rows;
 use walk_reach::layer_at;
+use walk_reach::node_row;
 use walk_reach::rows_in;
 use word_list::word_at;
 ghost use mathlib.Core.Path.{_≡_};
@@ -31,14 +32,18 @@ fn with_lead(backs: &[u64], e: u64, v: usize, word: u64, w: usize) -> u64
     word
 }
 
-// The nodes to which a dangerous pair leads along the forward edge of word e to v.
-fn leads_through(backs: &[u64], e: u64, v: usize) -> u64
-    requires { ⌜ v < 64 ⌝ }
+// The nodes to which a dangerous pair leads along the forward edge of word e to v. `turns` are the nodes to which back edges go from v: past the last
+// of them no word is looked at.
+fn leads_through(backs: &[u64], turns: u64, e: u64, v: usize) -> u64
+    requires { ⌜ (v < 64) × (turns ≡ joinedRow (now backs) v) ⌝ }
     ensures { λ r. ⌜ r ≡ leadsThrough (now (backs .entry)) e v ⌝ }
 {
     let mut word: u64 = 0;
     let mut w: usize = 0;
     while w < NODES {
+        if turns >> w == 0 {
+            return word;
+        }
         word = with_lead(backs, e, v, word, w);
         w += 1;
     }
@@ -55,17 +60,17 @@ fn lesser(a: u64, b: u64) -> u64
     a
 }
 
-// The first place at which a back edge leaves v, or 1024. `turns` are the nodes to which one goes: where there is none no word is looked at.
+// The first place at which a back edge leaves v, or 1024. `turns` are the nodes to which one goes: past the last of them no word is looked at.
 fn first_place(backs: &[u64], turns: u64, v: usize) -> u64
     requires { ⌜ (v < 64) × (turns ≡ joinedRow (now backs) v) ⌝ }
     ensures { λ r. ⌜ r ≡ earliest (now (backs .entry)) v ⌝ }
 {
-    if turns == 0 {
-        return PLACES;
-    }
     let mut best = PLACES;
     let mut w: usize = 0;
     while w < NODES {
+        if turns >> w == 0 {
+            return best;
+        }
         let l = leaves_at(word_at(backs, v * NODES + w));
         best = lesser(best, l);
         w += 1;
@@ -113,7 +118,7 @@ fn lead_onward(
     if opens == PLACES {
         return word | turns;
     }
-    word | leads_through(backs, e, v)
+    word | leads_through(backs, turns, e, v)
 }
 
 // The nodes to which a dangerous pair leads from u.
@@ -188,7 +193,7 @@ fn wraps_from(
     if opens_below(e) <= early {
         return false;
     }
-    leads_through(backs, e, v) & near != 0
+    leads_through(backs, turns, e, v) & near != 0
 }
 
 // Whether some dangerous pair by way of v leads from a node to one of its nodes in `reach`.
@@ -222,10 +227,10 @@ pub fn wrap_start(forwards: &[u64], backs: &[u64], rows: &[u64], d: usize, below
     let end = capped(below);
     let n = rows_in(forwards);
     let reach = layers_at(rows, d, n);
-    let turns = joined_rows(backs);
     let mut v: usize = 0;
     while v < end {
-        if wraps_at(forwards, backs, turns[v], &reach, v) {
+        let turns = node_row(backs, v);
+        if wraps_at(forwards, backs, turns, &reach, v) {
             return v;
         }
         v += 1;

@@ -4,11 +4,14 @@
 
 use edge_word::NODES;
 use pick_laws::Going;
+use walk_reach::capped;
 use word_list::has_bit;
 use word_list::word_at;
 ghost use mathlib.Core.Path.{_≡_};
-ghost use Prim.Native.Nat.{_<_};
-ghost use Rattle.walk_limit.specs.Limits.{startingLimitAt, limitAt, limitAmong, limitsOf};
+ghost use Prim.Native.Nat.{_<_, min};
+ghost use lib.ListN.{length};
+ghost use Rattle.walk_reach.specs.Layers.{Written};
+ghost use Rattle.walk_limit.specs.Limits.{startingLimitAt, limitAt, limitAmong};
 
 // Below which place a first step into y must leave if it is a back one: the walk's last step must open it.
 fn starting_limit(wide: &[u64], r: usize, y: usize) -> u64
@@ -53,15 +56,19 @@ fn limit_among(ways: &[u64], wide: &[u64], nodes: u64, r: usize, going: Going, y
     0
 }
 
-// Below which place a back step into each node must leave, where r steps are left after it; only steps into the nodes of the word count.
-pub fn limits_in(ways: &[u64], wide: &[u64], nodes: u64, r: usize, going: Going) -> [u64; NODES]
-    ensures { λ x. ⌜ x ≡ limitsOf (now (ways .entry)) (now (wide .entry)) nodes r going ⌝ }
+// Writes below which place a back step into each node must leave, for as many nodes as there is room for, 64 at most, where r steps are left after
+// it; only steps into the nodes of the word count.
+pub fn limits_in(ways: &[u64], wide: &[u64], nodes: u64, r: usize, going: Going, limits: &mut [u64])
+    ensures { λ _. ⌜
+        Written (limitAmong (now (ways .entry)) (now (wide .entry)) nodes r going) 0 (min (length (now (limits .entry))) 64)
+        (now (limits .entry)) (now (limits .exit))
+        ⌝ }
 {
-    let mut limits = [0u64; NODES];
+    let n = capped(limits.len());
     let mut y: usize = 0;
-    while y < NODES {
-        limits[y] = limit_among(ways, wide, nodes, r, going, y);
+    while y < n {
+        let x = limit_among(ways, wide, nodes, r, going, y);
+        limits[y] = x;
         y += 1;
     }
-    limits
 }

@@ -2,20 +2,21 @@
 use mathlib.Core.Path.{_≡_, refl, sym, ap, ap₂, _∙_}
 use mathlib.Core.Bool.{Bool, true, false, cond}
 use mathlib.Core.List.{List}
-use Prim.Native.Nat.{ℕ, zero, suc, _+_, _-_, _*_, _≤_, _<_, min}
+use Prim.Native.Nat.{ℕ, zero, suc, _+_, _-_, _*_, _/_, _^_, _≤_, _<_, min}
 use native.Mathlib.Numerals.{add-one}
 use native.Mathlib.Omega.{arith}
 use lib.Dec.{ltb}
 use lib.ListN.{length, getD, List·getD-eq-default}
 use borrow.Author.Tests.{eq-eqb, ne-eqb}
 use Rattle.spec_base.specs.Basic.{has}
-use Rattle.law_base.specs.SetLaws.{has-empty}
 use Rattle.pick_laws.specs.declared.Going.{Going}
 use Rattle.pick_laws.specs.Completing.{leastBelow, leavesAt}
+use Rattle.pick_laws.specs.LeastLaws.{least-rest}
 use Rattle.pick_laws.specs.Demands.{onlyIf}
 use Rattle.edge_word.specs.Coding.{backPick}
 use Rattle.edge_opens.specs.OpensLaws.{leaves-none}
 use Rattle.walk_reach.specs.Layers.{wideAt}
+use Rattle.walk_reach.specs.NodeWordLaws.{has-high}
 use Rattle.walk_need.specs.Needs.{leavesFor, firstLeaving, openingNeed, endingNeed, needAt, needAmong}
 
 -- ---- where a back edge leaves
@@ -49,10 +50,12 @@ leaving-past backs nodes x h =
     go y true e = e
     go y false e = refl
 
--- and for no node
-pub leaving-none : (backs : List ℕ) (nodes x : ℕ) → nodes ≡ 0 → 1024 ≡ firstLeaving backs nodes x
+-- and past the last of the nodes
+pub leaving-none : (backs : List ℕ) (nodes x y : ℕ) {best : ℕ} → y ≤ 64 → nodes / 2 ^ y ≡ 0 → best ≡ leastBelow (leavesFor backs nodes x) 1024 y
+    → best ≡ firstLeaving backs nodes x
 unfolding firstLeaving leavesFor
-leaving-none backs nodes x z = least-past (leavesFor backs nodes x) 64 (λ y l. rw (ap (λ (w : ℕ). has w y) z ∙ has-empty y) refl)
+leaving-none backs nodes x y h e p =
+    p ∙ least-rest (leavesFor backs nodes x) 1024 y 64 h (λ k l m. rw (has-high nodes y k e l) (let same : 1024 ≤ 1024 = omega arith in same))
 
 -- a turn of the search for the first
 pub leaving-turn : (backs : List ℕ) (nodes x y : ℕ) {best l more : ℕ} → best ≡ leastBelow (leavesFor backs nodes x) 1024 y

@@ -6,6 +6,7 @@ use edge_opens::leaves_at;
 use edge_word::NODES;
 use edge_word::PLACES;
 use pick_laws::Going;
+use walk_reach::capped;
 use word_list::has_bit;
 use word_list::word_at;
 ghost use mathlib.Core.Bool.{cond};
@@ -13,8 +14,9 @@ ghost use mathlib.Core.Path.{_≡_};
 ghost use Prim.Native.Nat.{_<_, _≤_, min};
 ghost use Rattle.spec_base.specs.Basic.{has};
 ghost use Rattle.pick_laws.specs.Demands.{onlyIf};
-ghost use Rattle.walk_reach.specs.Layers.{wideAt};
-ghost use Rattle.walk_need.specs.Needs.{leavesFor, firstLeaving, openingNeed, endingNeed, needAt, needAmong, needsOf};
+ghost use lib.ListN.{length};
+ghost use Rattle.walk_reach.specs.Layers.{wideAt, Written};
+ghost use Rattle.walk_need.specs.Needs.{leavesFor, firstLeaving, openingNeed, endingNeed, needAt, needAmong};
 
 // Further than any edge opens: no step counts that needs so much.
 const NEVER: u64 = 1025;
@@ -40,8 +42,8 @@ fn lesser(a: u64, b: u64) -> u64
     a
 }
 
-// The first place at which a back edge leaves x for one of the nodes, or 1024 where none does. No word is looked at where x has no row or there is no
-// node.
+// The first place at which a back edge leaves x for one of the nodes, or 1024 where none does. No word is looked at where x has no row, or past the
+// last of the nodes.
 fn first_leaving(backs: &[u64], nodes: u64, x: usize) -> u64
     requires { ⌜ x < 64 ⌝ }
     ensures { λ r. ⌜ (r ≡ firstLeaving (now (backs .entry)) nodes x) × (r ≤ 1024) ⌝ }
@@ -49,12 +51,12 @@ fn first_leaving(backs: &[u64], nodes: u64, x: usize) -> u64
     if backs.len() <= x * NODES {
         return PLACES;
     }
-    if nodes == 0 {
-        return PLACES;
-    }
     let mut best = PLACES;
     let mut y: usize = 0;
     while y < NODES {
+        if nodes >> y == 0 {
+            return best;
+        }
         let l = leaves_for(backs, nodes, x, y);
         best = lesser(best, l);
         y += 1;
@@ -156,7 +158,8 @@ fn need_among(
     NEVER
 }
 
-// How far a forward step into each node must open, where r steps are left after it; only steps into the nodes of the word count.
+// Writes how far a forward step into each node must open, for as many nodes as there is room for, 64 at most, where r steps are left after it; only
+// steps into the nodes of the word count.
 pub fn needs_in(
     backs: &[u64],
     ways: &[u64],
@@ -166,14 +169,18 @@ pub fn needs_in(
     nodes: u64,
     r: usize,
     going: Going,
-) -> [u64; NODES]
-    ensures { λ x. ⌜ x ≡ needsOf (now (backs .entry)) (now (ways .entry)) (now (opened .entry)) (now (wide .entry)) s nodes r going ⌝ }
+    needs: &mut [u64],
+)
+    ensures { λ _. ⌜
+        Written (needAmong (now (backs .entry)) (now (ways .entry)) (now (opened .entry)) (now (wide .entry)) s nodes r going) 0
+        (min (length (now (needs .entry))) 64) (now (needs .entry)) (now (needs .exit))
+        ⌝ }
 {
-    let mut needs = [0u64; NODES];
+    let n = capped(needs.len());
     let mut y: usize = 0;
-    while y < NODES {
-        needs[y] = need_among(backs, ways, opened, wide, s, nodes, r, going, y);
+    while y < n {
+        let x = need_among(backs, ways, opened, wide, s, nodes, r, going, y);
+        needs[y] = x;
         y += 1;
     }
-    needs
 }

@@ -1,6 +1,6 @@
--- What the code does with one pair of rows, and with one row after the other.
+-- What the code does with one row after the other.
 use mathlib.Core.Path.{_≡_, refl, sym, ap, ap₂, subst, _∙_}
-use mathlib.Core.Bool.{Bool, true, false, cond, not, _&&_, _||_}
+use mathlib.Core.Bool.{Bool, true, false, cond, _&&_}
 use mathlib.Core.List.{List, _++_}
 use Prim.Native.Nat.{ℕ, zero, suc, _+_, _*_, _≤_, _<_, zero-le}
 use native.Mathlib.Nat.{suc-mul}
@@ -9,28 +9,22 @@ use native.Mathlib.Omega.{arith}
 use lib.Dec.{eqb, ltb}
 use lib.ListN.{length, getD, take, drop, replicate, length-replicate, getD-replicate}
 use lib.Seq.{length-take-le, ext-getD}
-use borrow.Author.Tests.{ltb-true, le-ltb, ne-eqb}
+use borrow.Author.Tests.{ltb-true, le-ltb}
 use Rattle.spec_base.specs.Basic.{meets}
-use Rattle.law_base.specs.BoolLaws.{true-false, and-true, and-of, and-left, and-right}
+use Rattle.law_base.specs.BoolLaws.{and-true, and-of, and-left, and-right}
 use Rattle.word_list.specs.Clear.{Cleared}
-use Rattle.spec_graph.specs.Edge.{selects, loosens}
-use Rattle.spec_graph.specs.Edge.Letter.{A, B, C, D, E}
+use Rattle.spec_graph.specs.Edge.{loosens}
 use Rattle.spec_text.specs.declared.StatementKind.{StatementKind}
 use Rattle.edge_kinds.specs.Kinds.{kindFacts, looseBit}
 use Rattle.edge_kinds.specs.KindLaws.{told as told-kind}
-use Rattle.kind_table.specs.Codes.{codeOf}
 use Rattle.place_row.specs.declared.Row.{Row}
-use Rattle.place_row.specs.KeyWord.{farIn}
-use Rattle.place_row.specs.RowTable.{rowAt, rowCount, rowHolds, rowForward, rowBack, tableRows}
-use Rattle.edge_test.specs.Letters.{toldBetween, forwardIn}
-use Rattle.edge_test.specs.LetterLaws.{forward-told}
-use Rattle.edge_word.specs.Coding.{forwardWord, backWord}
+use Rattle.place_row.specs.RowTable.{rowAt, rowCount, rowForward, rowBack, tableRows}
 use Rattle.edge_count.specs.declared.Counts.{Counts}
 use Rattle.edge_count.specs.Slots.{pairCounts}
 use Rattle.edge_count.specs.SlotLaws.{pair-most as counts-most}
 use Rattle.walk_pick.specs.Picks.{rowForwardWord, rowBackWord, wordsBetween, roomIn, filledFor, PickedAs}
-use Rattle.walk_pick.specs.PickSteps.{keptAt, hasEntries, keptBetween, keptPair, keptRow, keptRows, sumBelow}
-use Rattle.walk_pick.specs.PickSteps.{edgesAt, backAt, rowSum, rowsSum, Tables, WholeRow, PairKept, RowKept, RowsKept, RowsAdded}
+use Rattle.walk_pick.specs.PickSteps.{keptAt, hasEntries, keptBetween, keptRow, keptRows, sumBelow}
+use Rattle.walk_pick.specs.PickSteps.{edgesAt, backAt, rowSum, rowsSum, Tables, WholeRow, RowKept, RowsKept, RowsAdded}
 
 -- a row with entries has a small node and a small place
 pub entries-small : (limit : ℕ) (p : Row) {b : Bool} → b ≡ hasEntries limit p → b ≡ true → (p .node < limit) × (p .place < 1024)
@@ -56,7 +50,7 @@ pub right-out : (limit : ℕ) (p q : Row) (words : List ℕ) (word : ℕ) → ha
 right-out limit p q words word e = between-out limit p q words word (and-right (hasEntries limit p) e)
 
 -- nor is the word of no edge
-none-kept : (limit : ℕ) (p q : Row) (words : List ℕ) {word : ℕ} → word ≡ 0 → words ≡ keptBetween limit p q words word
+pub none-kept : (limit : ℕ) (p q : Row) (words : List ℕ) {word : ℕ} → word ≡ 0 → words ≡ keptBetween limit p q words word
 unfolding keptBetween keptAt
 none-kept limit p q words {word} e = rw (e, no-less) (same (hasEntries limit p && hasEntries 64 q))
   where
@@ -67,83 +61,9 @@ none-kept limit p q words {word} e = rw (e, no-less) (same (hasEntries limit p &
     same true = refl
     same false = refl
 
--- E2: a back edge stands only beside a forward edge
-back-forward : (p q : Row) → rowForward p q ≡ false → rowBack p q ≡ false
-unfolding rowForward rowBack
-back-forward p q =
-    go (eqb (p .relation) (q .relation)) (rowHolds A p q) (rowHolds B p q) (rowHolds C p q) (rowHolds D p q) (rowHolds E p q) (selects (p .kind))
-    (not (meets (p .keys) (farIn (q .keys))))
-  where
-    go : (r a b c d e s f : Bool) → r && (a || b || c || d || e) ≡ false → r && (e || s && d && f) ≡ false
-    go false a b c d e s f h = refl
-    go true false false false false false true f h = refl
-    go true false false false false false false f h = refl
-    go true true b c d e s f h = absurd (true-false refl h)
-    go true false true c d e s f h = absurd (true-false refl h)
-    go true false false true d e s f h = absurd (true-false refl h)
-    go true false false false true e s f h = absurd (true-false refl h)
-    go true false false false false true s f h = absurd (true-false refl h)
-
 -- W4: the table of kinds tells whether a row is loose
-loose-told : (k : StatementKind) {loose : Bool} → loose ≡ meets (kindFacts k) looseBit → loose ≡ loosens k
+pub loose-told : (k : StatementKind) {loose : Bool} → loose ≡ meets (kindFacts k) looseBit → loose ≡ loosens k
 loose-told k e = e ∙ told-kind k .loosens
-
--- ---- a pair
-
-module _ (limit : ℕ) (p q : Row) where
-  -- no edge stands
-  pub pair-none : (forwards backs : List ℕ) → rowForward p q ≡ false
-      → PairKept limit p q forwards backs forwards backs (record { edges = 0; back = 0 })
-  unfolding pairCounts rowForwardWord rowBackWord
-  pair-none forwards backs f =
-      let b = back-forward p q f in
-      record {
-        forwardsKept = none-kept limit p q forwards (rw f refl);
-        backsKept = none-kept limit p q backs (rw b refl);
-        counted = rw (f, b) refl;
-      }
-
-  -- a forward edge stands and no back edge
-  pub pair-one : {loose : Bool} {w : ℕ} {forwards₀ forwards : List ℕ} (backs : List ℕ) → rowForward p q ≡ true → rowBack p q ≡ false
-      → loose ≡ meets (kindFacts (p .kind)) looseBit → w ≡ forwardWord loose (p .place) (q .place) → forwards ≡ keptBetween limit p q forwards₀ w
-      → PairKept limit p q forwards₀ backs forwards backs (record { edges = 1; back = 0 })
-  unfolding pairCounts rowForwardWord rowBackWord
-  pair-one {forwards₀ = forwards₀} backs f b loose word kept = record {
-    forwardsKept = kept ∙ ap (keptBetween limit p q forwards₀)
-        (word ∙ ap (λ (l : Bool). forwardWord l (p .place) (q .place)) (loose-told (p .kind) loose) ∙ rw f refl);
-    backsKept = none-kept limit p q backs (rw b refl);
-    counted = rw (f, b) refl;
-  }
-
-  -- both stand
-  pub pair-two : {loose : Bool} {w v : ℕ} {forwards₀ backs₀ forwards backs : List ℕ} → rowForward p q ≡ true → rowBack p q ≡ true
-      → loose ≡ meets (kindFacts (p .kind)) looseBit → w ≡ forwardWord loose (p .place) (q .place) → forwards ≡ keptBetween limit p q forwards₀ w
-      → v ≡ backWord (p .place) (q .place) → backs ≡ keptBetween limit p q backs₀ v
-      → PairKept limit p q forwards₀ backs₀ forwards backs (record { edges = 2; back = 1 })
-  unfolding pairCounts rowForwardWord rowBackWord
-  pair-two {forwards₀ = forwards₀} {backs₀ = backs₀} f b loose word kept worb kepb = record {
-    forwardsKept = kept ∙ ap (keptBetween limit p q forwards₀)
-        (word ∙ ap (λ (l : Bool). forwardWord l (p .place) (q .place)) (loose-told (p .kind) loose) ∙ rw f refl);
-    backsKept = kepb ∙ ap (keptBetween limit p q backs₀) (worb ∙ rw b refl);
-    counted = rw (f, b) refl;
-  }
-
--- E1: rows of two relations have no edge
-pub apart-none : (p : Row) (table : List ℕ) (j : ℕ) → (getD table (j * 8 + 3) 0 ≡ p .relation → ⊥) → rowForward p (rowAt table j) ≡ false
-unfolding rowForward rowAt
-apart-none p table j h = rw (ne-eqb (p .relation) (getD table (j * 8 + 3) 0) (λ e. h (sym e))) refl
-
--- Req 04: nor have rows between whose kinds no letter is possible
-pub impossible-none : (p q : Row) {code : ℕ} → code ≡ codeOf (p .kind) (q .kind) → code ≡ 0 → rowForward p q ≡ false
-unfolding forwardIn toldBetween
-impossible-none p q {code} known none =
-    sym (forward-told p q known) ∙ ap (λ (c : ℕ). forwardIn c p q) none ∙ and-right (eqb (p .relation) (q .relation)) refl
-
--- the right row as it was read
-pub pair-read : {limit : ℕ} {p q r : Row} {forwards₀ backs₀ forwards backs : List ℕ} {t : Counts} → q ≡ r
-    → PairKept limit p q forwards₀ backs₀ forwards backs t → PairKept limit p r forwards₀ backs₀ forwards backs t
-pair-read {limit} {p} {forwards₀ = a} {backs₀ = b} {forwards} {backs} {t} same h =
-    subst (λ (x : Row). PairKept limit p x a b forwards backs t) same h
 
 -- a row below the number of rows stands whole
 pub row-whole : (table : List ℕ) {n j : ℕ} → n ≡ rowCount table → j < n → WholeRow table j
@@ -153,7 +73,7 @@ row-whole table e h = omega arith
 -- ---- sums
 
 -- no more than so many from each
-sum-most : (f : ℕ → ℕ) (b : ℕ) → ((j : ℕ) → f j ≤ b) → (n : ℕ) → sumBelow f n ≤ n * b
+pub sum-most : (f : ℕ → ℕ) (b : ℕ) → ((j : ℕ) → f j ≤ b) → (n : ℕ) → sumBelow f n ≤ n * b
 unfolding sumBelow
 sum-most f b most zero = zero-le
 sum-most f b most (suc n) =
@@ -163,14 +83,8 @@ sum-most f b most (suc n) =
     omega arith
 
 -- a pair has at most two edges, and so no more back edges
-counts-few : (f b : Bool) → (pairCounts f b .edges ≤ 2) × (pairCounts f b .back ≤ 2)
+pub counts-few : (f b : Bool) → (pairCounts f b .edges ≤ 2) × (pairCounts f b .back ≤ 2)
 counts-few f b = let h = counts-most f b refl in (h .0, omega (arith, h .1))
-
--- so does a pair whose words are kept
-pub pair-most : {limit : ℕ} {p q : Row} {forwards₀ backs₀ forwards backs : List ℕ} {r : Counts} → PairKept limit p q forwards₀ backs₀ forwards backs r
-    → (r .edges ≤ 2) × (r .back ≤ 2)
-pair-most {p = p} {q = q} h =
-    subst (λ (t : Counts). (t .edges ≤ 2) × (t .back ≤ 2)) (sym (h .counted)) (counts-few (rowForward p q) (rowBack p q))
 
 -- so has a row with each of the others
 pub row-most : {limit : ℕ} {table : List ℕ} {p : Row} {j : ℕ} {forwards₀ backs₀ forwards backs : List ℕ} {edges back : ℕ}
@@ -206,21 +120,6 @@ sum-next f n e o = ap₂ _+_ e o ∙ ap (sumBelow f) (sym (add-one n))
 pub row-first : (limit : ℕ) (table : List ℕ) (p : Row) {forwards backs : List ℕ} → RowKept limit table p 0 forwards backs forwards backs 0 0
 unfolding keptRow rowSum sumBelow
 row-first limit table p = record { forwardsKept = refl; backsKept = refl; edgesCounted = refl; backCounted = refl }
-
--- one pair more
-pub row-turn : (limit : ℕ) (table : List ℕ) (p : Row) (j : ℕ)
-    {forwards₀ backs₀ forwards backs forwards′ backs′ : List ℕ} {edges back : ℕ} {r : Counts}
-    → RowKept limit table p j forwards₀ backs₀ forwards backs edges back → PairKept limit p (rowAt table j) forwards backs forwards′ backs′ r
-    → RowKept limit table p (j + 1) forwards₀ backs₀ forwards′ backs′ (edges + r .edges) (back + r .back)
-unfolding keptRow rowSum
-row-turn limit table p j {forwards₀ = forwards₀} {backs₀ = backs₀} h pair = record {
-  forwardsKept = pair .forwardsKept ∙ ap (keptPair limit rowForwardWord p (rowAt table j)) (h .forwardsKept)
-      ∙ ap (keptRow limit rowForwardWord table p forwards₀) (sym (add-one j));
-  backsKept = pair .backsKept ∙ ap (keptPair limit rowBackWord p (rowAt table j)) (h .backsKept)
-      ∙ ap (keptRow limit rowBackWord table p backs₀) (sym (add-one j));
-  edgesCounted = sum-next (λ k. edgesAt p (rowAt table k)) j (h .edgesCounted) (ap (λ (t : Counts). t .edges) (pair .counted));
-  backCounted = sum-next (λ k. backAt p (rowAt table k)) j (h .backCounted) (ap (λ (t : Counts). t .back) (pair .counted));
-}
 
 -- a table that is cleared
 cleared-zero : {limit : ℕ} {words₀ words : List ℕ} → Tables limit words₀ → Cleared 0 (limit * 64) words₀ words → words ≡ replicate (limit * 64) 0

@@ -44,7 +44,7 @@ greatest-next f g n =
 -- ---- one pair
 
 -- a word that is kept
-kept-at : (words : List ℕ) (x y word : ℕ) → x < length words
+pub kept-at : (words : List ℕ) (x y word : ℕ) → x < length words
     → getD (keptAt words x word) y 0 ≡ max (getD words y 0) (cond (eqb x y) word 0)
 unfolding keptAt
 kept-at words x y word h = go (decide (eqb x y)) (decide (ltb (getD words x 0) word))
@@ -66,7 +66,7 @@ kept-at words x y word h = go (decide (eqb x y)) (decide (ltb (getD words x 0) w
         rw (e, l) (getD-set-other words x y word 0 (λ q. apart (sym q)) ∙ omega arith)
     go (inr e) (inr l) = rw (e, l) (omega arith)
 
-kept-length : (words : List ℕ) (x word : ℕ) → length (keptAt words x word) ≡ length words
+pub kept-length : (words : List ℕ) (x word : ℕ) → length (keptAt words x word) ≡ length words
 unfolding keptAt
 kept-length words x word = go (ltb (getD words x 0) word)
   where
@@ -134,7 +134,7 @@ pair-at limit word p q words y long h = go (decide (hasEntries limit p && hasEnt
 -- ---- all pairs
 
 module _ (limit : ℕ) (word : Row → Row → ℕ) (table : List ℕ) where
-  row-length : (p : Row) (words : List ℕ) (j : ℕ) → length (keptRow limit word table p words j) ≡ length words
+  pub row-length : (p : Row) (words : List ℕ) (j : ℕ) → length (keptRow limit word table p words j) ≡ length words
   unfolding keptRow
   row-length p words zero = refl
   row-length p words (suc j) =
@@ -295,20 +295,3 @@ all-picked limit table n i rows most least h = record {
 
     sums : (each : Row → Row → ℕ) → rowsSum each table n i ≡ rowsSum each table (rowCount table) (rowCount table)
     sums each = ap (rowsSum each table n) end ∙ ap (λ (m : ℕ). rowsSum each table m m) rows
-
--- an area is as long as it was
-filled-length : (word : Row → Row → ℕ) (limit : ℕ) (rows : List Row) (before : List ℕ) → limit * 64 ≤ length before
-    → length (filledFor word limit rows before) ≡ length before
-unfolding filledFor
-filled-length word limit rows before h =
-    let front = words-length word limit rows in
-    let rest = length-drop (limit * 64) before in
-    length-append (wordsBetween word limit rows) (drop (limit * 64) before) ∙ omega arith
-
-pub picked-length : {table forwards₀ backs₀ forwards backs : List ℕ} {r : Counts} → PickedAs table forwards₀ backs₀ forwards backs r
-    → (length forwards ≡ length forwards₀) × (length backs ≡ length backs₀)
-unfolding roomIn
-picked-length {table} {forwards₀} {backs₀} h = (
-  ap length (h .forwardsFilled) ∙ filled-length rowForwardWord (roomIn forwards₀ backs₀) (tableRows table) forwards₀ (omega arith),
-  ap length (h .backsFilled) ∙ filled-length rowBackWord (roomIn forwards₀ backs₀) (tableRows table) backs₀ (omega arith),
-)

@@ -5,11 +5,8 @@ use mathlib.Core.List.{List}
 use Prim.Native.Nat.{ℕ, zero, suc, _+_, _*_, _≤_}
 use lib.Dec.{ltb}
 use lib.ListN.{length, getD, set, replicate}
-use Rattle.spec_base.specs.Basic.{meets}
-use Rattle.edge_kinds.specs.Kinds.{kindFacts, looseBit}
-use Rattle.kind_table.specs.Codes.{codeOf, codesFrom}
 use Rattle.place_row.specs.declared.Row.{Row}
-use Rattle.place_row.specs.RowTable.{rowAt, rowCount, rowForward, rowBack, tableRows}
+use Rattle.place_row.specs.RowTable.{rowAt, rowForward, rowBack, tableRows}
 use Rattle.edge_count.specs.declared.Counts.{Counts}
 use Rattle.edge_count.specs.Slots.{pairCounts, tableCounts}
 use Rattle.walk_pick.specs.Picks.{rowForwardWord, rowBackWord, wordsBetween}
@@ -71,34 +68,7 @@ pub record Tables (limit : ℕ) (words : List ℕ) : Type 0 where
 abbrev pub WholeRow : List ℕ → ℕ → Type 0
 WholeRow table j = j * 8 + 8 ≤ length table
 
--- of two rows: the code of their kinds, and whether the left one is loose (W4)
-pub record AlikeKnown (code : ℕ) (loose : Bool) (limit : ℕ) (p q : Row) (forwards backs : List ℕ) : Type 0 where
-  pub code-is : code ≡ codeOf (p .kind) (q .kind)
-  pub loose-is : loose ≡ meets (kindFacts (p .kind)) looseBit
-  pub forwards-for : Tables limit forwards
-  pub backs-for : Tables limit backs
-
--- of a row and a row that stands whole in the table: the codes of the left one's kind
-pub record PairKnown (table : List ℕ) (j : ℕ) (codes : List ℕ) (loose : Bool) (limit : ℕ) (p : Row) (forwards backs : List ℕ) : Type 0 where
-  pub whole : WholeRow table j
-  pub codes-are : codes ≡ codesFrom (p .kind)
-  pub loose-is : loose ≡ meets (kindFacts (p .kind)) looseBit
-  pub forwards-for : Tables limit forwards
-  pub backs-for : Tables limit backs
-
--- of a table of n rows
-pub record RowKnown (table : List ℕ) (n limit : ℕ) (forwards backs : List ℕ) : Type 0 where
-  pub rows : n ≡ rowCount table
-  pub forwards-for : Tables limit forwards
-  pub backs-for : Tables limit backs
-
 -- ---- what the code does
-
--- what a pair of rows adds: its words and its edges
-pub record PairKept (limit : ℕ) (p q : Row) (forwards₀ backs₀ forwards backs : List ℕ) (r : Counts) : Type 0 where
-  pub forwardsKept : forwards ≡ keptPair limit rowForwardWord p q forwards₀
-  pub backsKept : backs ≡ keptPair limit rowBackWord p q backs₀
-  pub counted : r ≡ pairCounts (rowForward p q) (rowBack p q)
 
 -- what a row adds, with each of the first j rows
 pub record RowKept (limit : ℕ) (table : List ℕ) (p : Row) (j : ℕ) (forwards₀ backs₀ forwards backs : List ℕ) (edges back : ℕ) : Type 0 where

@@ -8,6 +8,7 @@ use Prim.Native.Nat.{ℕ, zero, suc, _+_, _*_, _/_, _^_, _≤_, _<_, min}
 use native.Mathlib.Decide.{decLt}
 use native.Mathlib.Numerals.{add-one}
 use native.Mathlib.Omega.{arith}
+use lib.Bits.{bitOr, or-add-and, and-le-l, and-le-r}
 use lib.Dec.{eqb, ltb}
 use lib.ListN.{length, getD, List·getD-eq-default}
 use borrow.Author.Tests.{ltb-false, ne-eqb, eq-eqb}
@@ -17,7 +18,7 @@ use Rattle.law_base.specs.ListLaws.{any-numbers, any-numbers-of}
 use Rattle.law_base.specs.SetLaws.{has-empty, has-bitOr, has-bit, meets-has, has-meets, meets-empty}
 use Rattle.pick_laws.specs.Pick.{picked, onwardTo, reaches}
 use Rattle.edge_word.specs.Coding.{forwardPick, forwardEdge, entry, forwardsIn}
-use Rattle.walk_reach.specs.Layers.{wordBelow, listBelow, joinedBit, joinedRow, rowsIn, rowsFilled, joinedRows}
+use Rattle.walk_reach.specs.Layers.{wordBelow, listBelow, Blank, joinedBit, joinedRow, rowsIn, rowsFilled, joinedRows}
 use Rattle.walk_reach.specs.Layers.{withNode, entersAt, nodesInto, grown, nodeWord, layer}
 use Rattle.walk_reach.specs.NodeWordLaws.{last-turn, word-in, word-inside, word-none, word-rest, list-at, list-past, rows-at}
 
@@ -27,6 +28,44 @@ use Rattle.walk_reach.specs.NodeWordLaws.{last-turn, word-in, word-insid
 pub row-end : (forwards : List ℕ) (u : ℕ) {word k : ℕ} → word ≡ wordBelow (joinedBit forwards u) k → k ≤ 64 → 64 ≤ k → word ≡ joinedRow forwards u
 unfolding joinedRow
 row-end forwards u {word} {k} e h l = last-turn (wordBelow (joinedBit forwards u)) 64 k e h l
+
+-- words that are joined to nothing are nothing
+pub or-none-l : (a b : ℕ) → bitOr a b ≡ 0 → a ≡ 0
+or-none-l a b e = let sum = or-add-and a b in let low = and-le-r a b in omega arith
+
+pub or-none-r : (a b : ℕ) → bitOr a b ≡ 0 → b ≡ 0
+or-none-r a b e = let sum = or-add-and a b in let low = and-le-l a b in omega arith
+
+-- a turn of the loop that joins words
+pub blank-turn : (table : List ℕ) (from i all : ℕ) {more : ℕ} → (all ≡ 0 → Blank table from i) → more ≡ bitOr all (getD table i 0)
+    → more ≡ 0 → Blank table from (i + 1)
+blank-turn table from i all before e empty = record { none = λ k h l. go k h l (decLt k i) }
+  where
+    go : (k : ℕ) → from ≤ k → k < i + 1 → Dec (k < i) → getD table k 0 ≡ 0
+    go k h l (yes less) = before (or-none-l all (getD table i 0) (sym e ∙ empty)) .none k h less
+    go k h l (no d) =
+        let same : k ≡ i = omega arith in
+        ap (λ (j : ℕ). getD table j 0) same ∙ or-none-r all (getD table i 0) (sym e ∙ empty)
+
+-- its start and its end
+pub blank-start : (table : List ℕ) (from : ℕ) → Blank table from from
+blank-start table from = record { none = λ k h l. let z : ⊥ = omega arith in absurd z }
+
+pub blank-end : {table : List ℕ} {from i to : ℕ} → Blank table from i → to ≤ i → Blank table from to
+blank-end b h = record { none = λ k low l. b .none k low (omega arith) }
+
+-- a row has no more nodes where the words past its first are 0, and all of its nodes after 64 words
+pub row-rest : (forwards : List ℕ) (u : ℕ) {n word : ℕ} → n ≤ 64 → Blank forwards (u * 64 + n) (u * 64 + 64)
+    → word ≡ wordBelow (joinedBit forwards u) n → word ≡ joinedRow forwards u
+unfolding joinedRow
+row-rest forwards u {n} h b e = e ∙ word-rest (joinedBit forwards u) n 64 h past
+  where
+    past : (k : ℕ) → n ≤ k → k < 64 → joinedBit forwards u k ≡ false
+    past k l m = not-of-true (eq-eqb (entry forwards u k) 0 (b .none (u * 64 + k) (omega arith) (omega arith)))
+
+pub row-all : (forwards : List ℕ) (u : ℕ) {word : ℕ} → word ≡ wordBelow (joinedBit forwards u) 64 → word ≡ joinedRow forwards u
+unfolding joinedRow
+row-all forwards u e = e
 
 -- a table has so many rows
 pub rows-few : (n : ℕ) → n < 4096 → (n + 63) / 64 ≡ min ((n + 63) / 64) 64
@@ -55,7 +94,7 @@ into-end rows nodes {word} {k} {n} m e h l =
     past x i = ap (λ (w : ℕ). meets w nodes) (List·getD-eq-default rows 0 i) ∙ meets-empty nodes
 
     go : Dec (length rows < 64) → wordBelow (entersAt rows nodes) k ≡ wordBelow (entersAt rows nodes) 64
-    go (yes i) = word-rest (entersAt rows nodes) k 64 (omega arith) (λ x j. past x (omega arith))
+    go (yes i) = word-rest (entersAt rows nodes) k 64 (omega arith) (λ x j small. past x (omega arith))
     go (no i) = let same : k ≡ 64 = omega arith in ap (wordBelow (entersAt rows nodes)) same
 
 -- the layer after another

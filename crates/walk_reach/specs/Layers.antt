@@ -1,7 +1,8 @@
 -- Sets of nodes as words, and which nodes reach which along forward edges.
 use mathlib.Core.Bool.{Bool, cond, not}
 use mathlib.Core.List.{List}
-use Prim.Native.Nat.{ℕ, zero, suc, _+_, _*_, _/_, _^_, min}
+use mathlib.Core.Path.{_≡_}
+use Prim.Native.Nat.{ℕ, zero, suc, _+_, _*_, _/_, _^_, _≤_, _<_, min}
 use lib.Bits.{bitOr}
 use lib.Dec.{eqb, ltb}
 use lib.ListN.{length, getD, set, replicate, take}
@@ -28,6 +29,17 @@ listBelow f (suc k) = set (listBelow f k) k (f k)
 unfoldable pub filled : ℕ → (ℕ → ℕ) → ℕ → List ℕ
 filled size f zero = replicate size 0
 filled size f (suc n) = set (filled size f n) n (f n)
+
+-- the words from one to another are as given, the others as before
+pub record Written (f : ℕ → ℕ) (from to : ℕ) (before after : List ℕ) : Type 0 where
+  pub size : length after ≡ length before
+  pub inside : (i : ℕ) → from ≤ i → i < to → getD after i 0 ≡ f i
+  pub below : (i : ℕ) → i < from → getD after i 0 ≡ getD before i 0
+  pub above : (i : ℕ) → to ≤ i → getD after i 0 ≡ getD before i 0
+
+-- the words from one to another are 0
+pub record Blank (table : List ℕ) (from to : ℕ) : Type 0 where
+  pub none : (i : ℕ) → from ≤ i → i < to → getD table i 0 ≡ 0
 
 -- word y of row r of a table with 64 rows of 64 words; 0 past the rows. In the table of walk_wide: how far the last of r + 1 steps from y can open
 unfoldable pub wideAt : List ℕ → ℕ → ℕ → ℕ

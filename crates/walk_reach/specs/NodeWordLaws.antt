@@ -3,15 +3,15 @@ use mathlib.Core.Path.{_≡_, refl, sym, ap, ap₂, _∙_}
 use mathlib.Core.Bool.{Bool, true, false, _||_}
 use mathlib.Core.List.{List}
 use mathlib.Core.Logic.{_⊎_, inl, inr}
-use Prim.Native.Nat.{ℕ, zero, suc, _+_, _*_, _%_, _^_, _≤_, _<_}
-use native.Mathlib.Nat.{one-mul, mod-eq-of-lt, not-suc-le-zero}
+use Prim.Native.Nat.{ℕ, zero, suc, _+_, _-_, _*_, _/_, _%_, _^_, _≤_, _<_}
+use native.Mathlib.Nat.{one-mul, mod-eq-of-lt, zero-div, not-suc-le-zero}
 use native.Mathlib.Numerals.{add-one}
 use native.Mathlib.Decide.{decLt}
 use native.Mathlib.Omega.{arith}
 use lib.Bits.{bitAnd, bitOr}
 use lib.Dec.{eqb}
 use lib.ListN.{length, getD, set, replicate, take, length-set, length-take, length-replicate, List·getD-eq-default}
-use lib.Pow.{pow-lt}
+use lib.Pow.{pow-lt, shr-shr}
 use lib.Seq.{getD-set-same, getD-set-other, getD-take}
 use borrow.Author.Tests.{eqb-true, eqb-false, eq-eqb, ne-eqb, lt-ltb, le-ltb}
 use Rattle.spec_base.specs.Basic.{has, meets}
@@ -95,12 +95,12 @@ module _ (test : ℕ → Bool) where
   word-none none (suc n) = rw (none n) (word-none none n)
 
 -- past a number from which on none passes it stays as it is
-pub word-rest : (test : ℕ → Bool) (n m : ℕ) → n ≤ m → ((k : ℕ) → n ≤ k → test k ≡ false) → wordBelow test n ≡ wordBelow test m
+pub word-rest : (test : ℕ → Bool) (n m : ℕ) → n ≤ m → ((k : ℕ) → n ≤ k → k < m → test k ≡ false) → wordBelow test n ≡ wordBelow test m
 word-rest test n m h none = has-equal (wordBelow test n) (wordBelow test m) (λ k. go k (decLt k n) (decLt k m))
   where
     go : (k : ℕ) → Dec (k < n) → Dec (k < m) → has (wordBelow test n) k ≡ has (wordBelow test m) k
     go k (yes l) i = word-in test n k l ∙ sym (word-in test m k (omega arith))
-    go k (no d) (yes i) = word-out test n k (omega arith) ∙ sym (none k (omega arith)) ∙ sym (word-in test m k i)
+    go k (no d) (yes i) = word-out test n k (omega arith) ∙ sym (none k (omega arith) i) ∙ sym (word-in test m k i)
     go k (no d) (no e) = word-out test n k (omega arith) ∙ sym (word-out test m k (omega arith))
 
 -- the union of two such words has the numbers that pass either test
@@ -155,6 +155,13 @@ rows-at f n h i none = go (decLt i n)
     go (no d) =
         let long = length-take n (listBelow f n) in
         List·getD-eq-default (take n (listBelow f n)) 0 (omega arith) ∙ sym (none (omega arith))
+
+-- a word has no node from one on where none is left of it past that many
+pub has-high : (word y k : ℕ) → word / 2 ^ y ≡ 0 → y ≤ k → has word k ≡ false
+has-high word y k e h =
+    let parts : k ≡ y + (k - y) = omega arith in
+    ap (λ (j : ℕ). has word j) parts
+    ∙ ap (λ (x : ℕ). eqb (x % 2) 1) (sym (shr-shr word y (k - y)) ∙ ap (λ (x : ℕ). x / 2 ^ (k - y)) e ∙ zero-div (2 ^ (k - y)))
 
 -- ---- words that meet
 

@@ -1,9 +1,9 @@
 -- The least step out of a node that counts: the least word over all pairs of rows of a table.
 use mathlib.Core.Bool.{Bool, cond, _&&_}
-use mathlib.Core.List.{List, [], _∷_}
+use mathlib.Core.List.{List, [], _∷_, _++_}
 use Prim.Native.Nat.{ℕ, _≤_, _<_, min}
 use lib.Dec.{eqb, ltb, leb}
-use lib.ListN.{getD}
+use lib.ListN.{getD, replicate}
 use Rattle.spec_base.specs.Basic.{any}
 use Rattle.spec_graph.specs.Graph.{Flow}
 use Rattle.spec_graph.specs.Edge.{loosens}
@@ -43,6 +43,10 @@ countedStep need limit p q = min (flowStep need limit Flow.forward p q) (flowSte
 -- a word has room for a step into the row
 unfoldable pub hasWord : Row → Bool
 hasWord q = ltb (q .node) 64 && ltb (q .place) 1024
+
+-- needs that are not given are never met: 1025 is further than any edge opens
+unfoldable pub wholeNeeds : List ℕ → List ℕ
+wholeNeeds needs = needs ++ replicate 64 1025
 
 -- what counts is listed by the node entered
 unfoldable pub pairStep : List ℕ → List ℕ → Row → Row → ℕ

@@ -120,13 +120,17 @@ module _ (needs limits : List ℕ) (p q : Row) {b : Bool} (room : b ≡ hasWord 
   pair-room t = rw (sym room ∙ t) refl
 
   module _ (best : ℕ) (t : b ≡ true) where
-    pub better-found : {s : ℕ} → s ≡ countedStep (getD needs (q .node) 0) (getD limits (q .node) 0) p q → s < best
-        → s ≡ min best (pairStep needs limits p q)
-    better-found e h = let d = pair-room t in omega arith
+    counted-asked : {need limit s : ℕ} → need ≡ getD needs (q .node) 0 → limit ≡ getD limits (q .node) 0 → s ≡ countedStep need limit p q
+        → s ≡ pairStep needs limits p q
+    counted-asked a b e = e ∙ ap₂ (λ (n m : ℕ). countedStep n m p q) a b ∙ sym (pair-room t)
 
-    pub better-not : {s : ℕ} → s ≡ countedStep (getD needs (q .node) 0) (getD limits (q .node) 0) p q → best ≤ s
-        → best ≡ min best (pairStep needs limits p q)
-    better-not e h = let d = pair-room t in omega arith
+    pub better-found : {need limit s : ℕ} → need ≡ getD needs (q .node) 0 → limit ≡ getD limits (q .node) 0 → s ≡ countedStep need limit p q
+        → s < best → s ≡ min best (pairStep needs limits p q)
+    better-found a b e h = let d = counted-asked a b e in omega arith
+
+    pub better-not : {need limit s : ℕ} → need ≡ getD needs (q .node) 0 → limit ≡ getD limits (q .node) 0 → s ≡ countedStep need limit p q
+        → best ≤ s → best ≡ min best (pairStep needs limits p q)
+    better-not a b e h = let d = counted-asked a b e in omega arith
 
     -- nothing is less than the forward step
     pub better-late : {w : ℕ} → w ≡ stepWord (p .place) (q .place) Flow.forward (q .node) → best ≤ w → best ≡ min best (pairStep needs limits p q)
@@ -284,3 +288,8 @@ module _ (table : List ℕ) (n x : ℕ) (needs limits : List ℕ) where
       ∙ sym (least-below (λ p. least (stepFrom needs limits x p) 134217728 (map (rowAt table) (numbers n))) 134217728 (rowAt table) n)
       ∙ ap (λ (k : ℕ). least (λ p. least (stepFrom needs limits x p) 134217728 (map (rowAt table) (numbers k))) 134217728
       (map (rowAt table) (numbers k))) rows
+
+-- the first word of a row is its node
+pub other-first : (table : List ℕ) (i x : ℕ) {y : ℕ} → y ≡ getD table (i * 8) 0 → (y ≡ x → ⊥) → rowAt table i .node ≡ x → ⊥
+unfolding rowAt
+other-first table i x e h same = h (e ∙ same)

@@ -8,7 +8,7 @@ use word_list::has_bit;
 use word_list::word_at;
 ghost use mathlib.Core.Path.{_≡_};
 ghost use Prim.Native.Nat.{_≤_, _<_, min};
-ghost use Rattle.walk_ways.specs.Ways.{waysTo, nextOpening, openings, startsAt, firstStart};
+ghost use Rattle.walk_ways.specs.Ways.{waysTo, nextOpening, opening, openings, startsAt, firstStart};
 
 // The words of a table of ways, of 0 to 64 steps, and of one of openings, of 0 to 65.
 pub const WAYS: usize = 65;
@@ -71,6 +71,22 @@ pub fn openings(rows: &[u64], leads: &[u64], ways: &[u64; WAYS], steps: usize) -
     words
 }
 
+// The nodes that are open with so many steps left to s, at least one and at most 65: words alone, where no table is asked for.
+fn open_word(rows: &[u64], leads: &[u64], s: usize, steps: usize) -> u64
+    requires { ⌜ (0 < steps) × (steps ≤ 65) ⌝ }
+    ensures { λ r. ⌜ r ≡ opening (now (rows .entry)) (now (leads .entry)) (waysTo (now (rows .entry)) s steps) steps ⌝ }
+{
+    let mut nodes: u64 = 0;
+    let mut way = node_word(s);
+    let mut r: usize = 1;
+    while r < steps {
+        nodes = nodes_into(rows, nodes) | nodes_into(leads, way);
+        way = nodes_into(rows, way);
+        r += 1;
+    }
+    nodes
+}
+
 // Whether a closed walk of so many steps from s can have its dangerous pair at or after its first step. None can where no forward edge leaves s.
 fn starts_at(rows: &[u64], leads: &[u64], s: usize, steps: usize) -> bool
     requires { ⌜ s < 64 ⌝ }
@@ -79,9 +95,13 @@ fn starts_at(rows: &[u64], leads: &[u64], s: usize, steps: usize) -> bool
     if word_at(rows, s) == 0 {
         return false;
     }
-    let ways = ways_to(rows, s, steps);
-    let words = openings(rows, leads, &ways, steps);
-    has_bit(word_at(&words, steps), s as u64)
+    if steps == 0 {
+        return false;
+    }
+    if OPENINGS <= steps {
+        return false;
+    }
+    has_bit(open_word(rows, leads, s, steps), s as u64)
 }
 
 // The first node at which a dangerous walk of so many steps can start so, or 64 where there is none.

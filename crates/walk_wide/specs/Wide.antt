@@ -1,7 +1,8 @@
 -- How far the last of so many steps can open, over words.
 use mathlib.Core.Bool.{cond}
 use mathlib.Core.List.{List}
-use Prim.Native.Nat.{ℕ, zero, suc, _+_, _-_, _*_, _/_, _%_, min}
+use mathlib.Core.Path.{_≡_}
+use Prim.Native.Nat.{ℕ, zero, suc, _+_, _-_, _*_, _/_, _%_, _<_, min}
 use lib.Dec.{ltb}
 use lib.ListN.{getD}
 use Rattle.spec_base.specs.Basic.{has}
@@ -37,3 +38,7 @@ widestFrom forwards rows s table i = cond (ltb i 64) (widthInto forwards s i) (g
 -- the words of so many rounds, and at most 64
 unfoldable pub widestTable : List ℕ → List ℕ → ℕ → ℕ → List ℕ
 widestTable forwards rows s rounds = filled 4096 (widestAt forwards rows s) (min rounds 64 * 64)
+
+-- the words of the rounds before r stand
+abbrev pub Above : List ℕ → List ℕ → ℕ → ℕ → List ℕ → Type 0
+Above forwards rows s r table = (i : ℕ) → i < r * 64 → getD table i 0 ≡ widestAt forwards rows s i

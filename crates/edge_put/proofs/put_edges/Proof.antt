@@ -161,8 +161,7 @@ use Rattle.edge_record.specs.declared.Edge.{Edge}
 use Rattle.edge_put.specs.declared.Cursor.{Cursor}
 use Rattle.edge_put.specs.declared.Step.{Step}
 use Rattle.edge_put.specs.declared.Put.{Put}
-use Rattle.edge_put.specs.Cursors.{startFor, slotOf, Standing, Found, Passed}
-use Rattle.edge_put.specs.CursorLaws.{stands-start}
+use Rattle.edge_put.specs.Cursors.{slotOf, Begun, Standing, Found, Passed}
 use Rattle.edge_put.specs.Put.{records, putFirst, answerFor, PutAs}
 use Rattle.edge_put.specs.PutLaws.{Kept, kept-start, kept-more, kept-edge, kept-few, kept-below, put-none, put-length, put-more, put-ended}
 use Rattle.edge_record.proofs.Edge as T
@@ -332,8 +331,8 @@ module _ {M : Type 1} (𝓤 : URA M) (H : Heap 𝓤) (A : Atoms 𝓤) (W : Given
       qed W ((‵ (flft κ q) ⊛ ‵ ftrue) ∷ ‵ (owns (ShrSlice (named 0) κ u64 ∷ Boolean ∷ []) (ar, (fit, tt)) begun) ∷ []) ∵ join ! $ frame ! $ done !
 
   said-start : (c : Cursor) → ent 𝓤 (ensured 𝓤 H A start-fn.ended (start-fn.clauses 𝓤 H A mem run) (κ, tt) (ar, (fit, tt)) tt c)
-      (fact 𝓤 (c ≡ startFor seed fit))
-  said-start c = exE 𝓤 _ (λ ws. snd∗ 𝓤 (sem 𝓤 H A (lasts start-fn.ended (κ, tt) (ar, (fit, tt)) ws)) (fact 𝓤 (c ≡ startFor seed fit)))
+      (fact 𝓤 (Begun seed fit c))
+  said-start c = exE 𝓤 _ (λ ws. snd∗ 𝓤 (sem 𝓤 H A (lasts start-fn.ended (κ, tt) (ar, (fit, tt)) ws)) (fact 𝓤 (Begun seed fit c)))
 
   -- `answered` is passed whether they fit and how many are put
   abbrev counts : ℕ → List Val × (List Val × Unit {0})
@@ -381,12 +380,12 @@ module _ {M : Type 1} (𝓤 : URA M) (H : Heap 𝓤) (A : Atoms 𝓤) (W : Given
   Nearer-wf : WellFounded Nearer
   Nearer-wf = InvImage·wf (λ (i : Upto). total - i .done-to) (Nat·lt-wfRel .wf)
 
-  abbrev start : (c : Cursor) (v : Val) → Is C.the-row c (v ∷ []) → c ≡ startFor seed fit → Upto
+  abbrev start : (c : Cursor) (v : Val) → Is C.the-row c (v ∷ []) → Begun seed fit c → Upto
   start c v is e = record {
     done-to = 0;
     cursor = c;
-    stands = subst (Standing seed) (sym e) (stands-start seed fit);
-    kept = subst (λ (d : Cursor). Kept seed fit (slotOf d) 0) (sym e) (kept-start seed fit);
+    stands = e .stands;
+    kept = kept-start seed fit c e;
     val = v;
     typed = is;
   }
@@ -554,7 +553,7 @@ module _ {M : Type 1} (𝓤 : URA M) (H : Heap 𝓤) (A : Atoms 𝓤) (W : Given
         fits h = let l : length ys * 48 < 2 ^ 63 = room .1 in omega arith
 
     -- the loop and what follows it
-    looped : (c : Cursor) (v : Val) (is : Is C.the-row c (v ∷ [])) (e : c ≡ startFor seed fit) → Sq W (At (start c v is e))
+    looped : (c : Cursor) (v : Val) (is : Is C.the-row c (v ∷ [])) (e : Begun seed fit c) → Sq W (At (start c v is e))
         (runs Ca Λ En parts.t-5 (atRet En Post))
     looped c v is e = first ! $ blocks ! $ loops ! 𝓣 Nearer Nearer-wf At turns (start c v is e)
 
@@ -597,7 +596,7 @@ module _ {M : Type 1} (𝓤 : URA M) (H : Heap 𝓤) (A : Atoms 𝓤) (W : Given
       (and-then ! (load ! (from ! (stop !)) (look ! 22 refl)) (and-then ! (load ! (from ! (stop !)) (look ! 18 refl)) (no-more !))) (λ v.
       use1 W (later (some (λ (c : Cursor). ((‵ (flft κ q) ⊛ ‵ ftrue) ⊛ ‵ (C.the-row .own c (v ∷ []))) ⊛ raw
       (ensured 𝓤 H A start-fn.ended (start-fn.clauses 𝓤 H A mem run) (κ, tt) (ar, (fit, tt)) tt c)))) (id⊢ 𝓤 _) $ await ! tt $ pick ! (λ c.
-      split ! $ move ! (1 ∷ []) $ use1 W (raw (fact 𝓤 (c ≡ startFor seed fit))) (said-start c) $ heard ! (c ≡ startFor seed fit) (λ d. split !
+      split ! $ move ! (1 ∷ []) $ use1 W (raw (fact 𝓤 (Begun seed fit c))) (said-start c) $ heard ! (Begun seed fit c) (λ d. split !
       $ move ! (1 ∷ []) $
       facts ! C.the-row (Is C.the-row) (shows 𝓤 H A C.the-row) c (v ∷ []) (λ is₁.
       -- [the token and true; the table's; out's token; out's; _10; …; _9; …; _8; …; _7; …; _6; …; _5; …; _4; …]

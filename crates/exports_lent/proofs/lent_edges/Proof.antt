@@ -1,4 +1,4 @@
--- A walk of its code by hand. The text and the words to work in go to `text_rows`; the table of rows is lent again for that call, and comes back
+-- A walk of its code by hand. The text and the words to work in go to `linked_rows`; the table of rows is lent again for that call, and comes back
 -- with the rows of the text at its front. Those are lent as a shared slice for a lifetime of their own, and with the caller's list go to
 -- `put_edges`; then the table is whole again, and `edges_word` gives the answer.
 use mathlib.Core.Path.{_≡_, refl, sym, ap, subst}
@@ -150,19 +150,20 @@ use Rattle.edge_count.specs.Slots.{tableEdges}
 use Rattle.edge_put.specs.declared.Put.{Put as Answer}
 use Rattle.edge_put.specs.Put.{putSaid, PutAs}
 use Rattle.place_text.specs.declared.TextRows.{TextRows}
-use Rattle.place_text.specs.Placed.{TextPlaced}
 use Rattle.exports.specs.TextEdges.{TextEdges, FewPut}
 use Rattle.exports_lent.specs.EdgesTold.{edgesTold}
-use Rattle.exports_lent.specs.EdgesLaws.{words-long, text-few, text-settled}
+use Rattle.lent_words.specs.Lent.{Lent}
+use Rattle.exports_lent.specs.Linked.{TextLinked, RowsLinked}
+use Rattle.exports_lent.specs.LinkedLaws.{linked-long, linked-few, linked-settled}
 use Rattle.edge_record.proofs.Edge as T
 use Rattle.edge_put.proofs.Put as R
 use Rattle.edge_put.proofs.Put.Laws as R′
 use Rattle.place_text.proofs.TextRows as P
 use Rattle.place_text.proofs.TextRows.Laws as P′
-use Rattle.place_text.proofs.text_rows as rows-fn
-use Rattle.place_text.proofs.text_rows.Symbol as rows-def
-use Rattle.place_text.proofs.text_rows.Symbol.{name as #place_text·text-rows}
-use Rattle.place_text.proofs.text_rows.Met as rows-thm
+use Rattle.exports_lent.proofs.linked_rows as rows-fn
+use Rattle.exports_lent.proofs.linked_rows.Symbol as rows-def
+use Rattle.exports_lent.proofs.linked_rows.Symbol.{name as #exports_lent·linked-rows}
+use Rattle.exports_lent.proofs.linked_rows.Met as rows-thm
 use Rattle.edge_put.proofs.put_edges as put-fn
 use Rattle.edge_put.proofs.put_edges.Symbol as put-def
 use Rattle.edge_put.proofs.put_edges.Symbol.{name as #edge_put·put-edges}
@@ -334,7 +335,16 @@ module _ {M : Type 1} (𝓤 : URA M) (H : Heap 𝓤) (A : Atoms 𝓤) (W : Given
   abbrev Tokens : Item 𝓤
   Tokens = ‵ (flft κ q) ⊛ (‵ (flft κ₁ q₁) ⊛ (‵ (flft κ₂ q₂) ⊛ (‵ (flft κ₃ q₃) ⊛ (‵ (flft κ₄ q₄) ⊛ (‵ (flft κ₅ q₅) ⊛ ‵ ftrue)))))
 
-  exits : (r : ℕ) (w₁ w₂ w₃ w₄ : List ℕ) (zs : List Edge) → r < 2 ^ 32 → length zs ≡ length ys → TextEdges (read text) ys r zs
+  -- what is said of the words that are lent to work in
+  abbrev Left : List ℕ → List ℕ → List ℕ → List ℕ → Type 0
+  Left w₁ w₂ w₃ w₄ = Lent (x₁ .now) w₁ × Lent (x₂ .now) w₂ × Lent (x₃ .now) w₃ × RowsLinked (read text) rs w₄
+
+  -- what `linked_rows` promises
+  abbrev Placed : TextRows → List ℕ → List ℕ → List ℕ → List ℕ → Type 0
+  Placed p w₁ w₂ w₃ w₄ = TextLinked (read text) rs p w₄ × (Lent (x₁ .now) w₁ × Lent (x₂ .now) w₂ × Lent (x₃ .now) w₃)
+
+  exits : (r : ℕ) (w₁ w₂ w₃ w₄ : List ℕ) (zs : List Edge) → r < 2 ^ 32 → length zs ≡ length ys
+      → TextEdges (read text) ys r zs × Left w₁ w₂ w₃ w₄
       → ent 𝓤 (⋆ 𝓤 H A (Tokens ∷ ‵ OwnA ∷ ‵ (ended-with 424 x₁ w₁) ∷ ‵ (ended-with 12928 x₂ w₂) ∷ ‵ (ended-with 512 x₃ w₃) ∷ ‵ (OwnRows w₄) ∷ ‵
       (finally T.the-row γ zs) ∷ [])) (Post (vint w32 r))
   exits r w₁ w₂ w₃ w₄ zs fits same ok =
@@ -347,7 +357,7 @@ module _ {M : Type 1} (𝓤 : URA M) (H : Heap 𝓤) (A : Atoms 𝓤) (W : Given
       $ move ! (2 ∷ 0 ∷ []) $ fjoin ! $ move ! (1 ∷ 0 ∷ []) $ fjoin ! $
       owned ! u32 (Is u32) (uint-makes 𝓤 H A W w32) r _ (refl, fits) $ move ! (1 ∷ 0 ∷ []) $ done !
 
-  -- what `text_rows` is passed: the text, the areas to work in, and the table, lent again under the name g for the lifetime α
+  -- what `linked_rows` is passed: the text, the areas to work in, and the table, lent again under the name g for the lifetime α
   module _ (α : Lft) (g : GName) where
     abbrev five : Five
     five = (ar, (x₁, (x₂, (x₃, (at b₄ o₄ g rs, tt)))))
@@ -397,7 +407,7 @@ module _ {M : Type 1} (𝓤 : URA M) (H : Heap 𝓤) (A : Atoms 𝓤) (W : Given
     said-word m = exE 𝓤 _ (λ ws. snd∗ 𝓤 (sem 𝓤 H A (lasts word-fn.ended tt (n, (l, (r, tt))) ws)) (fact 𝓤 (m ≡ edgesTold n l (putSaid r))))
 
   module _ (C : Calls 𝓤 H) (Λ : Loops 𝓤 H) (fm : FmC 𝓤 H (W .laws) C)
-      (known-rows : Triple 𝓤 (C #place_text·text-rows) (Rows 𝓤 H A mem run)) (known-put : Triple 𝓤 (C #edge_put·put-edges) (Put 𝓤 H A mem run))
+      (known-rows : Triple 𝓤 (C #exports_lent·linked-rows) (Rows 𝓤 H A mem run)) (known-put : Triple 𝓤 (C #edge_put·put-edges) (Put 𝓤 H A mem run))
       (known-word : Triple 𝓤 (C #exports_lent·edges-word) (Word 𝓤 H A mem run)) where
     walk : Is (ShrSlice (named 0) κ u8) ar (sv ∷ []) → Is (MutSlice (named 5) κ₅ T.the-row) x (s ∷ []) → Room T.the-row (length ys)
         → ent 𝓤 (onEntry 𝓤 H A f.signature (κ, (κ₁, (κ₂, (κ₃, (κ₄, (κ₅, tt)))))) (q, (q₁, (q₂, (q₃, (q₄, (q₅, tt)))))) a vals)
@@ -436,7 +446,7 @@ module _ {M : Type 1} (𝓤 : URA M) (H : Heap 𝓤) (A : Atoms 𝓤) (W : Given
         nothing ! $ move ! (3 ∷ 0 ∷ []) $ join ! $ move ! (4 ∷ 0 ∷ []) $ join ! $ move ! (4 ∷ 0 ∷ []) $ join ! $ move ! (4 ∷ 0 ∷ []) $ join ! $
         move ! (4 ∷ 0 ∷ []) $ join ! $
         use2 W (raw (Rows 𝓤 H A mem run .pre (to-rows (α ∷ []) h))) (asked-rows (α ∷ []) h) $
-        -- `text_rows`: [what it asks; what is kept of the table; the list's token; the list; the text; _17; …]
+        -- `linked_rows`: [what it asks; what is kept of the table; the list's token; the list; the text; _17; …]
         calls-at ! fm (Rows 𝓤 H A mem run) known-rows (to-rows (α ∷ []) h)
         (and-then ! (load ! (from ! (stop !)) (look ! 37 refl)) (and-then ! (load ! (from ! (stop !)) (look ! 19 refl))
         (and-then ! (load ! (from ! (stop !)) (look ! 17 refl)) (and-then ! (load ! (from ! (stop !)) (look ! 15 refl))
@@ -447,8 +457,8 @@ module _ {M : Type 1} (𝓤 : URA M) (H : Heap 𝓤) (A : Atoms 𝓤) (W : Given
         split ! $ move ! (1 ∷ []) $ use1 W
         (some (λ (ws : Unit {0} × (List ℕ × (List ℕ × (List ℕ × (List ℕ × Unit {0}))))). ‵
         (lasts rows-fn.ended (κ, (κ₁, (κ₂, (κ₃, (α ∷ [], tt))))) (five (α ∷ []) h) ws) ⊛ raw
-        (fact 𝓤 (TextPlaced (read text) rs p (ws .1 .1 .1 .1 .0))))) (id⊢ 𝓤 _) $ pick ! (λ ws.
-        split ! $ move ! (1 ∷ []) $ heard ! (TextPlaced (read text) rs p (ws .1 .1 .1 .1 .0)) (λ placed.
+        (fact 𝓤 (Placed p (ws .1 .0) (ws .1 .1 .0) (ws .1 .1 .1 .0) (ws .1 .1 .1 .1 .0))))) (id⊢ 𝓤 _) $ pick ! (λ ws.
+        split ! $ move ! (1 ∷ []) $ heard ! (Placed p (ws .1 .0) (ws .1 .1 .0) (ws .1 .1 .1 .0) (ws .1 .1 .1 .1 .0)) (λ placed.
         -- [the table's last words; those of places; of lines; of state; the tokens and the result; what is kept of the table; …]
         fsplit ! $ drop ! $ fsplit ! $ move ! (1 ∷ []) $ fsplit ! $ move ! (1 ∷ []) $ fsplit ! $ move ! (1 ∷ []) $ fsplit ! $ move ! (1 ∷ []) $
         drop ! $
@@ -477,7 +487,7 @@ module _ {M : Type 1} (𝓤 : URA M) (H : Heap 𝓤) (A : Atoms 𝓤) (W : Given
         assigns ! (agg ! (and-then ! (load ! (from ! (stop !)) (look ! 14 refl))
         (and-then ! (load ! (from ! (fld ! refl (stop !))) (look-in ! 34 (sub ! 1 refl (whole !)))) (no-more !)))) (from ! (stop !))
         (init ! 12 refl (tt, (tt, (record { fits = rm .0 }, tt)))) $
-        rewrite ! 16 (λ (m : ℕ). ‵ (fat fullShare shared l₁₅ 0 (sliceVal (b₄, o₄) m))) (words-long text placed) refl $
+        rewrite ! 16 (λ (m : ℕ). ‵ (fat fullShare shared l₁₅ 0 (sliceVal (b₄, o₄) m))) (linked-long text (placed .0)) refl $
         -- the first words of the table are lent, for a lifetime β
         lft-new ! tt (λ β. move ! (1 ∷ 2 ∷ 0 ∷ []) $
         use3 W (later (some (λ (i : GName). ‵ (First 𝓤 H A W κ₄ (β ∷ []) q₄ b₄ o₄ γ₄ (ws .1 .1 .1 .1 .0) i (take (p .words) (ws .1 .1 .1 .1 .0))) ⊛
@@ -519,7 +529,7 @@ module _ {M : Type 1} (𝓤 : URA M) (H : Heap 𝓤) (A : Atoms 𝓤) (W : Given
         nothing ! $ owned ! R.the-row (Is R.the-row) (EL.makes R.the-type R′.the-plain 𝓤 H A) r (v ∷ []) put-is $ fjoin ! $ owned ! u64 (Is u64)
         (uint-makes 𝓤 H A W w64) (p .line) _ (refl, line-fits p is) $ fjoin ! $ owned ! u8 (Is u8) (uint-makes 𝓤 H A W w8) (p .number) _
         (refl, number-fits p is) $ fjoin ! $ nothing ! $
-        use2 W (raw (Word 𝓤 H A mem run .pre (to-word (p .number) (p .line) r v))) (asked-word (p .number) (p .line) r v (text-few text placed
+        use2 W (raw (Word 𝓤 H A mem run .pre (to-word (p .number) (p .line) r v))) (asked-word (p .number) (p .line) r v (linked-few text (placed .0)
         edges)) $
         calls-at ! fm (Word 𝓤 H A mem run) known-word (to-word (p .number) (p .line) r v)
         (and-then ! (load ! (from ! (fld ! refl (stop !))) (look-in ! 28 (sub ! 0 refl (whole !))))
@@ -544,8 +554,10 @@ module _ {M : Type 1} (𝓤 : URA M) (H : Heap 𝓤) (A : Atoms 𝓤) (W : Given
         move ! (17 ∷ 18 ∷ []) $ free1 ! $ move ! (15 ∷ 16 ∷ []) $ free1 ! $ move ! (13 ∷ 14 ∷ []) $ free1 ! $ move ! (11 ∷ 12 ∷ []) $ free1 ! $
         move ! (9 ∷ 10 ∷ []) $ free1 ! $ move ! (7 ∷ 8 ∷ []) $ free1 ! $ free0 ! $
         keep ! (0 ∷ 6 ∷ 5 ∷ 4 ∷ 3 ∷ 1 ∷ 2 ∷ []) $
-        by ! (exits n (ws .1 .0) (ws .1 .1 .0) (ws .1 .1 .1 .0) (ws .1 .1 .1 .1 .0) (zs .1 .0) (answer-is .1) same (text-settled text placed edges
-        word)))))))))))))))))))))))))))))))))))))))
+        by ! (exits n (ws .1 .0) (ws .1 .1 .0) (ws .1 .1 .1 .0) (ws .1 .1 .1 .1 .0) (zs .1 .0) (answer-is .1) same (
+          linked-settled text (placed .0) edges word,
+          (placed .1 .0, placed .1 .1, placed .1 .2, record { rows = p; linked = placed .0 }),
+        )))))))))))))))))))))))))))))))))))))))
       where
         number-fits : (p : TextRows) {v : List Val} → Is P.the-row p v → p .number < 2 ^ 8
         number-fits p {v} is = LL.owed P.the-type P′.the-laws p v is .0 .1
@@ -557,7 +569,7 @@ module _ {M : Type 1} (𝓤 : URA M) (H : Heap 𝓤) (A : Atoms 𝓤) (W : Given
         words-fit p {v} is = LL.owed P.the-type P′.the-laws p v is .1 .1 .1 .1 .0 .1
 
 module _ {M : Type 1} (𝓤 : URA M) (H : Heap 𝓤) (A : Atoms 𝓤) (W : Given 𝓤 H A) (mem : Memory → SProp 𝓤) (run : Routine → Fun 𝓤)
-    (𝓣 : Tables 𝓤 H) (known-rows : Triple 𝓤 (𝓣 .C #place_text·text-rows) (Rows 𝓤 H A mem run))
+    (𝓣 : Tables 𝓤 H) (known-rows : Triple 𝓤 (𝓣 .C #exports_lent·linked-rows) (Rows 𝓤 H A mem run))
     (known-put : Triple 𝓤 (𝓣 .C #edge_put·put-edges) (Put 𝓤 H A mem run))
     (known-word : Triple 𝓤 (𝓣 .C #exports_lent·edges-word) (Word 𝓤 H A mem run)) where
   edges-walks : Walks 𝓤 H A f.ended stayed (WpFn 𝓤 H (𝓣 .C) (𝓣 .Λ) code.function) (f.clauses 𝓤 H A mem run)
@@ -610,7 +622,7 @@ lent-edges-spec 𝓤 H 𝓜 𝓖 𝓡 =
     entered 𝓤 H (tripleOf 𝓤 H (𝓖 .A) f.signature (f.spec 𝓤 H (𝓖 .A) (𝓜 .mem) (𝓡 .run)))
     (tables 𝓤 H 𝓜 𝓡 code.env .C) (tables 𝓤 H 𝓜 𝓡 code.env .Λ) #exports_lent·lent-edges code.function (code.unfolded 𝓤 H 𝓜 𝓡)
     (edges-meets 𝓤 H (𝓖 .A) (givenOf 𝓤 H 𝓜 𝓖) (𝓜 .mem) (𝓡 .run) (tablesOf 𝓤 H 𝓜 (tables 𝓤 H 𝓜 𝓡 code.env))
-    (cited 𝓤 H (Rows 𝓤 H (𝓖 .A) (𝓜 .mem) (𝓡 .run)) 𝓜 𝓡 code.env #place_text·text-rows rows-def.routine code.calls-place-text·text-rows
+    (cited 𝓤 H (Rows 𝓤 H (𝓖 .A) (𝓜 .mem) (𝓡 .run)) 𝓜 𝓡 code.env #exports_lent·linked-rows rows-def.routine code.calls-exports-lent·linked-rows
     (rows-thm.met 𝓤 H 𝓜 𝓖 𝓡))
     (cited 𝓤 H (Put 𝓤 H (𝓖 .A) (𝓜 .mem) (𝓡 .run)) 𝓜 𝓡 code.env #edge_put·put-edges put-def.routine code.calls-edge-put·put-edges
     (put-thm.met 𝓤 H 𝓜 𝓖 𝓡))

@@ -6,13 +6,13 @@ use Rattle.exports_lent.proofs.lent_verdict.Tie as tie
 
 returns : tie.Need-returns
 returns c =
-    stage-unread _ (c .before .before .before .before .before .before .text-verdict .ensures) (c .before .before .told .given .1)
-    (c .refusal-word .ensures)
+    let judged = c .before .before .before .before .before .before .text-verdict .ensures in
+    (stage-unread _ (judged .0) (c .before .before .told .given .1) (c .refusal-word .ensures), judged .1)
 
 returns-2 : tie.Need-returns-2
 returns-2 c =
-    stage-judged _ (c .before .before .before .before .before .before .text-verdict .ensures) (c .before .before .told2 .given .1)
-    (c .verdict-word .ensures)
+    let judged = c .before .before .before .before .before .before .text-verdict .ensures in
+    (stage-judged _ (judged .0) (c .before .before .told2 .given .1) (c .verdict-word .ensures), judged .1)
 
 pub lent-verdict-spec : {M : Type 1} → statement M
 lent-verdict-spec =

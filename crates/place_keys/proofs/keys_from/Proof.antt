@@ -1,6 +1,7 @@
 -- What the lines from i on add to each half is what those from `first` on add to 0: each line keeps this (keys-next), and at a `pr` or the end
--- nothing more is added (keys-stop, keys-end). Keys are below 32 (key-small), so the halves stand side by side (keys-packed).
-use Rattle.place_keys.proofs.KeyLaws.{keys-next, keys-stop, keys-end, key-small, keys-packed}
+-- nothing more is added (keys-stop, keys-end). A line of another child adds nothing (other-child). Keys are below 32 (key-small), so the halves
+-- stand side by side (keys-packed).
+use Rattle.place_keys.proofs.KeyLaws.{other-child, keys-next, keys-stop, keys-end, key-small, keys-packed}
 use Rattle.place_keys.specs.LineKeys.{keysFrom}
 use borrow.Author.Needs.{needs}
 use native.Mathlib.Omega.{arith}
@@ -39,10 +40,24 @@ returns c =
 
 loop-again : tie.Need-loop-again Inv-loop μ-loop
 loop-again c =
-    let near = c .before in
-    let code = near .before .before in
+    let of = c .before in
+    let code = of .before .before in
     let inside = code .before .loop-test .taken in
-    let other = near .before .if1 .left in
+    let other = of .before .if1 .left in
+    let inv = code .before .before .loop .inv in (
+      keys-next _ _ _ _ _ _ inside _ (code .word-at .ensures) other _ (other-child _ _ _ _ _ _ (of .word-at2 .ensures) (c .if2 .taken)) ∙ inv .0,
+      keys-next _ _ _ _ _ _ inside _ (code .word-at .ensures) other _ (other-child _ _ _ _ _ _ (of .word-at2 .ensures) (c .if2 .taken)) ∙ inv .1,
+      inv .2,
+      inv .3,
+    )
+
+loop-again-2 : tie.Need-loop-again-2 Inv-loop μ-loop
+loop-again-2 c =
+    let near = c .before in
+    let tested = near .before .before .before in
+    let code = tested .before in
+    let inside = code .before .loop-test .taken in
+    let other = tested .if1 .left in
     let inv = code .before .before .loop .inv in (
       keys-next _ _ _ _ _ _ inside _ (code .word-at .ensures) other _ (near .key-at .ensures) ∙ inv .0,
       keys-next _ _ _ _ _ _ inside _ (code .word-at .ensures) other _ (c .key-at2 .ensures) ∙ inv .1,
@@ -73,11 +88,17 @@ keys-from-spec =
     mul-result
     add-result
     returns
-    (λ c κs. search needs)
+    (λ c. search needs)
+    (λ c. search needs)
     (λ c κs. search needs)
     (λ c. search needs)
     (λ c. search needs)
     loop-again
+    (λ c κs. search needs)
+    (λ c κs. search needs)
+    (λ c. search needs)
+    (λ c. search needs)
+    loop-again-2
     mul-result-2
     add-result-2
     returns-2)

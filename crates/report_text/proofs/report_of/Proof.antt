@@ -10,12 +10,12 @@ use Rattle.report_text.proofs.report_of.Tie as tie
 returns : tie.Need-returns
 returns c =
     let c5 = c .before .before .before .before .before in
-    reported-unread _ (c5 .text-verdict .ensures) (c .before .before .told .given .1) (c .refusal-printed .ensures)
+    reported-unread _ (c5 .text-verdict .ensures .0) (c .before .before .told .given .1) (c .refusal-printed .ensures)
 
 returns-2 : tie.Need-returns-2
 returns-2 c =
     let c6 = c .before .before .before .before .before .before in
-    reported-judged _ (c6 .text-verdict .ensures) (c .before .before .before .told2 .given .1) (length-replicate {A = ℕ} 260 0)
+    reported-judged _ (c6 .text-verdict .ensures .0) (c .before .before .before .told2 .given .1) (length-replicate {A = ℕ} 260 0)
     (c .verdict-printed .ensures)
 
 pub report-of-spec : {M : Type 1} → statement M

@@ -2,8 +2,8 @@
 -- goes on from the next place; at the end it comes to no line more.
 use mathlib.Core.Path.{_≡_, sym, _∙_}
 use native.Mathlib.Omega.{arith}
-use Prim.Native.Nat.{ℕ, _-_}
-use lib.ListN.{length, length-replicate}
+use Prim.Native.Nat.{_-_}
+use lib.ListN.{length}
 use borrow.Author.Needs.{needs}
 use Rattle.text_lines.specs.declared.Step.the-variants.{Line as AtLine, End as AtEnd}
 use Rattle.text_lines.specs.Span.{lineAt}
@@ -20,21 +20,21 @@ abbrev μ-loop : tie.MeasureT-loop
 μ-loop text start words₀ at₀ words at = length text - at
 
 -- where the reader has come to a line
-line-at : (c : tie.After-known-told Inv-loop μ-loop) → AtLine (c .before .span .given .0 .0)
+line-there : (c : tie.After-known-told Inv-loop μ-loop) → AtLine (c .before .span .given .0 .0)
     ≡ lineAt (c .before .before .before .before .before .before .before .before .args .text .now)
     (c .before .before .before .before .loop .at) 0
-line-at c = sym (c .before .span .given .1) ∙ c .before .before .before .line-from .ensures
+line-there c = sym (c .before .span .given .1) ∙ c .before .before .before .line-at .ensures
 
 -- what that line is
 came-at : (c : tie.After-known-told Inv-loop μ-loop)
     → Came (c .before .before .before .before .before .before .before .before .args .text .now)
     (c .before .before .before .before .loop .at) 0 (c .before .span .given .0 .0)
-came-at c = came _ _ _ (line-at c)
+came-at c = came _ _ _ (line-there c)
 
 -- where it has come to the end
 end-at : (c : tie.After-enum-told Inv-loop μ-loop) → AtEnd
     ≡ lineAt (c .before .before .before .before .before .before .before .args .text .now) (c .before .before .before .loop .at) 0
-end-at c = sym (c .enum-told .given .1) ∙ c .before .before .line-from .ensures
+end-at c = sym (c .enum-told .given .1) ∙ c .before .before .line-at .ensures
 
 start-requires : tie.Need-start-requires Inv-loop μ-loop
 start-requires c κs = search needs
@@ -42,10 +42,10 @@ start-requires c κs = search needs
 loop-holds : tie.Need-loop-holds Inv-loop μ-loop
 loop-holds c =
     let entry = c .before .before .before in
-    taking-first (entry .args .text .now) (entry .args .start) (c .start .ensures .1 (omega (arith, length-replicate {A = ℕ} 424 0)))
+    taking-first (entry .args .text .now) (entry .args .start) (c .start .ensures .1)
 
-line-from-requires : tie.Need-line-from-requires Inv-loop μ-loop
-line-from-requires c κs = search needs
+line-at-requires : tie.Need-line-at-requires Inv-loop μ-loop
+line-at-requires c κs = search needs
 
 enum-known-span : tie.Need-enum-known-span Inv-loop μ-loop
 enum-known-span c = search needs
@@ -72,7 +72,7 @@ returns : tie.Need-returns Inv-loop μ-loop
 returns c =
     let seen = c .before .before .before .before in
     c .counted .ensures _
-    (taking-stops (seen .before .before .before .before .before .before .before .loop .inv) (line-at (seen .before .before .before))
+    (taking-stops (seen .before .before .before .before .before .before .before .loop .inv) (line-there (seen .before .before .before))
     (seen .see-bytes .ensures) (c .before .before .if1 .taken))
 
 loop-less : tie.Need-loop-less Inv-loop μ-loop
@@ -81,7 +81,7 @@ loop-less c = let here = came-at (c .before .before .before .before .before) in 
 loop-again : tie.Need-loop-again Inv-loop μ-loop
 loop-again c =
     let seen = c .before .before in
-    taking-next (seen .before .before .before .before .before .before .before .loop .inv) (line-at (seen .before .before .before))
+    taking-next (seen .before .before .before .before .before .before .before .loop .inv) (line-there (seen .before .before .before))
     (seen .see-bytes .ensures) (c .if1 .left)
 
 counted-requires-2 : tie.Need-counted-requires-2 Inv-loop μ-loop
@@ -99,7 +99,7 @@ before-lines-spec =
     μ-loop
     start-requires
     loop-holds
-    line-from-requires
+    line-at-requires
     enum-known-span
     enum-told
     sub-see-bytes

@@ -2,7 +2,8 @@
 use borrow.Author.Needs.{needs}
 use native.Mathlib.Omega.{arith}
 use lib.ListN.{getD}
-use Rattle.text_fields.specs.RunLaws.{decimal-is, decimal-not}
+use Rattle.text_number.specs.DigitLaws.{decimal-is}
+use Rattle.text_fields.specs.RunLaws.{decimal-not}
 use Rattle.text_fields.proofs.decimal_at.Statement.{statement}
 use Rattle.text_fields.proofs.decimal_at.Tie as tie
 

@@ -1,62 +1,59 @@
--- The first field is the word; what follows it is read by the kind.
-use mathlib.Core.Path.{_≡_, ap, sym, _∙_}
-use native.Mathlib.Omega.{arith}
-use lib.Seq.{length-take-le}
+-- The line in front is all of the bytes where it ends with them; where one of them ends a line, they are none.
 use borrow.Author.Needs.{needs}
+use mathlib.Core.Path.{sym, _∙_}
+use native.Mathlib.Omega.{arith}
 use Rattle.text_fields.specs.AnswerLaws.{answers}
-use Rattle.text_fields.specs.FieldStep.{kindAnswer}
-use Rattle.text_fields.specs.Field.{fieldLength}
-use Rattle.text_fields.specs.FieldLaws.{length-field, line-none, line-some}
+use Rattle.text_fields.specs.BrokenLaws.{of-nothing, of-closed, of-wrong, of-over, of-value}
 use Rattle.text_fields.proofs.line_of.Statement.{statement}
 use Rattle.text_fields.proofs.line_of.Tie as tie
 
-field-end-requires : tie.Need-field-end-requires
-field-end-requires c κs = search needs
+returns : tie.Need-returns
+returns c = answers (of-nothing _ (c .if1 .taken))
 
-slice-aggregate-kind-of : tie.Need-slice-aggregate-kind-of
-slice-aggregate-kind-of c =
-    sym
-    (length-take-le _ _ (omega (arith, c .before .field-end .ensures, length-field (c .before .before .before .args .bytes .now))))
+sub-if2 : tie.Need-sub-if2
+sub-if2 c = search needs
 
-kind-of-requires : tie.Need-kind-of-requires
-kind-of-requires c κs = search needs
+shared-slice-read-if2 : tie.Need-shared-slice-read-if2
+shared-slice-read-if2 c = search needs
 
-enum-known-r : tie.Need-enum-known-r
-enum-known-r c = search needs
+returns-2 : tie.Need-returns-2
+returns-2 c = answers (of-closed _ (omega arith) (c .if2 .taken))
 
-line-after-word-requires : tie.Need-line-after-word-requires
-line-after-word-requires c κs = search needs
+line-in-requires : tie.Need-line-in-requires
+line-in-requires c κs = search needs
+
+enum-known-l : tie.Need-enum-known-l
+enum-known-l c = search needs
 
 enum-told : tie.Need-enum-told
 enum-told c = search needs
 
-returns : tie.Need-returns
-returns c = let bytes = c .before .before .before .before .before .before .before .before .args .bytes .now in
-    let ends : c .before .before .before .before .before .before .field-end .result ≡ fieldLength bytes =
-    omega (arith, c .before .before .before .before .before .before .field-end .ensures)
-    in
-    c .line-after-word .ensures
-    ∙ rw ends
-    (answers
-    (line-some bytes
-    (rw (← ends) (sym (c .before .before .before .before .kind-of .ensures) ∙ ap kindAnswer (c .before .before .r .given .1)))))
+returns-3 : tie.Need-returns-3
+returns-3 c = answers (of-wrong _ (sym (c .enum-told .given .1) ∙ c .before .before .line-in .ensures))
 
-returns-2 : tie.Need-returns-2
-returns-2 c = let bytes = c .before .before .before .before .before .before .args .bytes .now in
-    let ends : c .before .before .before .before .field-end .result ≡ fieldLength bytes =
-    omega (arith, c .before .before .before .before .field-end .ensures)
-    in
-    answers (line-none bytes (rw (← ends) (sym (c .before .before .kind-of .ensures) ∙ ap kindAnswer (c .enum-told .given .1))))
+returns-4 : tie.Need-returns-4
+returns-4 c =
+    let at-line = c .before .before in
+    answers (of-over _ (sym (at-line .l .given .1) ∙ at-line .before .before .line-in .ensures) (c .if3 .taken))
+
+returns-5 : tie.Need-returns-5
+returns-5 c =
+    let at-line = c .before .before in
+    answers
+    (of-value _ (sym (at-line .l .given .1) ∙ at-line .before .before .line-in .ensures) (c .if3 .left)
+    (at-line .before .before .before .if2 .left))
 
 pub line-of-spec : {M : Type 1} → statement M
 line-of-spec =
     tie.close
     (tie.spec
-    field-end-requires
-    slice-aggregate-kind-of
-    kind-of-requires
-    enum-known-r
-    line-after-word-requires
-    enum-told
     returns
-    returns-2)
+    sub-if2
+    shared-slice-read-if2
+    returns-2
+    line-in-requires
+    enum-known-l
+    enum-told
+    returns-3
+    returns-4
+    returns-5)

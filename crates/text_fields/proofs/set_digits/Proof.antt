@@ -39,22 +39,22 @@ returns-3 c =
       within = c .ended .ensures .within;
     }
 
-add-set-run : tie.Need-add-set-run
-add-set-run c = search needs
+add-set-more : tie.Need-add-set-more
+add-set-more c = search needs
 
-set-run-requires : tie.Need-set-run-requires
-set-run-requires c κs = search needs
+set-more-requires : tie.Need-set-more-requires
+set-more-requires c κs = search needs
 
 returns-4 : tie.Need-returns-4
 returns-4 c =
     let digit = c .before .before .before .digit-of .ensures in
     record {
       gives =
-          c .set-run .ensures .gives
+          c .set-more .ensures .gives
           ∙ rw digit
           (at-digit _ _ _ _ _ (c .before .before .before .before .before .if1 .left) (rw (← digit) (c .before .before .if2 .left))
           (λ z. c .before .if3 .left (digit ∙ z)));
-      within = c .set-run .ensures .within;
+      within = c .set-more .ensures .within;
     }
 
 pub set-digits-spec : {M : Type 1} → statement M
@@ -68,6 +68,6 @@ set-digits-spec =
     add-ended
     ended-requires
     returns-3
-    add-set-run
-    set-run-requires
+    add-set-more
+    set-more-requires
     returns-4)

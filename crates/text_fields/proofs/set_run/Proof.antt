@@ -1,10 +1,11 @@
 -- The digits read so far stand for `value`, which is below 16 to their number, and so fits a word; what is left to read gives the answer.
 use borrow.Author.Needs.{needs}
-use mathlib.Core.Path.{_≡_, refl, sym, _∙_}
+use mathlib.Core.Path.{_≡_, sym, _∙_}
 use native.Mathlib.Omega.{arith}
-use Prim.Native.Nat.{suc, _+_, _-_, _*_, _^_, _≤_, _<_}
-use lib.ListN.{length, drop}
-use Rattle.text_number.specs.DigitLaws.{next-power, power-fits}
+use Prim.Native.Nat.{ℕ, suc, _+_, _-_, _*_, _^_, _≤_, _<_}
+use lib.ListN.{length, drop, getD}
+use Rattle.text_number.specs.Digits.{hexadecimal}
+use Rattle.text_number.specs.DigitLaws.{next-power, power-fits, decimal-is, letter-is, digit-neither}
 use Rattle.text_fields.specs.InPlace.{digitsRun}
 use Rattle.text_fields.specs.RunLaws.{run-digit, run-stop, run-done}
 use Rattle.text_fields.proofs.set_run.Statement.{statement}
@@ -18,59 +19,68 @@ Inv-loop text at first last limit value₀ i₀ value i =
 abbrev μ-loop : tie.MeasureT-loop
 μ-loop text at first last limit value₀ i₀ value i = limit - i
 
-reach-requires : tie.Need-reach-requires Inv-loop μ-loop
-reach-requires c κs = search needs
-
 loop-holds : tie.Need-loop-holds Inv-loop μ-loop
 loop-holds c =
-    let args = c .before .before .args in
-    let there = c .reach .ensures in
+    let args = c .before .args in
+    let there = c .before .pre .0 in
     let none-read : args .at - args .at + 1 ≡ 1 = omega arith in
     let all-left : args .at + 15 - args .at ≡ 15 = omega arith in
     (omega arith, omega arith, rw none-read (omega arith), rw all-left)
 
-shared-slice-read-digit-of : tie.Need-shared-slice-read-digit-of Inv-loop μ-loop
-shared-slice-read-digit-of c = omega arith
+shared-slice-read-b : tie.Need-shared-slice-read-b Inv-loop μ-loop
+shared-slice-read-b c = omega arith
 
-digit-of-requires : tie.Need-digit-of-requires Inv-loop μ-loop
-digit-of-requires c κs = search needs
+-- a turn of the loop, and the byte that it reads
+abbrev Turn : Type 0
+Turn = tie.After-shared-slice-known2 Inv-loop μ-loop
 
-ended-requires : tie.Need-ended-requires Inv-loop μ-loop
-ended-requires c κs = omega arith
+abbrev byte : Turn → ℕ
+byte t = getD (t .before .before .before .before .args .text .now) (t .before .before .loop .i) 0
 
--- the byte that is read is one of the text
-inside : (c : tie.After-digit-of Inv-loop μ-loop)
-    → c .before .before .before .loop .i < length (c .before .before .before .before .before .before .args .text .now)
-inside c = omega arith
+-- a digit more keeps the value below the next power of 16, which a word holds
+grown : (t : Turn) (d : ℕ) → d < 16 → let loop = t .before .before .loop in let at = t .before .before .before .before .args .at in
+    (loop .value * 16 + d < 16 ^ (loop .i - at + 1 + 1)) × (16 ^ (loop .i - at + 1 + 1) ≤ 2 ^ 64)
+grown t d less =
+    let loop = t .before .before .loop in
+    let there = t .before .before .before .before .pre .0 in
+    (next-power 16 (loop .value) _ d (omega arith) (loop .inv .2) less, power-fits _ (omega arith))
 
-returns : tie.Need-returns Inv-loop μ-loop
-returns c =
-    let loop = c .before .before .before .before .before .loop in
-    let digit = c .before .before .digit-of .ensures in
-    record {
-      gives =
-          c .ended .ensures .gives
-          ∙ sym (loop .inv .3 ∙ run-stop _ _ _ _ _ _ (inside (c .before .before)) (rw (← digit) (c .before .if1 .taken)));
-      within = c .ended .ensures .within;
-    }
+-- and what is left to read gives the answer still
+again : (t : Turn) (d : ℕ) → d < 16 → hexadecimal (byte t) ≡ d → let loop = t .before .before .loop in
+    let args = t .before .before .before .before .args in
+    (args .at ≤ loop .i + 1) × (loop .i + 1 ≤ args .limit) × (loop .value * 16 + d < 16 ^ (loop .i + 1 - args .at + 1))
+    × (digitsRun (args .last) 16 15 (args .first) (drop (args .at) (args .text .now))
+    ≡ digitsRun (args .last) 16 (args .at + 15 - (loop .i + 1)) (loop .value * 16 + d) (drop (loop .i + 1) (args .text .now)))
+again t d less digit =
+    let loop = t .before .before .loop in
+    let start = t .before .before .before .before in
+    let args = start .args in
+    let there = start .pre .0 in
+    let one-more : loop .i + 1 - args .at + 1 ≡ loop .i - args .at + 1 + 1 = omega arith in
+    let left : args .at + 15 - loop .i ≡ suc (args .at + 15 - (loop .i + 1)) = omega arith in
+    let inside : loop .i < length (args .text .now) = omega arith in (
+      omega arith,
+      omega arith,
+      rw one-more (grown t d less .0),
+      loop .inv .3 ∙ rw (← digit) (run-digit (args .text .now) (loop .i) (args .last) 16 _ _ (loop .value) left inside (rw digit less)),
+    )
 
--- a digit more keeps the value below the next power
-grown : (c : tie.Else1 Inv-loop μ-loop) → let loop = c .before .before .before .before .loop in
-    let args = c .before .before .before .before .before .before .before .args in
-    loop .value * 16 + c .before .digit-of .result < 16 ^ (loop .i - args .at + 1 + 1)
-grown c = next-power _ _ _ _ (omega arith)
-    (c .before .before .before .before .loop .inv .2) (c .if1 .left)
-
--- which a word holds
-in-word : (c : tie.Else1 Inv-loop μ-loop) → let loop = c .before .before .before .before .loop in
-    let args = c .before .before .before .before .before .before .before .args in 16 ^ (loop .i - args .at + 1 + 1) ≤ 2 ^ 64
-in-word c = power-fits _ (omega arith)
+-- a decimal digit
+decimal-here : (c : tie.Then1 Inv-loop μ-loop)
+    → (0x30 ≤ byte (c .before)) × (byte (c .before) ≤ 0x39) × (hexadecimal (byte (c .before)) ≡ byte (c .before) - 0x30)
+decimal-here c = decimal-is (byte (c .before)) (c .if1 .taken)
 
 mul-value : tie.Need-mul-value Inv-loop μ-loop
-mul-value c = omega (arith, grown c, in-word c)
+mul-value c = let digit = decimal-here c in let kept = grown (c .before) (byte (c .before) - 0x30) (omega arith) in omega arith
+
+sub-value : tie.Need-sub-value Inv-loop μ-loop
+sub-value c = let digit = decimal-here c in omega arith
+
+cast-value : tie.Need-cast-value Inv-loop μ-loop
+cast-value c = let digit = decimal-here c in search needs
 
 add-value : tie.Need-add-value Inv-loop μ-loop
-add-value c = omega (arith, grown c, in-word c)
+add-value c = let digit = decimal-here c in let kept = grown (c .before) (byte (c .before) - 0x30) (omega arith) in omega arith
 
 add-i : tie.Need-add-i Inv-loop μ-loop
 add-i c = omega arith
@@ -79,17 +89,51 @@ loop-less : tie.Need-loop-less Inv-loop μ-loop
 loop-less c = omega arith
 
 loop-again : tie.Need-loop-again Inv-loop μ-loop
-loop-again c =
-    let loop = c .before .before .before .before .loop in
-    let args = c .before .before .before .before .before .before .before .args in
-    let digit = c .before .digit-of .ensures in
-    let one-more : loop .i + 1 - args .at + 1 ≡ loop .i - args .at + 1 + 1 = omega arith in
-    let left : args .at + 15 - loop .i ≡ suc (args .at + 15 - (loop .i + 1)) = omega arith in (
-      omega arith,
-      omega arith,
-      rw one-more (grown c),
-      loop .inv .3 ∙ rw digit (run-digit _ _ _ _ _ _ _ left (inside (c .before)) (rw (← digit) (c .if1 .left))),
-    )
+loop-again c = let digit = decimal-here c in again (c .before) (byte (c .before) - 0x30) (omega arith) (digit .2)
+
+-- a letter
+letter-here : (c : tie.Then2 Inv-loop μ-loop)
+    → (0x61 ≤ byte (c .before .before)) × (byte (c .before .before) ≤ 0x66)
+    × (hexadecimal (byte (c .before .before)) ≡ byte (c .before .before) - 0x57)
+letter-here c = letter-is (byte (c .before .before)) (c .if2 .taken)
+
+mul-value-2 : tie.Need-mul-value-2 Inv-loop μ-loop
+mul-value-2 c = let digit = letter-here c in let kept = grown (c .before .before) (byte (c .before .before) - 0x57) (omega arith) in omega arith
+
+sub-value-2 : tie.Need-sub-value-2 Inv-loop μ-loop
+sub-value-2 c = let digit = letter-here c in omega arith
+
+cast-value-2 : tie.Need-cast-value-2 Inv-loop μ-loop
+cast-value-2 c = let digit = letter-here c in search needs
+
+add-value-2 : tie.Need-add-value-2 Inv-loop μ-loop
+add-value-2 c = let digit = letter-here c in let kept = grown (c .before .before) (byte (c .before .before) - 0x57) (omega arith) in omega arith
+
+add-i-2 : tie.Need-add-i-2 Inv-loop μ-loop
+add-i-2 c = omega arith
+
+loop-less-2 : tie.Need-loop-less-2 Inv-loop μ-loop
+loop-less-2 c = omega arith
+
+loop-again-2 : tie.Need-loop-again-2 Inv-loop μ-loop
+loop-again-2 c = let digit = letter-here c in again (c .before .before) (byte (c .before .before) - 0x57) (omega arith) (digit .2)
+
+ended-requires : tie.Need-ended-requires Inv-loop μ-loop
+ended-requires c κs = omega arith
+
+returns : tie.Need-returns Inv-loop μ-loop
+returns c =
+    let tests = c .before in
+    let loop = tests .before .before .before .before .loop in
+    let start = tests .before .before .before .before .before .before in
+    let there = start .pre .0 in
+    let none-here = digit-neither (getD (start .args .text .now) (loop .i) 0) (tests .before .if1 .left) (tests .if2 .left) in
+    let inside : loop .i < length (start .args .text .now) = omega arith in
+    let other : 16 ≤ hexadecimal (getD (start .args .text .now) (loop .i) 0) = omega arith in
+    record {
+      gives = c .ended .ensures .gives ∙ sym (loop .inv .3 ∙ run-stop _ _ _ _ _ _ inside other);
+      within = c .ended .ensures .within;
+    }
 
 ended-requires-2 : tie.Need-ended-requires-2 Inv-loop μ-loop
 ended-requires-2 c κs = omega arith
@@ -97,8 +141,9 @@ ended-requires-2 c κs = omega arith
 returns-2 : tie.Need-returns-2 Inv-loop μ-loop
 returns-2 c =
     let loop = c .before .before .loop in
-    let args = c .before .before .before .before .before .args in
-    let there = c .before .before .before .reach .ensures in
+    let start = c .before .before .before .before in
+    let args = start .args in
+    let there = start .pre .0 in
     let none-left : loop .i < length (args .text .now) → args .at + 15 - loop .i ≡ 0 = λ h. omega (arith, there .all (omega arith)) in
     record {
       gives = c .ended2 .ensures .gives ∙ sym (loop .inv .3 ∙ run-done _ _ _ _ _ _ none-left);
@@ -111,16 +156,23 @@ set-run-spec =
     (tie.spec
     Inv-loop
     μ-loop
-    reach-requires
     loop-holds
-    shared-slice-read-digit-of
-    digit-of-requires
-    ended-requires
-    returns
+    shared-slice-read-b
     mul-value
+    sub-value
+    cast-value
     add-value
     add-i
     loop-less
     loop-again
+    mul-value-2
+    sub-value-2
+    cast-value-2
+    add-value-2
+    add-i-2
+    loop-less-2
+    loop-again-2
+    ended-requires
+    returns
     ended-requires-2
     returns-2)

@@ -1,30 +1,33 @@
--- The byte is below or above all digits, or its bit tells whether it is one.
+-- The byte is a decimal digit, a letter a to f, or neither.
 use borrow.Author.Needs.{needs}
-use Rattle.text_number.specs.DigitLaws.{digit-below, digit-above, bit-none, bit-some}
+use mathlib.Core.Path.{sym}
+use native.Mathlib.Omega.{arith}
+use Rattle.text_number.specs.DigitLaws.{decimal-is, letter-is, digit-neither}
 use Rattle.text_number.proofs.digit_of.Statement.{statement}
 use Rattle.text_number.proofs.digit_of.Tie as tie
 
+sub-result : tie.Need-sub-result
+sub-result c = let digit = decimal-is (c .before .args .b) (c .if1 .taken) in omega arith
+
+cast-result : tie.Need-cast-result
+cast-result c = let digit = decimal-is (c .before .args .b) (c .if1 .taken) in search needs
+
 returns : tie.Need-returns
-returns c = digit-below _ (c .if1 .taken)
+returns c = sym (decimal-is _ (c .if1 .taken) .2)
+
+sub-result-2 : tie.Need-sub-result-2
+sub-result-2 c = let digit = letter-is (c .before .before .args .b) (c .if2 .taken) in omega arith
+
+cast-result-2 : tie.Need-cast-result-2
+cast-result-2 c = let digit = letter-is (c .before .before .args .b) (c .if2 .taken) in search needs
 
 returns-2 : tie.Need-returns-2
-returns-2 c = digit-above _ (c .if2 .taken)
-
-shr-if3 : tie.Need-shr-if3
-shr-if3 c = search needs
+returns-2 c = sym (letter-is _ (c .if2 .taken) .2)
 
 returns-3 : tie.Need-returns-3
-returns-3 c = bit-none _ (c .before .before .if1 .left) (c .before .if2 .left) (c .if3 .taken)
-
-mul-result : tie.Need-mul-result
-mul-result c = search needs
-
-add-result : tie.Need-add-result
-add-result c = search needs
-
-returns-4 : tie.Need-returns-4
-returns-4 c = bit-some _ (c .before .before .if1 .left) (c .before .if2 .left) (c .if3 .left)
+returns-3 c = digit-neither _ (c .before .if1 .left) (c .if2 .left)
 
 pub digit-of-spec : {M : Type 1} → statement M
 digit-of-spec =
-    tie.close (tie.spec returns returns-2 shr-if3 returns-3 mul-result add-result returns-4)
+    tie.close
+    (tie.spec sub-result cast-result returns sub-result-2 cast-result-2 returns-2 returns-3)

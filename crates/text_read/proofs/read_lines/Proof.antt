@@ -2,8 +2,8 @@
 -- reading with its number, else the line is taken and the reader goes on from the next place; at the end it comes to no line more.
 use mathlib.Core.Path.{_≡_, sym, ap, _∙_}
 use native.Mathlib.Omega.{arith}
-use Prim.Native.Nat.{ℕ, _-_}
-use lib.ListN.{length, length-replicate}
+use Prim.Native.Nat.{_-_}
+use lib.ListN.{length}
 use borrow.Author.Needs.{needs}
 use Rattle.text_lines.specs.declared.Step.the-variants.{Line as AtLine, End as AtEnd}
 use Rattle.text_lines.specs.Span.{lineAt}
@@ -21,22 +21,22 @@ abbrev μ-loop : tie.MeasureT-loop
 μ-loop text start w₀ words₀ at₀ line₀ w words at line = length text - at
 
 -- where the reader has come to a line
-line-at : (c : tie.After-known-told Inv-loop μ-loop) → AtLine (c .before .span .given .0 .0)
+line-there : (c : tie.After-known-told Inv-loop μ-loop) → AtLine (c .before .span .given .0 .0)
     ≡ lineAt (c .before .before .before .before .before .before .before .before .before .args .text .now)
     (c .before .before .before .before .loop .at) (c .before .before .before .before .loop .line)
-line-at c = sym (c .before .span .given .1) ∙ c .before .before .before .line-from .ensures
+line-there c = sym (c .before .span .given .1) ∙ c .before .before .before .line-at .ensures
 
 -- what that line is
 came-at : (c : tie.After-known-told Inv-loop μ-loop)
     → Came (c .before .before .before .before .before .before .before .before .before .args .text .now)
     (c .before .before .before .before .loop .at) (c .before .before .before .before .loop .line) (c .before .span .given .0 .0)
-came-at c = came _ _ _ (line-at c)
+came-at c = came _ _ _ (line-there c)
 
 -- where it has come to the end
 end-at : (c : tie.After-enum-told Inv-loop μ-loop) → AtEnd
     ≡ lineAt (c .before .before .before .before .before .before .before .before .args .text .now)
     (c .before .before .before .loop .at) (c .before .before .before .loop .line)
-end-at c = sym (c .enum-told .given .1) ∙ c .before .before .line-from .ensures
+end-at c = sym (c .enum-told .given .1) ∙ c .before .before .line-at .ensures
 
 unused-cells-requires : tie.Need-unused-cells-requires Inv-loop μ-loop
 unused-cells-requires c κs = search needs
@@ -48,10 +48,10 @@ loop-holds : tie.Need-loop-holds Inv-loop μ-loop
 loop-holds c =
     let entry = c .before .before .before .before in
     going-first (entry .args .text .now) (entry .args .start) (c .before .before .unused-cells .ensures)
-    (c .start .ensures .1 (omega (arith, length-replicate {A = ℕ} 424 0)))
+    (c .start .ensures .1)
 
-line-from-requires : tie.Need-line-from-requires Inv-loop μ-loop
-line-from-requires c κs = search needs
+line-at-requires : tie.Need-line-at-requires Inv-loop μ-loop
+line-at-requires c κs = search needs
 
 enum-known-span : tie.Need-enum-known-span Inv-loop μ-loop
 enum-known-span c = search needs
@@ -79,7 +79,7 @@ returns c =
     c .refused .ensures
     ∙ ap parsedAs
     (going-refused (c .before .before .before .before .before .before .before .before .before .loop .inv)
-    (line-at (c .before .before .before .before .before)) (c .before .before .see-bytes .ensures) (c .before .if1 .taken))
+    (line-there (c .before .before .before .before .before)) (c .before .before .see-bytes .ensures) (c .before .if1 .taken))
 
 mul-l : tie.Need-mul-l Inv-loop μ-loop
 mul-l c = omega (
@@ -108,7 +108,7 @@ loop-less c = let here = came-at (c .before .before .before .before .before) in 
 loop-again : tie.Need-loop-again Inv-loop μ-loop
 loop-again c =
     going-next (c .before .before .before .before .before .before .before .before .before .loop .inv)
-    (line-at (c .before .before .before .before .before)) (c .before .before .see-bytes .ensures) (c .before .if1 .left)
+    (line-there (c .before .before .before .before .before)) (c .before .before .see-bytes .ensures) (c .before .if1 .left)
 
 depth-requires : tie.Need-depth-requires Inv-loop μ-loop
 depth-requires c κs = search needs
@@ -140,7 +140,7 @@ read-lines-spec =
     unused-cells-requires
     start-requires
     loop-holds
-    line-from-requires
+    line-at-requires
     enum-known-span
     enum-told
     sub-see-bytes

@@ -4,8 +4,7 @@ use Rattle.spec_text.specs.Value.{linesOf}
 use Rattle.value_given.specs.DecideLaws.{Going, going-start, going-next, going-wrong, going-open, going-closed}
 use borrow.Author.Needs.{needs}
 use native.Mathlib.Omega.{arith}
-use Prim.Native.Nat.{ℕ, _-_}
-use lib.ListN.{length-replicate}
+use Prim.Native.Nat.{_-_}
 use Rattle.value_given.proofs.text_size.Statement.{statement}
 use Rattle.value_given.proofs.text_size.Tie as tie
 
@@ -19,7 +18,7 @@ start-requires : tie.Need-start-requires Inv-loop μ-loop
 start-requires c κs = search needs
 
 loop-holds : tie.Need-loop-holds Inv-loop μ-loop
-loop-holds c = going-start _ _ _ (c .start .ensures .1 (omega (arith, length-replicate {A = ℕ} 424 0)))
+loop-holds c = going-start _ _ _ (c .start .ensures .1)
 
 mul-l : tie.Need-mul-l Inv-loop μ-loop
 mul-l c = search needs

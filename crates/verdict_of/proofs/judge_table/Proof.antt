@@ -3,6 +3,7 @@ use native.Mathlib.Omega.{arith}
 use mathlib.Core.Path.{sym}
 use lib.Seq.{length-take-le}
 use borrow.Author.Needs.{needs}
+use Rattle.lent_words.specs.Lent.{Lent}
 use Rattle.verdict_of.proofs.judge_table.Statement.{statement}
 use Rattle.verdict_of.proofs.judge_table.Tie as tie
 
@@ -11,42 +12,45 @@ slice-aggregate-judge-rows c = let given = c .before .before .before .before .be
 
 slice-relend-prefix-judge-rows : tie.Need-slice-relend-prefix-judge-rows
 slice-relend-prefix-judge-rows c =
-    let given = c .before .before .before .before .before .pre in
+    let given = c .before .before .before .before .before .before .before .pre in
     let nodes = given .1 in
     let long = given .2 in
     omega arith
 
 slice-aggregate-judge-rows-2 : tie.Need-slice-aggregate-judge-rows-2
 slice-aggregate-judge-rows-2 c =
-    let given = c .before .before .before .before .before .before .pre in
+    let given = c .before .before .before .before .before .before .before .before .pre in
     let nodes = given .1 in
     let long = given .2 in
     sym (length-take-le _ _ (omega arith))
 
 slice-relend-prefix-judge-rows-2 : tie.Need-slice-relend-prefix-judge-rows-2
 slice-relend-prefix-judge-rows-2 c =
-    let given = c .before .before .before .before .before .before .pre in
+    let given = c .before .before .before .before .before .before .before .before .pre in
     let nodes = given .1 in
     let long = given .3 in
     omega arith
 
 slice-aggregate-judge-rows-3 : tie.Need-slice-aggregate-judge-rows-3
 slice-aggregate-judge-rows-3 c =
-    let given = c .before .before .before .before .before .before .before .pre in
+    let given = c .before .before .before .before .before .before .before .before .before .pre in
     let nodes = given .1 in
     let long = given .3 in
     sym (length-take-le _ _ (omega arith))
 
 judge-rows-requires : tie.Need-judge-rows-requires
 judge-rows-requires c κs =
-    let given = c .before .before .before .before .before .before .before .before .pre in
+    let given = c .before .before .before .before .before .before .before .before .before .before .pre in
     let nodes = given .1 in
     let forwards-long = given .2 in
     let backs-long = given .3 in
     (length-take-le _ _ (omega arith), length-take-le _ _ (omega arith))
 
 returns : tie.Need-returns
-returns c = c .before .before .before .before .before .before .judge-rows .ensures
+unfolding Lent
+returns c =
+    let judged = c .before .before .before .before .before .before .judge-rows .ensures in
+    (judged .0, (judged .1 .0, judged .1 .1, search needs, search needs))
 
 pub judge-table-spec : {M : Type 1} → statement M
 judge-table-spec =

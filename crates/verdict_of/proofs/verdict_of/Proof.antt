@@ -28,15 +28,15 @@ slice-aggregate-judge-table c =
 
 judge-table-requires : tie.Need-judge-table-requires
 judge-table-requires c κs =
-    let c5 = c .before .before .before .before .before in
-    let whole = whole-filled (c5 .before .before .fill-rows .ensures) (c5 .f2 .given .1) in
+    let filled = c .before .before .before .before .before .before .before in
+    let whole = whole-filled (filled .before .before .fill-rows .ensures) (filled .f2 .given .1) in
     (words-inside whole, nodes-few whole, length-replicate {A = ℕ} 4096 0, length-replicate {A = ℕ} 4096 0)
 
 returns-2 : tie.Need-returns-2
 returns-2 c =
-    let c4 = c .before .before .before .before in
-    let c10 = c4 .before .before .before .before .before .before in
-    c4 .judge-table .ensures _ (rows-whole (whole-filled (c10 .before .before .fill-rows .ensures) (c10 .f2 .given .1)))
+    let judged = c .before .before .before .before in
+    let filled = judged .before .before .before .before .before .before .before .before in
+    judged .judge-table .ensures .0 _ (rows-whole (whole-filled (filled .before .before .fill-rows .ensures) (filled .f2 .given .1)))
 
 pub verdict-of-spec : {M : Type 1} → statement M
 verdict-of-spec =

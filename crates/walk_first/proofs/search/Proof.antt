@@ -27,11 +27,11 @@ slice-aggregate-search-rows-2 c = leads-fit _ _ (c .before .before .before .befo
 
 search-rows-requires : tie.Need-search-rows-requires
 search-rows-requires c κs =
-    let c3 = c .before .before .before in
-    let c4 = c3 .before in
+    let c4 = c .before .before .before .before in
     let c5 = c4 .before in
-    let c10 = c5 .before .before .before .before .before in
-    (c10 .pre, rows-part _ (c5 .rows-in .ensures .0) (c4 .joined-rows .ensures), leads-part _ _ (c5 .rows-in .ensures .0) (c3 .lead-rows .ensures))
+    let c6 = c5 .before in
+    let c11 = c6 .before .before .before .before .before in
+    (c11 .pre, rows-part _ (c6 .rows-in .ensures .0) (c5 .joined-rows .ensures), leads-part _ _ (c6 .rows-in .ensures .0) (c4 .lead-rows .ensures))
 
 same-length : tie.Need-same-length
 same-length c = search needs

@@ -2,6 +2,7 @@
 use Rattle.walk_first.specs.TakingLaws.{taking}
 use Prim.Native.Nat.{_-_}
 use borrow.Author.Needs.{needs}
+use Rattle.lent_words.specs.Lent.{Lent}
 use Rattle.walk_first.proofs.take_step.Statement.{statement}
 use Rattle.walk_first.proofs.take_step.Tie as tie
 
@@ -32,12 +33,25 @@ going-after-requires c κs = search needs
 same-length : tie.Need-same-length
 same-length c = search needs
 
+same-length-2 : tie.Need-same-length-2
+same-length-2 c = search needs
+
+same-length-3 : tie.Need-same-length-3
+same-length-3 c = search needs
+
 returns : tie.Need-returns
-returns c = let c4 = c .before .before .before .before in
-    let c7 = c4 .before .before .before in
-    let c11 = c7 .before .before .before .before in
-    taking _ _ _ _ _ _ _ _ _ _ _ _ (c11 .before .needs-in .ensures) (c11 .limits-in .ensures) (c7 .before .least-step .ensures) (c7 .step-of .ensures)
-    (c4 .before .flow-word .ensures) (c4 .put-words .ensures) (c .before .opens-at .ensures) (c .going-after .ensures)
+unfolding Lent
+returns c =
+    let c4 = c .before .before .before .before in
+    let c8 = c4 .before .before .before .before in
+    let c13 = c8 .before .before .before .before .before in
+    let c17 = c13 .before .before .before .before in
+    let given = c17 .before .before .before .before .before .before .before .before .before .before .pre in (
+      taking _ _ _ _ _ _ _ _ _ _ _ _ (given .2) (given .3) (c17 .needs-in .ensures) (c13 .limits-in .ensures) (c8 .least-step .ensures)
+          (c4 .before .before .before .step-of .ensures) (c4 .before .flow-word .ensures) (c4 .put-words .ensures) (c .before .opens-at .ensures)
+          (c .going-after .ensures),
+      (c17 .needs-in .ensures .size, c13 .limits-in .ensures .size),
+    )
 
 pub take-step-spec : {M : Type 1} → statement M
 take-step-spec =
@@ -52,4 +66,6 @@ take-step-spec =
     opens-at-requires
     going-after-requires
     same-length
+    same-length-2
+    same-length-3
     returns)

@@ -1,10 +1,10 @@
--- Where no back edge goes anywhere there is none (place-none). Else after w turns the number is the least of the first w (place-turn).
+-- After w turns the number is the least of the first w (place-turn); past the last node to which a back edge goes it stays so (place-past).
 use native.Mathlib.Omega.{arith}
 use mathlib.Core.Path.{_≡_, refl}
 use Prim.Native.Nat.{_-_, _≤_}
 use borrow.Author.Needs.{needs}
 use Rattle.pick_laws.specs.Completing.{leastBelow}
-use Rattle.walk_lead.specs.LeadLaws.{place-none, place-turn}
+use Rattle.walk_lead.specs.LeadLaws.{place-past, place-turn}
 use Rattle.walk_lead.specs.Leads.{leavesTo, earliest}
 use Rattle.walk_reach.specs.NodeWordLaws.{last-turn}
 use Rattle.walk_lead.proofs.first_place.Statement.{statement}
@@ -16,12 +16,17 @@ Inv-loop backs turns v best₀ w₀ best w = (w ≤ 64) × (best ≡ leastBelow 
 abbrev μ-loop : tie.MeasureT-loop
 μ-loop backs turns v best₀ w₀ best w = 64 - w
 
-returns : tie.Need-returns Inv-loop μ-loop
-returns c = place-none _ 0 _ (c .before .before .pre .1) (c .if1 .taken)
-
 loop-holds : tie.Need-loop-holds Inv-loop μ-loop
 unfolding leastBelow
 loop-holds c = (omega arith, refl)
+
+shr-if1 : tie.Need-shr-if1 Inv-loop μ-loop
+shr-if1 c = search needs
+
+returns : tie.Need-returns Inv-loop μ-loop
+returns c =
+    let c2 = c .before .before in
+    place-past _ 0 _ (c2 .before .before .pre .1) (c .if1 .taken) (c2 .loop .inv .0) (c2 .loop .inv .1)
 
 mul-word-at : tie.Need-mul-word-at Inv-loop μ-loop
 mul-word-at c = search needs
@@ -46,9 +51,9 @@ loop-less c = search needs
 
 loop-again : tie.Need-loop-again Inv-loop μ-loop
 loop-again c =
-    let c4 = c .before .before .before .before in (
+    let c5 = c .before .before .before .before .before in (
       omega arith,
-      place-turn _ 0 _ _ (c4 .loop .inv .1) (c .before .before .word-at .ensures) (c .before .leaves-at .ensures .0)
+      place-turn _ 0 _ _ (c5 .loop .inv .1) (c .before .before .word-at .ensures) (c .before .leaves-at .ensures .0)
           (c .lesser .ensures),
     )
 
@@ -62,8 +67,9 @@ first-place-spec =
     (tie.spec
     Inv-loop
     μ-loop
-    returns
     loop-holds
+    shr-if1
+    returns
     mul-word-at
     add-word-at
     word-at-requires

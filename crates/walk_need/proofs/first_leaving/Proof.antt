@@ -1,5 +1,5 @@
--- There is none without a row (leaving-past) or a node (leaving-none). After y turns the number is the least of the first y (leaving-turn); after
--- 64 it is the first place.
+-- There is none without a row (leaving-past). After y turns the number is the least of the first y (leaving-turn); after 64, or past the last of the
+-- nodes (leaving-none), it is the first place.
 use Rattle.walk_need.specs.NeedTurns.{leaving-past, leaving-none, leaving-turn}
 use Rattle.pick_laws.specs.Completing.{leastBelow}
 use Rattle.walk_need.specs.Needs.{leavesFor, firstLeaving}
@@ -24,13 +24,18 @@ mul-if1 c = search needs
 returns : tie.Need-returns Inv-loop μ-loop
 returns c = (leaving-past _ _ _ (c .if1 .taken), omega arith)
 
--- there is no node
-returns-2 : tie.Need-returns-2 Inv-loop μ-loop
-returns-2 c = (leaving-none _ _ _ (c .if2 .taken), omega arith)
-
 loop-holds : tie.Need-loop-holds Inv-loop μ-loop
 unfolding leastBelow
 loop-holds c = (omega arith, refl, omega arith)
+
+shr-if2 : tie.Need-shr-if2 Inv-loop μ-loop
+shr-if2 c = search needs
+
+-- past the last of the nodes
+returns-2 : tie.Need-returns-2 Inv-loop μ-loop
+returns-2 c =
+    let inv = c .before .before .loop .inv in
+    (leaving-none _ _ _ _ (inv .0) (c .if2 .taken) (inv .1), inv .2)
 
 leaves-for-requires : tie.Need-leaves-for-requires Inv-loop μ-loop
 leaves-for-requires c κs = search needs
@@ -45,7 +50,7 @@ loop-less : tie.Need-loop-less Inv-loop μ-loop
 loop-less c = search needs
 
 loop-again : tie.Need-loop-again Inv-loop μ-loop
-loop-again c = let c3 = c .before .before .before in let l = c .lesser .ensures in let m = c3 .loop .inv .2 in
+loop-again c = let c3 = c .before .before .before .before in let l = c .lesser .ensures in let m = c3 .loop .inv .2 in
     (omega arith, leaving-turn _ _ _ _ (c3 .loop .inv .1) (c .before .leaves-for .ensures .0) (c .lesser .ensures), omega arith)
 
 returns-3 : tie.Need-returns-3 Inv-loop μ-loop
@@ -62,8 +67,9 @@ first-leaving-spec =
     μ-loop
     mul-if1
     returns
-    returns-2
     loop-holds
+    shr-if2
+    returns-2
     leaves-for-requires
     lesser-requires
     add-y

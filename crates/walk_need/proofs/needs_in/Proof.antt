@@ -1,24 +1,25 @@
--- After y turns the first y needs stand (list-turn); after 64 all do.
-use Rattle.walk_need.specs.Needs.{needAmong, needsOf}
-use Rattle.walk_reach.specs.Layers.{listBelow}
-use Rattle.walk_reach.specs.NodeWordLaws.{list-turn, last-turn}
+-- After y turns the first y needs stand (written-turn); at the end as many as there is room for (written-end).
+use Rattle.walk_need.specs.Needs.{needAmong}
+use Rattle.walk_reach.specs.Layers.{Written}
+use Rattle.walk_reach.specs.FilledLaws.{written-none, written-turn, written-end}
 use borrow.Author.Needs.{needs}
 use native.Mathlib.Omega.{arith}
-use mathlib.Core.Path.{_≡_, refl}
 use Prim.Native.Nat.{_-_, _≤_}
 use Rattle.walk_need.proofs.needs_in.Statement.{statement}
 use Rattle.walk_need.proofs.needs_in.Tie as tie
 
 abbrev Inv-loop : tie.InvT-loop
-Inv-loop backs ways opened wide s nodes r going needs₀ y₀ needs y =
-    (y ≤ 64) × (needs ≡ listBelow (needAmong backs ways opened wide s nodes r going) y)
+Inv-loop backs ways opened wide s nodes r going needs₀ n y₀ needs y =
+    (y ≤ n) × Written (needAmong backs ways opened wide s nodes r going) 0 y needs₀ needs
 
 abbrev μ-loop : tie.MeasureT-loop
-μ-loop backs ways opened wide s nodes r going needs₀ y₀ needs y = 64 - y
+μ-loop backs ways opened wide s nodes r going needs₀ n y₀ needs y = n - y
+
+capped-requires : tie.Need-capped-requires Inv-loop μ-loop
+capped-requires c κs = search needs
 
 loop-holds : tie.Need-loop-holds Inv-loop μ-loop
-unfolding listBelow
-loop-holds c = (omega arith, refl)
+loop-holds c = (omega arith, written-none _ _ _)
 
 need-among-requires : tie.Need-need-among-requires Inv-loop μ-loop
 need-among-requires c κs = search needs
@@ -26,8 +27,8 @@ need-among-requires c κs = search needs
 mul-needs : tie.Need-mul-needs Inv-loop μ-loop
 mul-needs c = search needs
 
-array-write-needs : tie.Need-array-write-needs Inv-loop μ-loop
-array-write-needs c = search needs
+slice-write-needs : tie.Need-slice-write-needs Inv-loop μ-loop
+slice-write-needs c = search needs
 
 add-y : tie.Need-add-y Inv-loop μ-loop
 add-y c = search needs
@@ -36,11 +37,20 @@ loop-less : tie.Need-loop-less Inv-loop μ-loop
 loop-less c = search needs
 
 loop-again : tie.Need-loop-again Inv-loop μ-loop
-loop-again c = (omega arith, list-turn _ _ (c .before .before .loop .inv .1) (c .need-among .ensures) refl)
+loop-again c =
+    let c2 = c .before .before in
+    let room = c2 .before .capped .ensures in
+    (omega arith, written-turn _ _ _ (omega arith) (omega arith) (c2 .loop .inv .1) (c .need-among .ensures))
+
+same-length : tie.Need-same-length Inv-loop μ-loop
+same-length c = search needs
 
 returns : tie.Need-returns Inv-loop μ-loop
-unfolding needsOf
-returns c = last-turn (listBelow (needAmong _ _ _ _ _ _ _ _)) 64 _ (c .before .loop .inv .1) (c .before .loop .inv .0) (c .loop-test .left)
+returns c =
+    let room = c .before .before .capped .ensures in
+    let few = c .before .loop .inv .0 in
+    let all = c .loop-test .left in
+    written-end _ (omega arith) (omega arith) (c .before .loop .inv .1)
 
 pub needs-in-spec : {M : Type 1} → statement M
 needs-in-spec =
@@ -48,11 +58,13 @@ needs-in-spec =
     (tie.spec
     Inv-loop
     μ-loop
+    capped-requires
     loop-holds
     need-among-requires
     mul-needs
-    array-write-needs
+    slice-write-needs
     add-y
     loop-less
     loop-again
+    same-length
     returns)

@@ -1,64 +1,44 @@
--- After v turns the word has the nodes below v to which an edge goes from u (word-turn); after 64 it has all (row-end).
+-- Where the words past the first n are all 0 they add no node (row-rest); else all words are looked at (row-all).
 use native.Mathlib.Omega.{arith}
 use mathlib.Core.Path.{_≡_, refl}
-use Prim.Native.Nat.{_-_, _≤_}
 use borrow.Author.Needs.{needs}
-use Rattle.walk_reach.specs.Layers.{wordBelow, joinedBit}
-use Rattle.walk_reach.specs.NodeWordLaws.{word-turn}
-use Rattle.walk_reach.specs.LayerLaws.{row-end}
+use Rattle.walk_reach.specs.LayerLaws.{row-rest, row-all}
 use Rattle.walk_reach.proofs.whole_row.Statement.{statement}
 use Rattle.walk_reach.proofs.whole_row.Tie as tie
 
-abbrev Inv-loop : tie.InvT-loop
-Inv-loop forwards u word₀ v₀ word v = (v ≤ 64) × (word ≡ wordBelow (joinedBit forwards u) v)
+mul-b : tie.Need-mul-b
+mul-b c = search needs
 
-abbrev μ-loop : tie.MeasureT-loop
-μ-loop forwards u word₀ v₀ word v = 64 - v
+add-words-joined : tie.Need-add-words-joined
+add-words-joined c = search needs
 
-loop-holds : tie.Need-loop-holds Inv-loop μ-loop
-unfolding wordBelow
-loop-holds c = (omega arith, refl)
+add-words-joined-2 : tie.Need-add-words-joined-2
+add-words-joined-2 c = search needs
 
-mul-with-node : tie.Need-mul-with-node Inv-loop μ-loop
-mul-with-node c = search needs
+words-joined-requires : tie.Need-words-joined-requires
+words-joined-requires c κs = search needs
 
-add-with-node : tie.Need-add-with-node Inv-loop μ-loop
-add-with-node c = search needs
+row-below-requires : tie.Need-row-below-requires
+row-below-requires c κs = search needs
 
-mul-with-node-2 : tie.Need-mul-with-node-2 Inv-loop μ-loop
-mul-with-node-2 c = search needs
+returns : tie.Need-returns
+returns c = row-rest _ _ (omega arith) (c .before .before .words-joined .ensures (c .before .if1 .taken)) (c .row-below .ensures)
 
-shared-slice-read-with-node : tie.Need-shared-slice-read-with-node Inv-loop μ-loop
-shared-slice-read-with-node c = search needs
+row-below-requires-2 : tie.Need-row-below-requires-2
+row-below-requires-2 c κs = search needs
 
-with-node-requires : tie.Need-with-node-requires Inv-loop μ-loop
-with-node-requires c κs = λ e. c .before .loop-test .taken
-
-add-v : tie.Need-add-v Inv-loop μ-loop
-add-v c = search needs
-
-loop-less : tie.Need-loop-less Inv-loop μ-loop
-loop-less c = search needs
-
-loop-again : tie.Need-loop-again Inv-loop μ-loop
-loop-again c = (omega arith, word-turn _ _ (c .before .before .before .loop .inv .1) refl (c .with-node .ensures))
-
-returns : tie.Need-returns Inv-loop μ-loop
-returns c = row-end _ _ (c .before .loop .inv .1) (c .before .loop .inv .0) (c .loop-test .left)
+returns-2 : tie.Need-returns-2
+returns-2 c = row-all _ _ (c .row-below2 .ensures)
 
 pub whole-row-spec : {M : Type 1} → statement M
 whole-row-spec =
     tie.close
     (tie.spec
-    Inv-loop
-    μ-loop
-    loop-holds
-    mul-with-node
-    add-with-node
-    mul-with-node-2
-    shared-slice-read-with-node
-    with-node-requires
-    add-v
-    loop-less
-    loop-again
-    returns)
+    mul-b
+    add-words-joined
+    add-words-joined-2
+    words-joined-requires
+    row-below-requires
+    returns
+    row-below-requires-2
+    returns-2)

@@ -1,6 +1,7 @@
 -- The rows before the one looked at are not loose (none-turn): the first that is decides (loose-found); after the last there is none (loose-none).
 use Rattle.walk_step.specs.StepTurns.{NoneBefore}
 use Rattle.walk_step.specs.LooseLaws.{none-first, none-turn, loose-found, loose-none}
+use mathlib.Core.Path.{refl}
 use Prim.Native.Nat.{_-_}
 use borrow.Author.Needs.{needs}
 use Rattle.walk_step.proofs.loose_at.Statement.{statement}
@@ -18,16 +19,13 @@ row-count-requires c κs = search needs
 loop-holds : tie.Need-loop-holds Inv-loop μ-loop
 loop-holds c = none-first _ _ _
 
-row-at-requires : tie.Need-row-at-requires Inv-loop μ-loop
-row-at-requires c κs = search needs
-
-loose-row-requires : tie.Need-loose-row-requires Inv-loop μ-loop
-loose-row-requires c κs = search needs
+loose-in-requires : tie.Need-loose-in-requires Inv-loop μ-loop
+loose-in-requires c κs = search needs
 
 returns : tie.Need-returns Inv-loop μ-loop
 returns c =
-    loose-found _ _ _ _ (c .before .before .row-at .ensures) (c .before .loose-row .ensures)
-    (c .before .before .before .before .before .row-count .ensures) (c .before .before .before .loop-test .taken) (c .if1 .taken)
+    loose-found _ _ _ _ refl (c .before .loose-in .ensures) (c .before .before .before .before .row-count .ensures)
+    (c .before .before .loop-test .taken) (c .if1 .taken)
 
 add-k : tie.Need-add-k Inv-loop μ-loop
 add-k c = search needs
@@ -37,8 +35,7 @@ loop-less c = search needs
 
 loop-again : tie.Need-loop-again Inv-loop μ-loop
 loop-again c =
-    none-turn _ _ _ _ (c .before .before .row-at .ensures) (c .before .loose-row .ensures) (c .if1 .left)
-    (c .before .before .before .before .loop .inv)
+    none-turn _ _ _ _ refl (c .before .loose-in .ensures) (c .if1 .left) (c .before .before .before .loop .inv)
 
 returns-2 : tie.Need-returns-2 Inv-loop μ-loop
 returns-2 c = loose-none _ _ _ (c .before .before .row-count .ensures) (c .loop-test .left) (c .before .loop .inv)
@@ -51,8 +48,7 @@ loose-at-spec =
     μ-loop
     row-count-requires
     loop-holds
-    row-at-requires
-    loose-row-requires
+    loose-in-requires
     returns
     add-k
     loop-less

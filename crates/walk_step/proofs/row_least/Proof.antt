@@ -1,4 +1,5 @@
 -- After j rows the least is that of the best word and the steps to each of them (row-turn).
+use Rattle.walk_step.specs.LeastStep.{wholeNeeds}
 use Rattle.walk_step.specs.StepTurns.{rowLeast}
 use mathlib.Core.Path.{_≡_, refl}
 use native.Mathlib.Omega.{arith}
@@ -9,13 +10,13 @@ use Rattle.walk_step.proofs.row_least.Statement.{statement}
 use Rattle.walk_step.proofs.row_least.Tie as tie
 
 abbrev Inv-loop : tie.InvT-loop
-Inv-loop table n p needs limits best least₀ j₀ least j = (j ≤ n) × (least ≤ 134217728) × (least ≡ rowLeast table j needs limits p best)
+Inv-loop table n p needs limits best least₀ j₀ least j = (j ≤ n) × (least ≤ 134217728) × (least ≡ rowLeast table j (wholeNeeds needs) limits p best)
 
 abbrev μ-loop : tie.MeasureT-loop
 μ-loop table n p needs limits best least₀ j₀ least j = n - j
 
 loop-holds : tie.Need-loop-holds Inv-loop μ-loop
-loop-holds c = (omega arith, c .before .pre, row-first _ _ _ _ _)
+loop-holds c = (omega arith, c .before .before .before .pre, row-first _ _ _ _ _)
 
 with-row-requires : tie.Need-with-row-requires Inv-loop μ-loop
 with-row-requires c κs = c .before .loop .inv .1

@@ -24,8 +24,8 @@ returns c = rw (← c .before .row-at .ensures) (c .better-step .ensures)
 
 returns-2 : tie.Need-returns-2
 returns-2 c =
-    let c5 = c .before .before .before .before .before in
-    row-passed _ _ _ _ _ (c5 .pre) (c .before .before .word-at .ensures) (c .before .may-count .ensures) (c .if2 .left)
+    let c7 = c .before .before .before .before .before .before .before in
+    row-passed _ _ _ _ _ (c7 .pre) (c .before .before .word-at .ensures) (c .before .may-count .ensures) (c .if2 .left)
 
 row-at-requires-2 : tie.Need-row-at-requires-2
 row-at-requires-2 c κs = search needs

@@ -1,0 +1,2 @@
+pub mod PairWords
+pub mod PairLaws
