@@ -2,16 +2,18 @@
 use mathlib.Core.List.{List}
 use mathlib.Core.Path.{_≡_}
 use Prim.Native.Nat.{ℕ}
-use lib.ListN.{length, take}
+use lib.ListN.{length, take, drop}
 use Rattle.spec_text.specs.Reading.{Outcome}
 use Rattle.place_text.specs.declared.TextRows.{TextRows}
 use Rattle.place_text.specs.Placed.{TextPlaced}
-use Rattle.edge_count.specs.Slots.{tableEdges}
+use Rattle.place_next.specs.Links.{LinkedAs}
 
--- the first words of a table have the edges that they had
+-- the rows in the first words of a table are linked, with so many words to work in, and past them the table is as it was
 pub record FirstLinked (words : ℕ) (before after : List ℕ) : Type 0 where
   pub size : length after ≡ length before
-  pub edges : tableEdges (take words after) ≡ tableEdges (take words before)
+  pub room : ℕ
+  pub rows : LinkedAs (take words before) room (take words after)
+  pub rest : drop words after ≡ drop words before
 
 -- the rows of a text's places were put, and then linked
 pub record TextLinked (o : Outcome) (before : List ℕ) (r : TextRows) (after : List ℕ) : Type 0 where

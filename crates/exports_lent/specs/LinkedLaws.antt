@@ -4,7 +4,7 @@ use mathlib.Core.Path.{_≡_, sym, subst, ap, _∙_}
 use Prim.Native.Nat.{ℕ, _≤_}
 use native.Mathlib.Omega.{arith}
 use lib.ListN.{length, take, drop, length-append, length-take, length-drop}
-use lib.Seq.{length-take-le, take-append-seam}
+use lib.Seq.{length-take-le, take-append-seam, drop-append-seam}
 use Rattle.spec_base.specs.Basic.{numbers}
 use Rattle.spec_text.specs.Reading.{read}
 use Rattle.spec_graph.specs.Edge as E
@@ -37,11 +37,12 @@ first-linked {words} {before} {after} {front} {m} inside h e =
     let long = length-take-le words before inside in
     let size = h .size in
     let n : words ≡ length front = omega arith in
+    let first = ap (take words) e ∙ ap (λ (k : ℕ). take k (front ++ drop words before)) n ∙ take-append-seam front (drop words before) in
     record {
       size = let a = ap length e in let b = length-append front (drop words before) in let c = length-drop words before in omega arith;
-      edges = ap (λ (l : List ℕ). tableEdges (take words l)) e
-          ∙ ap (λ (k : ℕ). tableEdges (take k (front ++ drop words before))) n
-          ∙ ap tableEdges (take-append-seam front (drop words before)) ∙ linked-edges h;
+      room = m;
+      rows = subst (λ (l : List ℕ). LinkedAs (take words before) m l) (sym first) h;
+      rest = ap (drop words) e ∙ ap (λ (k : ℕ). drop k (front ++ drop words before)) n ∙ drop-append-seam front (drop words before);
     }
 
 pub words-inside : (text : List ℕ) {old : List ℕ} {t : TextRows} {table : List ℕ} → TextPlaced (read text) old t table
@@ -57,7 +58,7 @@ module _ (text : List ℕ) {old : List ℕ} {t : TextRows} {table : List ℕ} (r
 
   module _ {before : List Edge} {answer : Put} {after : List Edge} (edges : PutAs (tableEdges (take (t .words) table)) before answer after) where
     plain-edges : PutAs (tableEdges (take (t .words) (rows .plain))) before answer after
-    plain-edges = subst (λ (l : List E.Edge). PutAs l before answer after) (rows .linked .edges) edges
+    plain-edges = subst (λ (l : List E.Edge). PutAs l before answer after) (linked-edges (rows .linked .rows)) edges
 
     -- so few edges are put
     pub linked-few : FewPut answer
