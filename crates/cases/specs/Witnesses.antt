@@ -7,10 +7,10 @@ use Rattle.law_text.specs.Written.{written, rereads}
 use Rattle.law_text.specs.ValueLaws.{value-given}
 use Rattle.law_walk.specs.Reach.{dangerTest}
 use Rattle.spec_report.specs.State.{summaryGraph, Robust}
-use Rattle.spec_schedule.specs.Interleaved as Interleaved
-use Rattle.spec_schedule.specs.Unserialisable as Unserialisable
-use Rattle.spec_schedule.specs.Phantom as Phantom
-use Rattle.spec_schedule.specs.AllKinds as Kinds
+use Rattle.schedule_cases.specs.Interleaved as Interleaved
+use Rattle.schedule_cases.specs.Unserialisable as Unserialisable
+use Rattle.schedule_cases.specs.Phantom as Phantom
+use Rattle.schedule_cases.specs.AllKinds as Kinds
 use Rattle.law_report.specs.Reports.{robust-of}
 use Rattle.cases.specs.Computed.{allPass}
 

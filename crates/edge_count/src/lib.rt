@@ -3,7 +3,9 @@
 
 ghost use mathlib.Core.Path.{_≡_};
 ghost use Prim.Native.Nat.{_+_, _*_, _<_};
-ghost use Rattle.edge_count.specs.Slots.{tableCounts, pairCounts, countsBelow, CountedTo};
+ghost use lib.Dec.{leb};
+ghost use lib.ListN.{length};
+ghost use Rattle.edge_count.specs.Slots.{tableEdges, tableCounts, pairCounts, countsBelow, CountedTo};
 use edge_test::back_stands;
 use edge_test::forward_stands;
 use kind_table::code_to;
@@ -68,4 +70,16 @@ pub fn count_edges(table: &[u64]) -> Counts
         i += 1;
     }
     counts
+}
+
+// Whether the edges of a table fit into an area with this much room. Where there is room for two edges to each pair of rows, they are not counted.
+pub fn fits_in(table: &[u64], room: usize) -> bool
+    ensures { λ r. ⌜ r ≡ leb (length (tableEdges (now (table .entry)))) room ⌝ }
+{
+    let n = row_count(table);
+    if 2 * n * n <= room {
+        return true;
+    }
+    let c = count_edges(table);
+    c.edges <= room
 }

@@ -2,16 +2,18 @@
 use mathlib.Core.Bool.{Bool, true, false, cond}
 use mathlib.Core.List.{List}
 use mathlib.Core.Path.{_≡_}
-use Prim.Native.Nat.{ℕ, _+_, _<_}
+use Prim.Native.Nat.{ℕ, _+_, _%_, _<_}
 use lib.Dec.{eqb}
 use lib.ListN.{getElem?}
 use lib.Count.{onesIn, trailingZeros}
+use Rattle.spec_graph.specs.Graph as G
 use Rattle.spec_graph.specs.Edge.{Letter}
 use Rattle.spec_graph.specs.Edge.Letter.{A, B, C, D, E}
 use Rattle.place_row.specs.declared.Row.{Row}
 use Rattle.place_row.specs.RowTable.{rowShared}
 use Rattle.edge_record.specs.declared.Found.{Found}
 use Rattle.edge_record.specs.Coded.{foundAs}
+use Rattle.edge_test.specs.Letters.{letterBetween}
 use Rattle.edge_count.specs.Slots.{tableEdges, edgesBelow, nextSlot}
 use Rattle.edge_find.specs.declared.EdgeStep.{EdgeStep}
 
@@ -49,6 +51,11 @@ stepIn x flow letter p q =
         letter = letter;
       });
     })
+
+-- the edge in slot x of two rows: the forward edge in an even slot, the back edge in an odd one
+unfoldable pub stepAt : ℕ → Row → Row → EdgeStep
+stepAt x p q =
+    cond (eqb (x % 2) 0) (stepIn x 0x66 (letterBetween G.Flow.forward p q) p q) (stepIn x 0x62 (letterBetween G.Flow.back p q) p q)
 
 -- an edge is found
 abbrev pub isThere : Found → Bool

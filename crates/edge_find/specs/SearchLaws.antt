@@ -6,9 +6,10 @@ use mathlib.Core.List.{List, [], _∷_, _++_, flatMap}
 use Prim.Native.Nat.{ℕ, zero, suc, _+_, _-_, _*_, _/_, _%_, _^_, _≤_, _<_}
 use native.Mathlib.Nat.{add-zero, zero-add, add-suc, suc-add}
 use native.Mathlib.Numerals.{add-one}
-use native.Mathlib.Decide.{decLe}
+use native.Mathlib.Decide.{decLe, ℕ-discrete}
 use native.Mathlib.Omega.{arith}
-use borrow.Author.Tests.{ne-eqb}
+use borrow.Author.Tests.{eq-eqb, ne-eqb}
+use lib.Dec.{eqb}
 use lib.Count.{ones, onesIn, trailingZeros}
 use lib.ListN.{length, getElem?}
 use Rattle.spec_base.specs.Basic.{numbers, numbersFrom}
@@ -16,10 +17,9 @@ use Rattle.law_base.specs.BoolLaws.{true-false}
 use Rattle.law_base.specs.ListLaws.{getElem?-past, getElem?-append-right}
 use Rattle.spec_graph.specs.Graph as G
 use Rattle.spec_graph.specs.Edge as E
-use Rattle.spec_graph.specs.Edge.{loosens}
 use Rattle.place_row.specs.declared.Row.{Row}
 use Rattle.place_row.specs.RowTable.{rowAt, rowCount, rowForward, rowBack, rowStands, rowLetter, rowEdge}
-use Rattle.place_row.specs.RowTableLaws.{back-loose, onesIn-ones}
+use Rattle.place_row.specs.RowTableLaws.{onesIn-ones}
 use Rattle.edge_find.specs.declared.EdgeStep.{EdgeStep}
 use Rattle.edge_record.specs.declared.Edge.{Edge}
 use Rattle.edge_record.specs.declared.Found.{Found}
@@ -27,10 +27,27 @@ use Rattle.edge_record.specs.Coded.{flowByte, coded, foundAs}
 use Rattle.edge_count.specs.Slots.{tableEdges, slots, leftRow, rightRow}
 use Rattle.edge_count.specs.Slots.{standsAt, slotEdge, edgeAt, nextFrom, nextSlot, one, edgesBelow}
 use Rattle.edge_test.specs.Letters.{byteOf, letterBetween}
-use Rattle.edge_find.specs.Search.{edgeFrom, letterFrom, sharedBy, nothingTo, stepIn, Looked}
+use Rattle.edge_find.specs.Search.{edgeFrom, letterFrom, sharedBy, nothingTo, stepIn, stepAt, Looked}
 use Rattle.edge_count.specs.SlotLaws.{rows-few, stands-past, stands-apart, stands-forward, stands-back, edge-forward, edge-back}
 use Rattle.law_base.specs.FlatLaws.{flatMap-append}
 use Rattle.edge_count.specs.Flattened.{numbersFrom-append, slotEdges, edges-flat, edges-below}
+
+-- ---- the edge in a slot of two rows
+
+module _ (x : ℕ) (p q : Row) {letter : ℕ} {r : EdgeStep} where
+  pub step-even : x % 2 ≡ 0 → letter ≡ letterBetween G.Flow.forward p q → r ≡ stepIn x 0x66 letter p q → r ≡ stepAt x p q
+  unfolding stepAt
+  step-even even e g =
+      g ∙ ap (λ (l : ℕ). stepIn x 0x66 l p q) e
+      ∙ sym (ap (λ (c : Bool). cond c (stepIn x 0x66 (letterBetween G.Flow.forward p q) p q) (stepIn x 0x62 (letterBetween G.Flow.back p q) p q))
+      (eq-eqb (x % 2) 0 even))
+
+  pub step-odd : (x % 2 ≡ 0 → ⊥) → letter ≡ letterBetween G.Flow.back p q → r ≡ stepIn x 0x62 letter p q → r ≡ stepAt x p q
+  unfolding stepAt
+  step-odd odd e g =
+      g ∙ ap (λ (l : ℕ). stepIn x 0x62 l p q) e
+      ∙ sym (ap (λ (c : Bool). cond c (stepIn x 0x66 (letterBetween G.Flow.forward p q) p q) (stepIn x 0x62 (letterBetween G.Flow.back p q) p q))
+      (ne-eqb (x % 2) 0 odd))
 
 -- ---- an edge put together
 
@@ -269,22 +286,28 @@ module _ (table : List ℕ) where
         unfolding rowCount
         inside = omega arith
 
-        pub looked-forward : x % 2 ≡ 0 → letter ≡ letterBetween G.Flow.forward p q → r ≡ stepIn x 0x66 letter p q → Looked table x r
+        looked-forward : x % 2 ≡ 0 → letter ≡ letterBetween G.Flow.forward p q → r ≡ stepIn x 0x66 letter p q → Looked table x r
         looked-forward even e g =
             slot-step G.Flow.forward (stands-forward table x (rowCount table) refl inside even) (edge-forward table x even) e g
 
-        pub looked-back : (x % 2 ≡ 0 → ⊥) → letter ≡ letterBetween G.Flow.back p q → r ≡ stepIn x 0x62 letter p q → Looked table x r
+        looked-back : (x % 2 ≡ 0 → ⊥) → letter ≡ letterBetween G.Flow.back p q → r ≡ stepIn x 0x62 letter p q → Looked table x r
         looked-back odd e g =
             slot-step G.Flow.back (stands-back table x (rowCount table) refl inside odd) (edge-back table x odd) e g
 
-      -- in the slot of a back edge that would leave a kind that is not loose
-      pub looked-firm : (r : EdgeStep) → x % 1024 / 2 < length table / 8 → (x % 2 ≡ 0 → ⊥) → loosens (rowAt table (x / 1024) .kind) ≡ false
-          → r ≡ nothingTo (x + 1) → Looked table x r
-      unfolding rowCount
-      looked-firm r right odd firm e =
-          let empty = sym (stands-back table x (rowCount table) refl (omega arith) odd) ∙ back-loose (leftRow table x) (rightRow table x) firm in
-          rw e (passed (x + 1) (omega arith) (let i = within left in omega arith)
-          (λ z l m. let s : z ≡ x = omega arith in ap (standsAt table) s ∙ empty))
+      pub looked-pair : (r : EdgeStep) (p q : Row) → x % 1024 / 2 < length table / 8 → p ≡ rowAt table (x / 1024)
+          → q ≡ rowAt table (x % 1024 / 2) → r ≡ stepAt x p q → Looked table x r
+      unfolding stepAt
+      looked-pair r p q right first second e = go (ℕ-discrete (x % 2) 0)
+        where
+          choose : (b : Bool) → eqb (x % 2) 0 ≡ b
+              → r ≡ cond b (stepIn x 0x66 (letterBetween G.Flow.forward p q) p q) (stepIn x 0x62 (letterBetween G.Flow.back p q) p q)
+          choose b t =
+              e ∙ ap (λ (c : Bool). cond c (stepIn x 0x66 (letterBetween G.Flow.forward p q) p q)
+              (stepIn x 0x62 (letterBetween G.Flow.back p q) p q)) t
+
+          go : Dec (x % 2 ≡ 0) → Looked table x r
+          go (yes z) = looked-forward r p q (letterBetween G.Flow.forward p q) right first second z refl (choose true (eq-eqb (x % 2) 0 z))
+          go (no z) = looked-back r p q (letterBetween G.Flow.back p q) right first second z refl (choose false (ne-eqb (x % 2) 0 z))
 
   -- ---- the edges after the first one from a slot on
 

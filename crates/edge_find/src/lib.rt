@@ -3,10 +3,7 @@
 
 ghost use mathlib.Core.Path.{_≡_};
 ghost use Prim.Native.Nat.{_<_};
-ghost use Rattle.edge_find.specs.Search.{sharedBy, nothingTo, stepIn, isThere, edgeFrom, Looked};
-use edge_kinds::LOOSE;
-use edge_kinds::kind_facts;
-use edge_kinds::kind_of;
+ghost use Rattle.edge_find.specs.Search.{sharedBy, nothingTo, stepIn, stepAt, isThere, edgeFrom, Looked};
 use edge_record::Edge;
 use edge_record::Found;
 use edge_test::back_letter;
@@ -14,12 +11,10 @@ use edge_test::forward_letter;
 use kind_pair::pair_code;
 use place_fetch::row_at;
 use place_fetch::row_count;
-use place_row::KIND;
 use place_row::ROW_SLOTS;
 use place_row::ROW_WORDS;
 use place_row::Row;
 use place_row::SLOTS;
-use word_list::word_at;
 
 // The first edge from some slot on, and its slot; where there is none, the number of slots.
 pub struct EdgeStep {
@@ -71,6 +66,22 @@ fn step_with(slot: usize, flow: u8, letter: u8, p: Row, q: Row) -> EdgeStep
     EdgeStep { slot, found }
 }
 
+// The edge in a slot of two rows; where none stands, the next slot. Even slots are those of forward edges.
+fn pair_at(slot: usize, p: Row, q: Row) -> EdgeStep
+    requires { ⌜ slot < 524288 ⌝ }
+    ensures { λ r. ⌜ r ≡ stepAt slot p q ⌝ }
+{
+    let k = p.kind;
+    let l = q.kind;
+    let code = pair_code(k, l);
+    if slot % 2 == 0 {
+        let letter = forward_letter(code, p, q);
+        return step_with(slot, b'f', letter, p, q);
+    }
+    let letter = back_letter(code, p, q);
+    step_with(slot, b'b', letter, p, q)
+}
+
 // The edge in a slot; where none stands, the next slot to look at. Slots past the last row are passed over at once, and so are both slots
 // of a pair of rows of two relations. That both rows are whole is tested first, so that no row is looked up word by word.
 fn look_at(table: &[u64], slot: usize) -> EdgeStep
@@ -86,27 +97,12 @@ fn look_at(table: &[u64], slot: usize) -> EdgeStep
     if rows <= j {
         return nothing_to(i * ROW_SLOTS + ROW_SLOTS);
     }
-    if slot % 2 == 1 {
-        // Only a loose kind has back edges that leave it: for the others no row need be fetched.
-        let kind = kind_of(word_at(table, i * ROW_WORDS + KIND));
-        if kind_facts(kind) & LOOSE == 0 {
-            return nothing_to(slot + 1);
-        }
-    }
     let p = row_at(table, i);
     let q = row_at(table, j);
     if p.relation != q.relation {
         return nothing_to(slot / 2 * 2 + 2);
     }
-    let k = p.kind;
-    let l = q.kind;
-    let code = pair_code(k, l);
-    if slot % 2 == 0 {
-        let letter = forward_letter(code, p, q);
-        return step_with(slot, b'f', letter, p, q);
-    }
-    let letter = back_letter(code, p, q);
-    step_with(slot, b'b', letter, p, q)
+    pair_at(slot, p, q)
 }
 
 // Whether a step has found an edge.

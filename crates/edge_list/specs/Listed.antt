@@ -27,7 +27,7 @@ use Rattle.edge_count.specs.Slots.{tableEdges, tableCounts}
 use Rattle.edge_put.specs.declared.Put.{Put}
 use Rattle.edge_put.specs.declared.Put.the-variants.{Refused}
 use Rattle.edge_put.specs.Put.{putSaid, PutAs}
-use Rattle.edge_put.specs.PutLaws.{coded-at, coded-none}
+use Rattle.edge_number.specs.NumberLaws.{coded-at, coded-none}
 use Rattle.place_table.specs.declared.Rows.{Rows}
 use Rattle.place_table.specs.Rows.{RowsSettled}
 use Rattle.place_table.specs.Whole.{number-some, whole-refused, whole-filled, whole-edges}

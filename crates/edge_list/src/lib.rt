@@ -1,8 +1,8 @@
 // The edges of any workload value: counted, told one by one, or put into the caller's list.
 
 use edge_count::count_edges;
+use edge_number::edge_of_number;
 use edge_put::Put;
-use edge_put::edge_of_number;
 use edge_put::put_edges;
 use edge_record::Edge;
 use edge_record::Found;

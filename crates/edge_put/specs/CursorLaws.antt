@@ -1,20 +1,20 @@
 -- Laws of cursors: what stands between two rows, and which slots a step passes over.
-use mathlib.Core.Path.{_≡_, refl, sym, ap, ap₂, subst, _∙_}
+use mathlib.Core.Path.{_≡_, refl, sym, ap, ap₂, _∙_}
 use mathlib.Core.Bool.{Bool, true, false, cond, not, _&&_, _||_}
 use mathlib.Core.Option.{some}
-use mathlib.Core.List.{List, [], _∷_, _++_, map, flatMap}
+use mathlib.Core.List.{List, map}
 use Prim.Native.Nat.{ℕ, _+_, _-_, _*_, _/_, _%_, _^_, _≤_, _<_}
-use native.Mathlib.Nat.{add-zero, suc-mul, mul-comm, mul-assoc, le-trans, mod-eq-of-lt}
+use native.Mathlib.Nat.{add-zero, mod-eq-of-lt}
 use native.Mathlib.Decide.{ℕ-discrete}
 use native.Mathlib.Numerals.{add-one}
 use native.Mathlib.Omega.{arith}
 use lib.Count.{ones, onesIn}
-use lib.Dec.{eqb, leb}
-use lib.ListN.{length, getElem?, length-append, length-map}
-use borrow.Author.Tests.{eq-eqb, ne-eqb, le-leb}
-use Rattle.spec_base.specs.Basic.{meets, numbers}
+use lib.Dec.{eqb}
+use lib.ListN.{length, getElem?}
+use borrow.Author.Tests.{eq-eqb, ne-eqb}
+use Rattle.spec_base.specs.Basic.{meets}
 use Rattle.law_base.specs.BoolLaws.{true-false}
-use Rattle.law_base.specs.ListLaws.{getElem?-map-some, length-numbers}
+use Rattle.law_base.specs.ListLaws.{getElem?-map-some}
 use Rattle.spec_graph.specs.Graph as G
 use Rattle.spec_graph.specs.Edge as E
 use Rattle.spec_graph.specs.Edge.{selects, loosens}
@@ -23,7 +23,6 @@ use Rattle.edge_kinds.specs.KindLaws.{number-small, number-named}
 use Rattle.place_row.specs.declared.Row.{Row}
 use Rattle.place_row.specs.KeyWord.{farIn}
 use Rattle.place_row.specs.RowTable.{rowAt, rowCount, rowHolds, rowShared, rowForward, rowBack, rowStands, rowLetter, rowEdge}
-use Rattle.place_row.specs.RowTable.{rowEdges, tableRows, edgesOfRows}
 use Rattle.place_row.specs.RowTableLaws.{back-loose, onesIn-ones}
 use Rattle.edge_record.specs.declared.Edge.{Edge}
 use Rattle.edge_record.specs.Coded.{flowByte, coded}
@@ -36,10 +35,10 @@ use Rattle.edge_put.specs.declared.Cursor.{Cursor}
 use Rattle.edge_put.specs.declared.Step.{Step}
 use Rattle.place_next.specs.Chains.{chainOf, onChain}
 use Rattle.place_next.specs.ChainLaws.{on-low, on-high, on-same, on-relation}
-use Rattle.place_next.specs.Links.{kindWord, nextIn, firstIn, Links, LinkedTold}
+use Rattle.place_link.specs.Links.{kindWord, nextIn, firstIn, LinkedTold}
 use Rattle.edge_put.specs.Cursors.{wordsIn, rowIn, rowStart, pastAll, firstRow, nextRow, atPair, nothingAt, edgeBy, backShared, backIs}
 use Rattle.edge_put.specs.Cursors.{rowAfter, slotOf, Inside, LinksIn, LookedAt, Begun}
-use Rattle.edge_put.specs.Cursors.{Pending, Standing, BackNext, Open, Paired, Skipped, Stepped, Passed}
+use Rattle.edge_put.specs.Cursors.{Pending, Standing, BackNext, Open, Paired, Stepped, Passed}
 
 -- a row is told by its words
 words-back : (p : Row) → rowIn (wordsIn p) ≡ p
@@ -677,43 +676,6 @@ module _ (table : List ℕ) where
   pub onward-high : (c d : Cursor) → Onward c d → d .i * 1024 + d .j ≤ 600000
   onward-high c d o =
       let m = rows-most (o .stands .rows) in let f = o .stands .few in let x = slot-open d (o .none) in let i = o .stands .inside in omega arith
-
--- ---- room for all edges
-
-module _ {A B : Type 0} where
-  flat-most : (f : A → List B) (m : ℕ) (l : List A) → ((x : A) → length (f x) ≤ m) → length (flatMap f l) ≤ length l * m
-  unfolding flatMap
-  flat-most f m [] h = omega arith
-  flat-most f m (x ∷ l) h =
-      let e = length-append (f x) (flatMap f l) in
-      let a = h x in
-      let b = flat-most f m l h in
-      let s = suc-mul (length l) m in
-      omega arith
-
--- two edges to each pair of rows
-pub edges-most : (table : List ℕ) (n : ℕ) → n ≡ rowCount table → length (tableEdges table) ≤ 2 * n * n
-unfolding tableEdges edgesOfRows tableRows rowEdges
-edges-most table n e =
-    let rows = map (rowAt table) (numbers (rowCount table)) in
-    let long : length rows ≡ n = length-map (numbers (rowCount table)) (rowAt table) ∙ length-numbers (rowCount table) ∙ sym e in
-    let h = flat-most (λ p. flatMap (rowEdges p) rows) (length rows * 2) rows (λ p. flat-most (rowEdges p) 2 rows (λ q. pair-two p q)) in
-    let s : length rows * (length rows * 2) ≡ 2 * n * n =
-    ap (λ (k : ℕ). k * (k * 2)) long ∙ ap (λ (k : ℕ). n * k) (mul-comm n 2) ∙ sym (mul-assoc n 2 n) ∙ ap (λ (k : ℕ). k * n) (mul-comm n 2) in
-    omega arith
-  where
-    pair-two : (p q : Row) → length (rowEdges p q) ≤ 2
-    pair-two p q = go (rowForward p q) (rowBack p q)
-      where
-        go : (f b : Bool) → length (cond f (rowEdge G.Flow.forward p q ∷ []) [] ++ cond b (rowEdge G.Flow.back p q ∷ []) []) ≤ 2
-        go true true = omega arith
-        go true false = omega arith
-        go false true = omega arith
-        go false false = omega arith
-
--- so they fit where there is as much room
-pub fits-surely : (table : List ℕ) (n room : ℕ) → n ≡ rowCount table → 2 * n * n ≤ room → true ≡ leb (length (tableEdges table)) room
-fits-surely table n room rows h = sym (le-leb _ _ (le-trans (edges-most table n rows) h))
 
 -- ---- links
 

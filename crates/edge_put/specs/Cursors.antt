@@ -13,7 +13,7 @@ use Rattle.edge_kinds.specs.Kinds.{kindNumber, kindOf}
 use Rattle.place_row.specs.declared.Row.{Row}
 use Rattle.place_row.specs.RowTable.{rowAt, rowCount}
 use Rattle.place_next.specs.Chains.{chainOf}
-use Rattle.place_next.specs.Links.{kindWord, nextIn, firstIn, Links}
+use Rattle.place_link.specs.Links.{kindWord, nextIn, firstIn, Links}
 use Rattle.edge_record.specs.declared.Edge.{Edge}
 use Rattle.edge_record.specs.Coded.{coded}
 use Rattle.edge_test.specs.Letters.{letterBetween}

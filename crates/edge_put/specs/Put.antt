@@ -1,33 +1,20 @@
--- Edges by their numbers, and edges put into a list. Believed: `putSaid` and `PutAs`.
+-- Edges put into a list. Believed: `putSaid` and `PutAs`.
 use mathlib.Core.Path.{_≡_}
 use mathlib.Core.Bool.{Bool, cond}
 use mathlib.Core.Logic.{_⊎_, inl, inr}
-use mathlib.Core.Option.{some}
 use mathlib.Core.List.{List, _++_, map}
 use Prim.Native.Nat.{ℕ, _+_, _≤_, _<_}
-use lib.ListN.{length, take, drop, getElem?}
+use lib.ListN.{length, take, drop}
 use Rattle.spec_graph.specs.Edge as E
 use Rattle.edge_record.specs.declared.Edge.{Edge}
-use Rattle.edge_put.specs.declared.Next.{Next}
 use Rattle.edge_put.specs.declared.Put.{Put}
 use Rattle.edge_put.specs.declared.Put.the-variants.{All, Refused}
 use Rattle.edge_record.specs.Coded.{coded}
-use Rattle.edge_count.specs.Slots.{tableEdges, edgesBelow}
+use Rattle.edge_count.specs.Slots.{tableEdges}
 
 -- E5: all edges of a table, as the code holds them
 abbrev pub records : List ℕ → List Edge
 records table = map coded (tableEdges table)
-
--- an edge has number k, and the edges with lower numbers are those that stand in the slots below x
-pub record Ahead (table : List ℕ) (k x : ℕ) : Type 0 where
-  pub below : edgesBelow table x ≡ k
-  pub there : k < length (tableEdges table)
-
--- the step tells edge number k, and a slot after which the edges with higher numbers stand
-pub record Numbered (table : List ℕ) (k : ℕ) (step : Next) : Type 0 where
-  pub edge : getElem? (records table) k ≡ some (step .edge)
-  pub after : edgesBelow table (step .slot + 1) ≡ k + 1
-  pub few : step .slot < 524288
 
 -- the first k of a list put at the front of an area
 abbrev pub putFirst : List Edge → List Edge → ℕ → List Edge

@@ -1,33 +1,29 @@
-// Edges by their numbers: one asked for, or all put into the caller's list.
+// The edges of a table, one after the other, put into the caller's list.
 
 ghost use mathlib.Core.Path.{_≡_};
 ghost use Prim.Native.Nat.{_+_, _*_, _≤_, _<_};
-ghost use lib.Dec.{leb};
-ghost use lib.ListN.{length, getElem?};
+ghost use lib.ListN.{length};
 ghost use Rattle.kind_table.specs.Codes.{codeOf};
 ghost use Rattle.place_row.specs.RowTable.{rowAt};
-ghost use Rattle.edge_record.specs.Coded.{foundAs};
 ghost use Rattle.edge_count.specs.Slots.{tableEdges};
 ghost use Rattle.edge_put.specs.Cursors.{rowIn, rowStart, pastAll, firstRow, nextRow, atPair, nothingAt, edgeBy, backShared, backIs, rowAfter};
 ghost use Rattle.edge_put.specs.Cursors.{Inside, LinksIn, Begun, Standing, BackNext, Open, Paired, Stepped, Passed};
-ghost use Rattle.edge_put.specs.Put.{answerFor, Ahead, Numbered, PutAs};
-use edge_count::count_edges;
-use edge_find::edge_from;
+ghost use Rattle.edge_put.specs.Put.{answerFor, PutAs};
+use edge_count::fits_in;
 use edge_find::shared_by;
 use edge_kinds::LOOSE;
 use edge_kinds::kind_has;
 use edge_kinds::kind_number;
 use edge_kinds::kind_of;
 use edge_record::Edge;
-use edge_record::Found;
 use edge_test::back_letter;
 use edge_test::forward_letter;
 use kind_pair::pair_code;
 use place_fetch::row_count;
-use place_next::FIRST;
-use place_next::NEXT;
-use place_next::NEXTS;
-use place_next::rows_linked;
+use place_link::FIRST;
+use place_link::NEXT;
+use place_link::NEXTS;
+use place_link::rows_linked;
 use place_row::KEYS;
 use place_row::KIND;
 use place_row::PLACE;
@@ -42,70 +38,6 @@ use place_row::WRITES;
 pub enum Put {
     All(usize),
     Refused(u8),
-}
-
-// An edge and its slot.
-struct Next {
-    slot: usize,
-    edge: Edge,
-}
-
-// How many edges a table has.
-fn edge_count(table: &[u64]) -> usize
-    ensures { λ r. ⌜ r ≡ length (tableEdges (now (table .entry))) ⌝ }
-{
-    let c = count_edges(table);
-    c.edges
-}
-
-// Edge number k of a table and its slot, found from a slot on before which the k edges with lower numbers stand. There is one: the second case
-// is never met.
-fn edge_next(table: &[u64], k: usize, from: usize) -> Next
-    requires { ⌜ Ahead (now table) k from ⌝ }
-    ensures { λ r. ⌜ Numbered (now (table .entry)) k r ⌝ }
-{
-    let step = edge_from(table, from);
-    let slot = step.slot;
-    let found = step.found;
-    match found {
-        Found::There(edge) => {
-            return Next { slot, edge };
-        }
-        Found::Absent => {
-            let edge = Edge {
-                node: 0,
-                leaves: 0,
-                into: 0,
-                enters: 0,
-                sharing: 0,
-                lowest: 0,
-                flow: 0,
-                letter: 0,
-            };
-            return Next { slot, edge };
-        }
-    }
-}
-
-// Edge number k of a table: each edge is found from after the slot of the one before. Rows past the 512th are not looked at: no workload has
-// more.
-pub fn edge_of_number(table: &[u64], k: usize) -> Found
-    ensures { λ r. ⌜ r ≡ foundAs (getElem? (tableEdges (now (table .entry))) k) ⌝ }
-{
-    let n = edge_count(table);
-    if n <= k {
-        return Found::Absent;
-    }
-    let mut from: usize = 0;
-    let mut i: usize = 0;
-    while i < k {
-        let step = edge_next(table, i, from);
-        from = step.slot + 1;
-        i += 1;
-    }
-    let last = edge_next(table, k, from);
-    let edge = last.edge;
-    Found::There(edge)
 }
 
 // The words of a row, the kind by its number: all of one size, so that keeping them costs no copying of what lies between.
@@ -410,18 +342,6 @@ fn next_edge(table: &[u64], c: Cursor) -> Step
         d = step.cursor;
     }
     nothing_at(d)
-}
-
-// Whether the edges of a table fit into an area with this much room. Where there is room for two edges to each pair of rows, they are not counted.
-fn fits_in(table: &[u64], room: usize) -> bool
-    ensures { λ r. ⌜ r ≡ leb (length (tableEdges (now (table .entry)))) room ⌝ }
-{
-    let n = row_count(table);
-    if 2 * n * n <= room {
-        return true;
-    }
-    let c = count_edges(table);
-    c.edges <= room
 }
 
 // 1 where the rows of a table are linked, else 0.

@@ -19,7 +19,6 @@ use Rattle.spec_report.specs.State.StateRefusal.{not-given, too-many, too-short
 use Rattle.spec_report.specs.Refusals.{not-both}
 use Rattle.edge_record.specs.declared.Edge.{Edge}
 use Rattle.edge_put.specs.declared.Put.{Put}
-use Rattle.edge_put.specs.declared.Put.the-variants.{All, Refused}
 use Rattle.edge_put.specs.Put.{putSaid}
 use Rattle.edge_list.specs.EdgesSettled.{edgesIn, PutSettled}
 use Rattle.edge_list.specs.Few.{edges-few}
@@ -28,6 +27,7 @@ use Rattle.text_read.specs.Parse.{parsedAs}
 use Rattle.refusal_laws.specs.RefusalLaws.{refusal-bounds, parsed-refused, parsed-accepted}
 use Rattle.export_word.specs.Word.{refusalWord}
 use Rattle.export_word.specs.WordLaws.{word-back}
+use Rattle.export_edges.specs.EdgesTold.{putTold}
 use Rattle.exports.specs.TextEdges.{edgesPut, TextEdges, edgesWord, FewPut}
 use Rattle.exports.specs.TextEdges.TextEdges.{unread, large, short, put}
 
@@ -67,18 +67,13 @@ refusal-told text (put lines o t s e same) q = absurd (not-both-read (sym q ∙ 
 
 -- ---- the answers
 
-module _ {answer : Put} {n : ℕ} where
-  pub few-count : FewPut answer → answer ≡ All n → n ≤ 524288
-  unfolding putSaid
-  few-count few e = few n (ap putSaid e)
-
-  pub all-word : answer ≡ All n → n ≡ edgesWord (putSaid answer)
-  unfolding putSaid
-  all-word e = sym (ap (λ (p : Put). edgesWord (putSaid p)) e)
-
-  pub refused-word : {r : ℕ} → answer ≡ Refused n → r ≡ refusalWord n 0 → r ≡ edgesWord (putSaid answer)
-  unfolding putSaid
-  refused-word e word = word ∙ sym (ap (λ (p : Put). edgesWord (putSaid p)) e)
+-- few edges are told by their count
+pub few-word : (answer : Put) {r : ℕ} → FewPut answer → r ≡ putTold (putSaid answer) → r ≡ edgesWord (putSaid answer)
+few-word answer few word = word ∙ go (putSaid answer) refl
+  where
+    go : (said : ℕ ⊎ ℕ) → putSaid answer ≡ said → putTold said ≡ edgesWord said
+    go (inl number) e = refl
+    go (inr n) e = let l = few n e in omega arith
 
 module _ (text : List ℕ) {p : Parsed} (e : p ≡ parsedAs (read text)) {before : List Edge} {r : ℕ} where
   -- R: the refusal of the text

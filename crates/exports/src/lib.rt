@@ -1,8 +1,8 @@
 // What is made of a text, as exports: reading, unfolding and the verdict, for timing beside plain Rust, and the edges, put into the caller's list.
 // Each is one call from the bytes on, and one number answers it: bit 31 tells a refusal, and then its number and its line follow.
 
-use edge_put::Put;
 use edge_record::Edge;
+use export_edges::put_word;
 use export_word::nodes_word;
 use export_word::refusal_word;
 use export_word::value_word;
@@ -11,9 +11,8 @@ use spec_text::CELLS;
 use unfold::Unfolded;
 ghost use mathlib.Core.Path.{_≡_};
 ghost use Rattle.spec_text.specs.Reading.{read};
-ghost use Rattle.edge_put.specs.Put.{putSaid};
 ghost use Rattle.exports.specs.Stages.{given, readWord, unfoldWord, UnfoldStage, VerdictStage};
-ghost use Rattle.exports.specs.TextEdges.{edgesWord, FewPut, TextEdges};
+ghost use Rattle.exports.specs.TextEdges.{TextEdges};
 
 #[no_mangle]
 pub extern "C" fn stage_read(text: &[u8]) -> u32
@@ -52,21 +51,6 @@ pub extern "C" fn stage_unfold(text: &[u8], area: &mut [u64]) -> u32
     unfold_word(u)
 }
 
-// What became of edges: how many are put, or the refusal.
-fn edges_word(put: Put) -> u32
-    requires { ⌜ FewPut put ⌝ }
-    ensures { λ r. ⌜ r ≡ edgesWord (putSaid put) ⌝ }
-{
-    match put {
-        Put::All(n) => {
-            return n as u32;
-        }
-        Put::Refused(number) => {
-            return refusal_word(number, 0);
-        }
-    }
-}
-
 // Puts the edges of a text at the front of the caller's list; the rest of it stays as it was, and a refusal leaves all of it. Answers how many
 // edges are put, at most 524,288, or the refusal. No text is refused by 21: its value is one that a text gives.
 #[no_mangle]
@@ -79,7 +63,7 @@ pub extern "C" fn text_edges<'b, 'a>(text: &'b [u8], out: &'a mut [Edge]) -> u32
     }
     let w = p.work;
     let put = edge_list::put_workload_edges(w, out);
-    edges_word(put)
+    put_word(put)
 }
 
 // The verdict, with a dangerous walk in the area.

@@ -1,14 +1,13 @@
 -- The answer is never mistaken; and what it is for a refused and for an accepted text.
-use mathlib.Core.Bool.{Bool, false, cond}
+use mathlib.Core.Bool.{false}
 use mathlib.Core.List.{List, [], _++_, flatMap}
-use mathlib.Core.Logic.{_⊎_, inl, inr}
 use mathlib.Core.Path.{_≡_, refl, sym, ap, subst, _∙_}
-use Prim.Native.Nat.{ℕ, _+_, _*_, _/_, _%_, _≤_, _<_}
+use Prim.Native.Nat.{ℕ, _+_, _*_, _≤_}
 use native.Mathlib.Nat.{not-suc-le-zero}
 use native.Mathlib.Omega.{arith}
 use lib.ListN.{length, take, drop, length-append}
 use lib.Seq.{length-take-le, take-append-seam}
-use borrow.Author.Tests.{lt-ltb, le-ltb, eq-eqb, ne-eqb}
+use borrow.Author.Tests.{lt-ltb, le-ltb}
 use Rattle.spec_text.specs.declared.Line.{Line}
 use Rattle.spec_text.specs.Reading.{read}
 use Rattle.spec_text.specs.Reading.Outcome.{refused, accepted}
@@ -25,41 +24,15 @@ use Rattle.place_text.specs.Placed.{noRows, rowsTold, TextPlaced}
 use Rattle.edge_record.specs.declared.Edge.{Edge}
 use Rattle.edge_count.specs.Slots.{tableEdges}
 use Rattle.edge_put.specs.declared.Put.{Put}
-use Rattle.edge_put.specs.declared.Put.the-variants.{All, Refused}
 use Rattle.edge_put.specs.Put.{putSaid, PutAs}
 use Rattle.edge_list.specs.Few.{edges-few}
 use Rattle.refusal_laws.specs.RefusalLaws.{refusal-bounds}
 use Rattle.export_word.specs.Word.{refusalWord}
-use Rattle.export_word.specs.WordLaws.{word-back}
-use Rattle.exports.specs.TextEdges.{edgesPut, TextEdges, edgesWord as putWord, FewPut}
+use Rattle.export_edges.specs.EdgesTold.{edgesTold}
+use Rattle.export_edges.specs.ToldLaws.{word-unread, word-put}
+use Rattle.exports.specs.TextEdges.{TextEdges, edgesWord as putWord, FewPut}
+use Rattle.exports.specs.TextEdgesLaws.{few-word}
 use Rattle.exports.specs.TextEdges.TextEdges.{unread, large, short, put}
-use Rattle.exports_lent.specs.EdgesTold.{edgesTold}
-
--- ---- the answers
-
-module _ (number line : ℕ) (said : ℕ ⊎ ℕ) where
-  -- a number that is not 0 is a refusal of the text
-  pub word-unread : (number ≡ 0 → ⊥) → refusalWord number line ≡ edgesTold number line said
-  unfolding edgesTold
-  word-unread other = sym (ap (λ (b : Bool). cond b (putWord said) (refusalWord number line)) (ne-eqb number 0 other))
-
-  word-put : number ≡ 0 → putWord said ≡ edgesTold number line said
-  unfolding edgesTold
-  word-put taken = sym (ap (λ (b : Bool). cond b (putWord said) (refusalWord number line)) (eq-eqb number 0 taken))
-
-module _ {answer : Put} {n : ℕ} where
-  pub few-count : FewPut answer → answer ≡ All n → n ≤ 524288
-  unfolding putSaid
-  few-count few e = few n (ap putSaid e)
-
-  module _ (number line : ℕ) (taken : number ≡ 0) where
-    pub all-word : answer ≡ All n → n ≡ edgesTold number line (putSaid answer)
-    unfolding putSaid
-    all-word e = sym (ap (λ (p : Put). putWord (putSaid p)) e) ∙ word-put number line (putSaid answer) taken
-
-    pub refused-word : {r : ℕ} → answer ≡ Refused n → r ≡ refusalWord n 0 → r ≡ edgesTold number line (putSaid answer)
-    unfolding putSaid
-    refused-word e word = word ∙ sym (ap (λ (p : Put). putWord (putSaid p)) e) ∙ word-put number line (putSaid answer) taken
 
 -- no words, no edges
 no-words : (table : List ℕ) → tableEdges (take 0 table) ≡ []
@@ -124,7 +97,7 @@ module _ (text : List ℕ) {old : List ℕ} {t : TextRows} {table : List ℕ} (r
 
   module _ {before : List Edge} {answer : Put} {after : List Edge} (edges : PutAs (tableEdges (take (t .words) table)) before answer after) where
     -- so few edges are put
-    pub text-few : FewPut answer
+    text-few : FewPut answer
     unfolding noRows rowsTold
     text-few n said = omega (arith, counted edges, most rows)
       where
@@ -156,7 +129,8 @@ module _ (text : List ℕ) {old : List ℕ} {t : TextRows} {table : List ℕ} (r
             word ∙ ap (λ (x : TextRows). edgesTold (x .number) (x .line) (putSaid answer)) told ∙ sym (word-unread number line (putSaid answer) other)
 
         put-word : (lines : List Line) → t ≡ rowsTold lines → r ≡ putWord (putSaid answer)
-        put-word lines told = word ∙ sym (word-put (t .number) (t .line) (putSaid answer) (ap (λ (x : TextRows). x .number) told))
+        put-word lines told =
+            few-word answer text-few (word ∙ sym (word-put (t .number) (t .line) (putSaid answer) (ap (λ (x : TextRows). x .number) told)))
 
         all : (lines : List Line) → read text ≡ accepted lines → tooMany lines ≡ false → r ≡ putWord (putSaid answer)
             → PutAs (E.edgesOf (nodesOf lines)) before answer after → TextEdges (read text) before r after

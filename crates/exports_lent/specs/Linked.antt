@@ -6,7 +6,7 @@ use lib.ListN.{length, take, drop}
 use Rattle.spec_text.specs.Reading.{Outcome}
 use Rattle.place_text.specs.declared.TextRows.{TextRows}
 use Rattle.place_text.specs.Placed.{TextPlaced}
-use Rattle.place_next.specs.Links.{LinkedAs}
+use Rattle.place_link.specs.Links.{LinkedAs}
 
 -- the rows in the first words of a table are linked, with so many words to work in, and past them the table is as it was
 pub record FirstLinked (words : ℕ) (before after : List ℕ) : Type 0 where

@@ -9,17 +9,17 @@ use Rattle.spec_base.specs.Basic.{numbers}
 use Rattle.spec_text.specs.Reading.{read}
 use Rattle.spec_graph.specs.Edge as E
 use Rattle.place_row.specs.RowTable.{rowCount, tableRows, edgesOfRows}
-use Rattle.place_next.specs.Links.{LinkedAs}
-use Rattle.place_next.specs.LinkLaws.{linked-count, linked-row}
+use Rattle.place_link.specs.Links.{LinkedAs}
+use Rattle.place_link.specs.LinkLaws.{linked-count, linked-row}
 use Rattle.place_text.specs.declared.TextRows.{TextRows}
 use Rattle.place_text.specs.Placed.{TextPlaced}
 use Rattle.edge_record.specs.declared.Edge.{Edge}
 use Rattle.edge_count.specs.Slots.{tableEdges}
 use Rattle.edge_put.specs.declared.Put.{Put}
 use Rattle.edge_put.specs.Put.{putSaid, PutAs}
-use Rattle.exports.specs.TextEdges.{TextEdges, FewPut}
-use Rattle.exports_lent.specs.EdgesTold.{edgesTold}
-use Rattle.exports_lent.specs.EdgesLaws.{words-long, text-few, text-settled}
+use Rattle.exports.specs.TextEdges.{TextEdges}
+use Rattle.export_edges.specs.EdgesTold.{edgesTold}
+use Rattle.exports_lent.specs.EdgesLaws.{words-long, text-settled}
 use Rattle.exports_lent.specs.Linked.{FirstLinked, TextLinked}
 
 take-short : (k : ℕ) (l : List ℕ) → length (take k l) ≤ length l
@@ -59,10 +59,6 @@ module _ (text : List ℕ) {old : List ℕ} {t : TextRows} {table : List ℕ} (r
   module _ {before : List Edge} {answer : Put} {after : List Edge} (edges : PutAs (tableEdges (take (t .words) table)) before answer after) where
     plain-edges : PutAs (tableEdges (take (t .words) (rows .plain))) before answer after
     plain-edges = subst (λ (l : List E.Edge). PutAs l before answer after) (linked-edges (rows .linked .rows)) edges
-
-    -- so few edges are put
-    pub linked-few : FewPut answer
-    linked-few = text-few text (rows .placed) plain-edges
 
     -- R, S22, S20, or the edges put
     pub linked-settled : {r : ℕ} → r ≡ edgesTold (t .number) (t .line) (putSaid answer) → TextEdges (read text) before r after

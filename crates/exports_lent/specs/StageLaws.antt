@@ -2,6 +2,7 @@
 use mathlib.Core.List.{List}
 use mathlib.Core.Path.{_≡_, refl, sym, ap, ap₂, subst, _∙_}
 use Prim.Native.Nat.{ℕ}
+use native.Mathlib.Decide.{ℕ-discrete}
 use native.Mathlib.Omega.{arith}
 use Rattle.spec_text.specs.declared.Line.{Line}
 use Rattle.spec_text.specs.declared.Workload.{Workload}
@@ -14,14 +15,16 @@ use Rattle.text_table.specs.declared.TextTable.{TextTable}
 use Rattle.text_table.specs.Tabled.{notRead, linesRead, TextTabled}
 use Rattle.refusal_laws.specs.RefusalLaws.{refusal-bounds}
 use Rattle.text_read.specs.Parse.{parsedAs}
-use Rattle.unfold.specs.declared.Unfolded.{Unfolded}
-use Rattle.unfold.specs.UnfoldLines.{LinesSettled}
+use Rattle.unfold.specs.declared.LastTold.{LastTold}
+use Rattle.unfold.specs.UnfoldLines.{LastSettled}
 use Rattle.verdict_told.specs.declared.Verdict.{Verdict}
 use Rattle.verdict_told.specs.Told.{told as toldBy}
 use Rattle.verdict_of.specs.declared.TextVerdict.{TextVerdict}
 use Rattle.verdict_of.specs.TextVerdict.{TextJudged}
 use Rattle.export_word.specs.Word.{refusalWord, verdictWord}
+use Rattle.exports.specs.StageLaws.{nodes-refused, nodes-taken}
 use Rattle.exports.specs.Stages.{given, unfoldWord, Unfolds, Judges, UnfoldStage, VerdictStage}
+use Rattle.exports_lent.specs.LastWord.{LastWord}
 
 -- ---- from a text on
 
@@ -82,11 +85,24 @@ table-unread text {t = t} (TextTabled.unread number line isRead e) other =
     isRead ∙ ap₂ refused (sym (ap (λ (x : TextTable). x .number) e)) (sym (ap (λ (x : TextTable). x .line) e))
 table-unread text {t = t} (TextTabled.tabled ls isRead e stands) other = absurd (other (ap (λ (x : TextTable). x .number) e))
 
+-- the word for the last row is that for all that would be told
+last-told : {words before after : List ℕ} {u : LastTold} (s : LastSettled words before u after) {r : ℕ} → LastWord u r
+    → r ≡ unfoldWord (s .unfolded)
+last-told {u = u} s {r} word = go (ℕ-discrete (u .refusal) 0)
+  where
+    go : Dec (u .refusal ≡ 0) → r ≡ unfoldWord (s .unfolded)
+    go (yes none) = nodes-taken (s .unfolded) (sym (s .refusal) ∙ none) (word .taken none ∙ rw (s .count, s .start, s .length) refl)
+    go (no other) = nodes-refused (s .unfolded) (λ z. other (s .refusal ∙ z)) (word .refused other ∙ ap (λ (n : ℕ). refusalWord n 0) (s .refusal))
+
 -- the unfoldings of the lines in the table are the text's
-pub lines-unfolded : (text : List ℕ) {ls : List Line} → read text ≡ accepted ls → {words before : List ℕ} {u : Unfolded} {after : List ℕ}
-    → words ≡ lineTable ls → LinesSettled words before u after → {r : ℕ} → r ≡ unfoldWord u → UnfoldStage (given text) before r after
-lines-unfolded text {ls} isRead {u = u} e settled word =
-    unfold-goes-on text isRead (record { told = u; settled = settled .settled ls e (value-given text isRead); word = word })
+pub lines-unfolded : (text : List ℕ) {ls : List Line} → read text ≡ accepted ls → {words before : List ℕ} {u : LastTold} {after : List ℕ}
+    → words ≡ lineTable ls → LastSettled words before u after → {r : ℕ} → LastWord u r → UnfoldStage (given text) before r after
+lines-unfolded text {ls} isRead e s word =
+    unfold-goes-on text isRead (record {
+      told = s .unfolded;
+      settled = s .settled .settled ls e (value-given text isRead);
+      word = last-told s word;
+    })
 
 -- the verdict on a text, in its two cases
 module _ (text : List ℕ) {before : List ℕ} {v : TextVerdict} {after : List ℕ} (answered : TextJudged (read text) before v after) {r : ℕ} where

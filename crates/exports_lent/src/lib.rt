@@ -2,9 +2,10 @@
 // exports of crate exports ask for no such words. Each is one call from the bytes on, and one number answers it: bit 31 tells a refusal, and then its
 // number and its line follow.
 
-use edge_put::Put;
 use edge_record::Edge;
 use edge_word::PAIRS;
+use export_edges::edges_word;
+use export_word::nodes_word;
 use export_word::refusal_word;
 use export_word::value_word;
 use export_word::verdict_word;
@@ -15,7 +16,7 @@ use place_text::TextRows;
 use spec_text::CELLS;
 use spec_text::Line;
 use spec_text::LineKind;
-use unfold::Unfolded;
+use unfold::LastTold;
 use value_tables::LINE_TABLE;
 use value_tables::LINE_WORDS;
 use verdict_of::TextVerdict;
@@ -24,13 +25,12 @@ ghost use Prim.Native.Nat.{_≤_};
 ghost use lib.ListN.{length, take};
 ghost use Rattle.spec_text.specs.Reading.{read};
 ghost use Rattle.lent_words.specs.Lent.{Lent};
-ghost use Rattle.unfold.specs.UnfoldLines.{LinesSettled};
-ghost use Rattle.edge_put.specs.Put.{putSaid};
+ghost use Rattle.unfold.specs.UnfoldLines.{LastSettled};
 ghost use Rattle.verdict_of.specs.TextVerdict.{RowsLeft};
 ghost use Rattle.exports.specs.Stages.{given, readWord, UnfoldStage, VerdictStage};
+ghost use Rattle.exports_lent.specs.LastWord.{LastWord};
 ghost use Rattle.exports_lent.specs.Middle.{tableMiddle};
-ghost use Rattle.exports.specs.TextEdges.{FewPut, TextEdges};
-ghost use Rattle.exports_lent.specs.EdgesTold.{edgesTold};
+ghost use Rattle.exports.specs.TextEdges.{TextEdges};
 ghost use Rattle.exports_lent.specs.Linked.{FirstLinked, TextLinked, RowsLinked};
 
 // The values of the line in the middle of a table of so many lines, all 0 where there is none. Its kind is not told.
@@ -80,11 +80,21 @@ pub extern "C" fn lent_read(
 }
 
 // The unfoldings of the lines that the first words of a table of lines have.
-fn unfold_first(lines: &[u64], words: usize, area: &mut [u64]) -> Unfolded
+fn unfold_first(lines: &[u64], words: usize, area: &mut [u64]) -> LastTold
     requires { ⌜ words ≤ length (now lines) ⌝ }
-    ensures { λ r. ⌜ LinesSettled (take words (now (lines .entry))) (now (area .entry)) r (now (area .exit)) ⌝ }
+    ensures { λ r. ⌜ LastSettled (take words (now (lines .entry))) (now (area .entry)) r (now (area .exit)) ⌝ }
 {
-    unfold::unfold_lines(&lines[..words], area)
+    unfold::unfold_ids(&lines[..words], area)
+}
+
+// How many unfoldings there are, and where the last one's statements end; or the refusal.
+fn last_word(u: LastTold) -> u32
+    ensures { λ r. ⌜ LastWord u r ⌝ }
+{
+    if u.refusal != 0 {
+        return refusal_word(u.refusal, 0);
+    }
+    nodes_word(u.count, u.start, u.length)
 }
 
 // Reads the text and puts the ids of its unfoldings at the front of the area. The words are lent to work in: what they hold afterwards is free.
@@ -103,25 +113,7 @@ pub extern "C" fn lent_unfold(
         return refusal_word(t.number, t.line);
     }
     let u = unfold_first(lines, t.count * LINE_WORDS, area);
-    exports::unfold_word(u)
-}
-
-// What became of a text's edges: a refusal of the text, if there is one; else how many edges are put, or that there was no room for them.
-fn edges_word(number: u8, line: u64, put: Put) -> u32
-    requires { ⌜ FewPut put ⌝ }
-    ensures { λ r. ⌜ r ≡ edgesTold number line (putSaid put) ⌝ }
-{
-    if number != 0 {
-        return refusal_word(number, line);
-    }
-    match put {
-        Put::All(n) => {
-            return n as u32;
-        }
-        Put::Refused(short) => {
-            return refusal_word(short, 0);
-        }
-    }
+    last_word(u)
 }
 
 // Links the rows in the first words of a table. Words are lent for it.
@@ -130,7 +122,7 @@ fn link_first(rows: &mut [u64], words: usize, next: &mut [u64])
     ensures { λ _. ⌜ FirstLinked words (now (rows .entry)) (now (rows .exit)) ⌝ }
     ensures { λ _. ⌜ Lent (now (next .entry)) (now (next .exit)) ⌝ }
 {
-    place_next::link_rows(&mut rows[..words], next)
+    place_link::link_rows(&mut rows[..words], next)
 }
 
 // The rows of a text's places, linked.

@@ -1,3 +1,4 @@
 pub mod ShownWalk
 pub mod Reports
 pub mod One
+pub mod ReportCases

@@ -4,3 +4,5 @@ pub mod TestLaws
 pub mod HoldsLaws
 pub mod WordsHold
 pub mod WordsHoldLaws
+pub mod Tested
+pub mod ReadLaws

@@ -1,31 +1,25 @@
--- Small workloads that pin each rule of unfoldings (U) and walks (W).
-use mathlib.Core.Bool.{Bool, true, false, cond, not, _&&_, _||_, false≢true}
-use mathlib.Core.List.{List, [], _∷_, _++_, map, flatMap}
-use mathlib.Core.Option.{none, some}
+-- Small workloads that pin the rules of unfoldings (U) and walks (W): those that the edits need. The others stand in graph_cases.
+use mathlib.Core.Bool.{true, false}
+use mathlib.Core.List.{List, [], _∷_, map}
 use mathlib.Core.Path.{_≡_, refl}
 use Prim.Native.Nat.{ℕ}
-use lib.Dec.{eqb, ltb}
-use lib.ListN.{replicate}
-use Rattle.spec_base.specs.Basic.{numbers}
 use Rattle.spec_text.specs.declared.Line.{Line}
-use Rattle.spec_text.specs.declared.LineKind.the-variants.{St}
-use Rattle.spec_text.specs.declared.StatementKind.the-variants.{Ks, Pu}
-use Rattle.spec_graph.specs.Graph.{Flow, isBack}
-use Rattle.spec_graph.specs.Program.{Run, statementOf, runOf, programsOf}
+use Rattle.spec_text.specs.declared.StatementKind.the-variants.{Ks}
+use Rattle.spec_graph.specs.Graph.{Flow}
+use Rattle.spec_graph.specs.Program.{Run, statementOf}
 use Rattle.spec_graph.specs.Program.Run.{done, next}
 use Rattle.spec_graph.specs.Program.Item.{statement, loop, branch}
-use Rattle.spec_graph.specs.Unfolding.{Around, occurrences, nodesOf}
+use Rattle.spec_graph.specs.Unfolding.{occurrences}
 use Rattle.spec_graph.specs.Unfolding.Execution.{end, step as then}
 use Rattle.spec_graph.specs.Unfolding.ItemExecution.{perform, turns, arm-one, arm-two}
 use Rattle.spec_graph.specs.Unfolding.Turns.{stop, turn}
-use Rattle.spec_graph.specs.Edge.{Edge, leads, placeAt}
-use Rattle.spec_graph.specs.Walk.{Step, isEdge, isDangerous, DangerousWalk}
-use Rattle.spec_graph.specs.ExampleText.{line, rl, fk, pr, is, ks, ps, ku, pu, kd, pd, kl, lo, br, el, en, li, step}
-use Rattle.spec_graph.specs.ExampleText.{nodes, ids, edges, graph, dangerous, sizes, base, twice, select-first}
+use Rattle.spec_graph.specs.Walk.{Step}
+use Rattle.spec_graph.specs.ExampleText.{rl, fk, pr, is, ks, ps, ku, pu, kd, pd, kl, lo, br, el, en, li, step}
+use Rattle.spec_graph.specs.ExampleText.{nodes, ids, dangerous, base, twice}
 
 -- ---- H1: executions
 
-abbrev one : ℕ → Run
+abbrev pub one : ℕ → Run
 one i = next (statement (statementOf Ks (ks i 0 1))) done
 
 -- H1: a loop turns any number of times, here three times, and takes either arm of a branch afresh in each turn
@@ -37,40 +31,6 @@ H1-three-turns : map (λ o. o .statement .id)
     ≡ 1 ∷ 0 ∷ 1 ∷ []
 unfolding nodes
 H1-three-turns = refl
-
--- ---- T5, T6: statements, links and programs of lines
-
--- T5: the values of a statement, of a link
-T5-statement : statementOf Pu (line (St Pu) 1 2 3 4 5 6) ≡ record { kind = Pu; id = 1; relation = 2; reads = 4; writes = 5; tests = 6 }
-unfolding statementOf
-T5-statement = refl
-
-T5-links : map
-    (λ p. p .links)
-    (programsOf (fk 0 0 0 ∷ pr 0 ∷ lo ∷ ks 0 0 1 ∷ en ∷ br ∷ el ∷ en ∷ li 5 6 7 ∷ li 8 9 10 ∷ pr 1 ∷ pr 2 ∷ rl 0 1 ∷ fk 0 0 0 ∷ li 1 2 3 ∷ []))
-    ≡ (record { key = 5; child = 6; parent = 7 } ∷ record { key = 8; child = 9; parent = 10 } ∷ [])
-    ∷ []
-    ∷ (record { key = 1; child = 2; parent = 3 } ∷ [])
-    ∷ []
-unfolding nodes
-T5-links = refl
-
--- T8: a line that ends a run stays in the rest after it, and so does what the number does not reach
-T8-ends : let ends = rl 0 1 ∷ fk 0 0 0 ∷ pr 0 ∷ el ∷ en ∷ li 0 0 0 ∷ [] in
-    (map (λ l. runOf 3 (l ∷ ks 0 0 1 ∷ [])) ends ≡ map (λ l. record { run = done; rest = l ∷ ks 0 0 1 ∷ [] }) ends)
-    × (runOf 0 (ks 0 0 1 ∷ []) ≡ record { run = done; rest = ks 0 0 1 ∷ [] })
-unfolding nodes
-T8-ends = (refl, refl)
-
--- T8, T12: a run of as many lines as a program may have, and blocks as deep as they may stand
-T8-long : ids (replicate 64 (ks 7 0 1)) ≡ replicate 64 7 ∷ []
-unfolding ids
-T8-long = refl
-
-T8-deep : ids (replicate 8 br ++ (ks 7 0 1 ∷ flatMap (λ n. el ∷ en ∷ ks 8 0 1 ∷ []) (numbers 8)))
-    ≡ (7 ∷ replicate 8 8) ∷ map (λ n. replicate n 8) (8 ∷ 7 ∷ 6 ∷ 5 ∷ 4 ∷ 3 ∷ 2 ∷ 1 ∷ [])
-unfolding ids flatMap
-T8-deep = refl
 
 -- ---- U: unfoldings
 
@@ -86,54 +46,11 @@ U2-loop : ids (lo ∷ ks 0 0 1 ∷ ks 1 0 1 ∷ en ∷ ks 2 0 1 ∷ [])
 unfolding ids
 U2-loop = refl
 
--- U2: each turn is unfolded on its own; two turns are a run of the body twice, the first turn's choice slowest
-U2-branch-in-loop : ids (lo ∷ br ∷ ks 0 0 1 ∷ el ∷ ks 1 0 1 ∷ en ∷ en ∷ [])
-    ≡ []
-    ∷ (0 ∷ [])
-    ∷ (1 ∷ [])
-    ∷ (0 ∷ 0 ∷ [])
-    ∷ (0 ∷ 1 ∷ [])
-    ∷ (1 ∷ 0 ∷ [])
-    ∷ (1 ∷ 1 ∷ [])
-    ∷ []
-unfolding ids
-U2-branch-in-loop = refl
-
--- U1, U2: a loop in an arm, and a branch in the other
-U1-loop-in-branch : ids (br ∷ lo ∷ ks 0 0 1 ∷ en ∷ el ∷ br ∷ ks 1 0 1 ∷ el ∷ ks 2 0 1 ∷ en ∷ ks 3 0 1 ∷ en ∷ [])
-    ≡ [] ∷ (0 ∷ []) ∷ (0 ∷ 0 ∷ []) ∷ (1 ∷ 3 ∷ []) ∷ (2 ∷ 3 ∷ []) ∷ []
-unfolding ids
-U1-loop-in-branch = refl
-
--- U2, U4: a loop in a loop; equal and empty unfoldings are kept
-U2-loop-in-loop : ids (lo ∷ lo ∷ ks 0 0 1 ∷ en ∷ en ∷ [])
-    ≡ []
-    ∷ []
-    ∷ (0 ∷ [])
-    ∷ (0 ∷ 0 ∷ [])
-    ∷ []
-    ∷ (0 ∷ [])
-    ∷ (0 ∷ 0 ∷ [])
-    ∷ (0 ∷ [])
-    ∷ (0 ∷ 0 ∷ [])
-    ∷ (0 ∷ 0 ∷ 0 ∷ [])
-    ∷ (0 ∷ 0 ∷ [])
-    ∷ (0 ∷ 0 ∷ 0 ∷ [])
-    ∷ (0 ∷ 0 ∷ 0 ∷ 0 ∷ [])
-    ∷ []
-unfolding ids
-U2-loop-in-loop = refl
-
 -- U3: in a run the leftmost choice changes slowest
 U3-two-branches : ids (br ∷ ks 0 0 1 ∷ el ∷ ks 1 0 1 ∷ en ∷ br ∷ ks 2 0 1 ∷ el ∷ ks 3 0 1 ∷ en ∷ [])
     ≡ (0 ∷ 2 ∷ []) ∷ (0 ∷ 3 ∷ []) ∷ (1 ∷ 2 ∷ []) ∷ (1 ∷ 3 ∷ []) ∷ []
 unfolding ids
 U3-two-branches = refl
-
-U3-branch-then-loop : ids (br ∷ ks 0 0 1 ∷ el ∷ en ∷ lo ∷ ks 1 0 1 ∷ en ∷ [])
-    ≡ (0 ∷ []) ∷ (0 ∷ 1 ∷ []) ∷ (0 ∷ 1 ∷ 1 ∷ []) ∷ [] ∷ (1 ∷ []) ∷ (1 ∷ 1 ∷ []) ∷ []
-unfolding ids
-U3-branch-then-loop = refl
 
 -- U4: programs go in order; equal and empty unfoldings are kept
 U4-programs : nodes (rl 0 1 ∷ pr 0 ∷ lo ∷ en ∷ pr 1 ∷ pr 2 ∷ br ∷ ks 0 0 1 ∷ el ∷ ks 1 0 1 ∷ en ∷ pr 3 ∷ br ∷ el ∷ en ∷ ks 0 0 1 ∷ [])
@@ -149,111 +66,25 @@ U4-programs : nodes (rl 0 1 ∷ pr 0 ∷ lo ∷ en ∷ pr 1 ∷ pr 2 ∷ br ∷ 
 unfolding nodes
 U4-programs = refl
 
--- where the occurrences stand: of each place of each node the items and the turns or arms around it, outermost first
-paths : List Line → List (List (List (ℕ × ℕ)))
-unfolding nodes
-paths body = map (λ n. map (λ o. map (λ a. (a .item, a .turn)) (o .path)) (n .places)) (nodesOf (rl 0 1 ∷ pr 0 ∷ body))
-
--- E4: a loop around a branch, as the second and third items of their runs: no turn, one, two
-E4-paths : paths (ks 0 0 1 ∷ lo ∷ ks 1 0 1 ∷ ks 2 0 1 ∷ br ∷ ks 3 0 1 ∷ el ∷ ks 4 0 1 ∷ en ∷ en ∷ [])
-    ≡ let one : ℕ → ℕ → List (List (ℕ × ℕ)) = λ turn arm. ((1, turn) ∷ []) ∷ ((1, turn) ∷ []) ∷ ((1, turn) ∷ (2, arm) ∷ []) ∷ [] in
-    map
-    (λ turns. [] ∷ turns)
-    ([] ∷ one 0 0 ∷ one 0 1 ∷ (one 0 0 ++ one 1 0) ∷ (one 0 0 ++ one 1 1) ∷ (one 0 1 ++ one 1 0) ∷ (one 0 1 ++ one 1 1) ∷ [])
-unfolding paths
-E4-paths = refl
-
--- E4: a branch in each arm of a branch, as the second item and as the third
-E4-paths-in-arms
-    : paths (ks 0 0 1 ∷ br ∷ ks 1 0 1 ∷ br ∷ ks 2 0 1 ∷ el ∷ en ∷ el ∷ ks 3 0 1 ∷ ks 4 0 1 ∷ br ∷ el ∷ ks 5 0 1 ∷ en ∷ en ∷ [])
-    ≡ ([] ∷ ((1, 0) ∷ []) ∷ ((1, 0) ∷ (1, 0) ∷ []) ∷ [])
-    ∷ ([] ∷ ((1, 0) ∷ []) ∷ [])
-    ∷ ([] ∷ ((1, 1) ∷ []) ∷ ((1, 1) ∷ []) ∷ [])
-    ∷ ([] ∷ ((1, 1) ∷ []) ∷ ((1, 1) ∷ []) ∷ ((1, 1) ∷ (2, 1) ∷ []) ∷ [])
-    ∷ []
-unfolding paths
-E4-paths-in-arms = refl
-
--- E4: the paths that go on to this one: its first parts, with the same items and turns
-E4-leads : let at : ℕ → ℕ → Around = λ item turn. record { item = item; turn = turn } in
-    map
-    (λ path. leads path (at 1 2 ∷ at 3 4 ∷ []))
-    ([] ∷ (at 1 2 ∷ []) ∷ (at 1 2 ∷ at 3 4 ∷ []) ∷ (at 1 2 ∷ at 3 4 ∷ at 0 0 ∷ []) ∷ (at 0 2 ∷ []) ∷ (at 1 0 ∷ []) ∷ (at 1 2 ∷ at 0 4 ∷ [])
-    ∷ (at 1 2 ∷ at 3 0 ∷ []) ∷ [])
-    ≡ true ∷ true ∷ true ∷ false ∷ false ∷ false ∷ false ∷ false ∷ []
-unfolding leads
-E4-leads = refl
-
--- N2: nodes and places count from 0
-N2-sizes : sizes (rl 0 1 ∷ pr 0 ∷ lo ∷ ks 0 0 1 ∷ en ∷ pr 1 ∷ pr 2 ∷ ks 0 0 1 ∷ ks 1 0 1 ∷ ks 2 0 1 ∷ [])
-    ≡ (5, 0 ∷ 1 ∷ 2 ∷ 0 ∷ 3 ∷ [])
-unfolding sizes
-N2-sizes = refl
-
--- N2: past the last node and the last place there is nothing
-N2-past : (graph twice .places 2 ≡ 0) × (graph twice .loose 2 0 ≡ false) × (map (graph twice .loose 1) (1 ∷ 2 ∷ []) ≡ true ∷ false ∷ [])
-unfolding graph
-N2-past = (refl, refl, refl)
-
--- N2: the place with this number of the node with this number
-N2-place : _≡_ {A = ℕ × ℕ × ℕ} (elim (placeAt (nodesOf twice) 1 0) [ none ↦ (9, 9, 9) | some s ↦ (s .number, s .place, s .node .program) ]) (1, 0, 1)
-unfolding graph
-N2-place = refl
-
 -- ---- W: the dangerous walk
-
--- W1, W2, W4: the walk for `ps` twice, c leaving at an earlier place than e enters
-W4-earlier : dangerous twice (step 0 1 1 Flow.forward ∷ step 1 0 1 Flow.back ∷ []) ≡ true
-unfolding dangerous
-W4-earlier = refl
-
--- W4: the read before the parent, linked
-W4-select-first : dangerous select-first (step 0 0 1 Flow.forward ∷ step 1 0 1 Flow.back ∷ []) ≡ true
-unfolding dangerous
-W4-select-first = refl
 
 -- W2: after the last step comes the first
 W2-last-to-first : dangerous twice (step 1 0 1 Flow.back ∷ step 0 1 1 Flow.forward ∷ []) ≡ true
 unfolding dangerous
 W2-last-to-first = refl
 
--- W1: a node may be left at any place and come again
-W1-again : dangerous twice (step 0 1 0 Flow.forward ∷ step 1 1 1 Flow.back ∷ step 0 1 1 Flow.forward ∷ step 1 0 1 Flow.back ∷ []) ≡ true
-unfolding dangerous
-W1-again = refl
-
--- W1: edges from a node to itself make a walk: two runs of one program
-W1-itself : dangerous (rl 0 1 ∷ pr 0 ∷ ks 0 0 1 ∷ ku 1 0 0 1 ∷ []) (step 0 1 1 Flow.forward ∷ step 0 0 1 Flow.back ∷ []) ≡ true
-unfolding dangerous
-W1-itself = refl
-
 -- W4: equal places are not earlier
 W4-equal : dangerous base (step 0 1 0 Flow.forward ∷ step 1 0 1 Flow.back ∷ []) ≡ false
 unfolding dangerous
 W4-equal = refl
 
--- W4: c leaves later than e enters, and e leaves a ku
-W4-later : dangerous twice (step 0 1 0 Flow.forward ∷ step 1 1 1 Flow.back ∷ []) ≡ false
-unfolding dangerous
-W4-later = refl
-
--- W2: c is not back
-W2-forward : dangerous twice (step 0 1 1 Flow.forward ∷ step 1 0 1 Flow.forward ∷ []) ≡ false
-unfolding dangerous
-W2-forward = refl
-
 -- W3: no forward edge
-abbrev updates : List Line
+abbrev pub updates : List Line
 updates = rl 0 1 ∷ pr 0 ∷ pu 0 0 1 1 1 ∷ []
 
 W3-no-forward : dangerous updates (step 0 0 0 Flow.back ∷ step 0 0 0 Flow.back ∷ []) ≡ false
 unfolding dangerous
 W3-no-forward = refl
-
--- W4: e is back
-W4-back : dangerous updates (step 0 0 0 Flow.back ∷ step 0 0 0 Flow.back ∷ step 0 0 0 Flow.forward ∷ []) ≡ true
-unfolding dangerous
-W4-back = refl
 
 -- W1: the walk does not close: its last edge enters place 1 of node 2, and node 0 has no such edge to itself
 W1-open : dangerous
@@ -262,50 +93,6 @@ W1-open : dangerous
     ≡ false
 unfolding dangerous
 W1-open = refl
-
--- W1: a step that is no edge: no letter holds, or the flow is the other, or no such place is left or entered
-W1-no-edge : (dangerous twice (step 0 0 1 Flow.forward ∷ step 1 0 1 Flow.back ∷ []) ≡ false)
-    × (dangerous twice (step 0 1 1 Flow.back ∷ step 1 0 1 Flow.forward ∷ []) ≡ false)
-    × (dangerous twice (step 0 2 1 Flow.forward ∷ step 1 0 1 Flow.back ∷ []) ≡ false)
-    × (dangerous twice (step 0 1 2 Flow.forward ∷ step 1 0 1 Flow.back ∷ []) ≡ false)
-unfolding dangerous
-W1-no-edge = (refl, refl, refl, refl)
-
--- W1: no step, no walk
-W1-empty : dangerous twice [] ≡ false
-unfolding dangerous
-W1-empty = refl
-
--- there is a dangerous walk in the graph of `twice`, and none where there is no edge
-walk-exists : DangerousWalk (graph twice)
-unfolding dangerous
-walk-exists = (step 0 1 1 Flow.forward ∷ step 1 0 1 Flow.back ∷ [], W4-earlier)
-
-walk-needs-edges : DangerousWalk (record { size = 2; places = λ m. 9; edge = λ m i n j flow. false; loose = λ m i. true }) → ⊥
-unfolding isDangerous isEdge
-walk-needs-edges ([], h) = false≢true h
-walk-needs-edges (x ∷ [], h) = false≢true h
-walk-needs-edges (x ∷ y ∷ l, h) = false≢true h
-
--- W4 over a graph with every edge between two nodes, where no kind makes a pair dangerous: e is back, or c leaves earlier than e enters
-every-edge : List Step → Bool
-unfolding dangerous
-every-edge walk = isDangerous (record { size = 2; places = λ m. 9; edge = λ m i n j flow. not (eqb m n); loose = λ m i. false }) walk
-
-W4-every-edge
-    : map
-    every-edge
-    ((step 0 0 0 Flow.back ∷ step 1 0 0 Flow.back ∷ step 0 0 0 Flow.forward ∷ step 1 0 0 Flow.forward ∷ [])
-    ∷ (step 0 0 3 Flow.forward ∷ step 1 2 0 Flow.back ∷ [])
-    ∷ (step 0 0 2 Flow.forward ∷ step 1 2 0 Flow.back ∷ [])
-    ∷ (step 0 4 2 Flow.forward ∷ step 1 3 0 Flow.back ∷ [])
-    ∷ (step 0 0 3 Flow.forward ∷ step 1 2 4 Flow.forward ∷ [])
-    ∷ (step 0 0 1 Flow.forward ∷ step 1 2 1 Flow.back ∷ [])
-    ∷ (step 0 0 3 Flow.forward ∷ step 1 2 0 Flow.back ∷ step 0 0 0 Flow.forward ∷ [])
-    ∷ [])
-    ≡ true ∷ true ∷ false ∷ false ∷ false ∷ false ∷ false ∷ []
-unfolding every-edge
-W4-every-edge = refl
 
 -- a program that ends with this statement, and one that the statement has an edge to, in front of a back edge to the first
 abbrev leaving : Line → List Line
@@ -324,7 +111,7 @@ W4-kinds = refl
 
 -- Parent rows 0, their children 1, and rows 2 and 3 by themselves. Program 0 locks a parent, looks at a child in this way and updates row 3;
 -- program 1 updates a child, selects row 2 and locks the child's parent last; program 2 updates both rows.
-abbrev threefold : Line → List Line
+abbrev pub threefold : Line → List Line
 threefold look =
     rl 0 1 ∷ rl 1 1 ∷ rl 2 1 ∷ rl 3 1 ∷ fk 0 1 0
     ∷ pr 0 ∷ kl 0 0 1 ∷ look ∷ ku 2 3 0 1 ∷ li 0 1 0
@@ -333,47 +120,10 @@ threefold look =
 
 -- Program 0 sees the child before program 1 updates it, program 1 sees row 2 before program 2 updates it, and program 2 updates row 3 before
 -- program 0 does. Selects allow it: the locks only make program 1 wait with its own until program 0 has committed.
-abbrev roundabout : List Step
+abbrev pub roundabout : List Step
 roundabout = step 0 1 0 Flow.forward ∷ step 1 1 0 Flow.back ∷ step 2 1 2 Flow.forward ∷ []
 
 -- W4, Req 03: with ks the walk is dangerous, with kl it is not
 W4-lock : (dangerous (threefold (ks 1 1 1)) roundabout ≡ true) × (dangerous (threefold (kl 1 1 1)) roundabout ≡ false)
 unfolding dangerous
 W4-lock = (refl, refl)
-
--- Both are closed walks of edges, and what makes the difference is the kind that the first edge leaves: it would make either dangerous, and
--- where no kind does, neither is
-W4-lock-kinds :
-    map
-    (λ loose. map
-    (λ look. let g = graph (threefold look) in
-    isDangerous (record { size = g .size; places = g .places; edge = g .edge; loose = λ m i. loose }) roundabout)
-    (ks 1 1 1 ∷ kl 1 1 1 ∷ []))
-    (true ∷ false ∷ [])
-    ≡ (true ∷ true ∷ []) ∷ (false ∷ false ∷ []) ∷ []
-unfolding graph
-W4-lock-kinds = refl
-
--- the pairs of an edge and a back edge out of the node that it enters that pass this test; as node and place left and entered
-pairs : List Line → (Edge → Edge → Bool) → List (List (ℕ × ℕ × ℕ × ℕ))
-unfolding edges
-pairs lines test =
-    flatMap
-    (λ e. flatMap
-    (λ c. cond
-    (eqb (e .into) (c .node) && isBack (c .flow) && test e c)
-    (map (λ s. (s .node, s .leaves, s .into, s .enters)) (e ∷ c ∷ []) ∷ [])
-    [])
-    (edges lines))
-    (edges lines)
-
--- W4, Req 03: by flow or places no pair of these workloads is dangerous, so that no walk would be if the kinds did not count; by its kind one is,
--- with ks, and none with kl
-W4-lock-pairs :
-    map {B = List (List (ℕ × ℕ × ℕ × ℕ)) × List (List (ℕ × ℕ × ℕ × ℕ))}
-    (λ look. let lines = threefold look in
-    (pairs lines (λ e c. isBack (e .flow) || ltb (c .leaves) (e .enters)), pairs lines (λ e c. graph lines .loose (e .node) (e .leaves))))
-    (ks 1 1 1 ∷ kl 1 1 1 ∷ [])
-    ≡ ([], ((0, 1, 1, 0) ∷ (1, 1, 2, 0) ∷ []) ∷ []) ∷ ([], []) ∷ []
-unfolding pairs graph
-W4-lock-pairs = refl

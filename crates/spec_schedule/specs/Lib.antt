@@ -2,10 +2,3 @@ pub mod Event
 pub mod Schedule
 pub mod Serial
 pub mod ScheduleExamples
-pub mod RuleTables
-pub mod SerialCases
-pub mod SerialTest
-pub mod Interleaved
-pub mod AllKinds
-pub mod Unserialisable
-pub mod Phantom

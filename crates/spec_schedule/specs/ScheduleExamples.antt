@@ -1,39 +1,39 @@
--- Small closed cases that pin each rule of the schedules (H) and of the serial run (X), each under its label; and the words in which
--- they and the witnesses are written.
-use mathlib.Core.Bool.{Bool, true, false, not, _&&_, false≢true}
+-- Small closed cases that pin the rules of the schedules (H) and of the serial run (X), each under its label: those that the edits need. The
+-- others stand in schedule_cases. And the words in which they all and the witnesses are written.
+use mathlib.Core.Bool.{Bool, true, false, not, _&&_}
 use mathlib.Core.List.{List, [], _∷_, flatMap, List·Memᴰ, List·Memᴰ·cases-cons, List·Memᴰ·not-nil, Memᴰ·cast, _++_, map}
 use mathlib.Core.Logic.{_⊎_, inl, inr}
-use mathlib.Core.Path.{_≡_, ap, refl, sym, _∙_, subst, subst₂}
-use Prim.Native.Nat.{ℕ, zero, suc, _+_, _*_, _%_}
+use mathlib.Core.Path.{_≡_, ap, refl, sym, _∙_, subst}
+use Prim.Native.Nat.{ℕ, zero, suc, _+_, _%_}
 use Rattle.spec_text.specs.declared.Line.{Line}
 use Rattle.spec_text.specs.declared.LineKind.{LineKind}
 use Rattle.spec_text.specs.declared.StatementKind.{StatementKind}
-use Rattle.spec_graph.specs.Program.{Statement, Program, statementOf, inFrontOf, runOf, linksOf, programsOf, Run}
-use Rattle.spec_graph.specs.Unfolding.{Occurrence, inside, occurrences}
+use Rattle.spec_graph.specs.Program.{Statement, Program, statementOf, inFrontOf, runOf, linksOf, programsOf}
+use Rattle.spec_graph.specs.Unfolding.{inside, occurrences}
 use Rattle.spec_graph.specs.Edge.{W, R, T, leads, binds}
-use Rattle.spec_schedule.specs.Event.{Action, Event, by, writesTo, claims, pastAt, writesOf, committed, seen, source, existence, visible}
-use Rattle.spec_schedule.specs.Event.{insertsFirst, deletesLast, meetsVisible, waits, sameStatement, together, obeys, allObey}
+use Rattle.spec_schedule.specs.Event.{Action, Event, by, writesTo, claims, pastAt, writesOf, committed, seen, source, existence}
+use Rattle.spec_schedule.specs.Event.{visible}
+use Rattle.spec_schedule.specs.Event.{insertsFirst, deletesLast, meetsVisible, waits, sameStatement, together, obeys, allObey, isRead}
 use Rattle.spec_schedule.specs.Serial.{serialRun, stateAt, SameRead, SamePredicateRead, SerialOrder}
-use Rattle.spec_schedule.specs.Schedule.{Tuple, Transaction, Performed, Operation, Schedule, everyAttribute, chosen}
+use Rattle.spec_schedule.specs.Schedule.{Tuple, Transaction, Operation, Schedule, everyAttribute}
 use Rattle.spec_schedule.specs.Schedule.{performedFrom, performed, onTuple, operationsOf}
 use Rattle.spec_schedule.specs.Schedule.{operations, numbered, eventsOf, linkKept, keysKept}
-use mathlib.Core.List.List·Memᴰ.{List·Memᴰ·head}
-use mathlib.Core.Option.{none, some, Option·some-ne-none, Option·none-ne-some}
+use mathlib.Core.Option.{some, Option·some-ne-none, Option·none-ne-some}
 use native.Mathlib.Omega.{arith}
-use native.Mathlib.Nat.{not-suc-le-zero, add-zero, zero-add}
-use lib.Dec.{eqb, ltb}
-use borrow.Author.Tests.{ltb-true}
+use native.Mathlib.Nat.{add-zero, zero-add}
+use lib.Dec.{eqb}
 use lib.ListN.{length, getD, getElem?, replicate}
-use Rattle.spec_base.specs.Basic.{all, keep, count}
-use Rattle.law_base.specs.BoolLaws.{true-false, false-of}
-use Rattle.law_base.specs.ListLaws.{all-true, some-injective}
-use Rattle.spec_text.specs.declared.StatementKind.the-variants.{Is, Ks, Ps, Ku, Pu, Kd, Pd, Kl}
-use Rattle.spec_graph.specs.Program.Item.{statement, loop, branch}
+use Rattle.spec_base.specs.Basic.{keep, count, all}
+use Rattle.law_base.specs.ListLaws.{some-injective, all-true, getElem?-member}
+use Rattle.spec_text.specs.declared.StatementKind.the-variants.{Ps, Ku, Kd, Kl}
+use Rattle.spec_graph.specs.Program.Item.{statement, loop}
 use Rattle.spec_graph.specs.Program.Run.{done, next}
 use Rattle.spec_graph.specs.Unfolding.Execution.{end, step}
-use Rattle.spec_graph.specs.Unfolding.ItemExecution.{perform, turns, arm-one, arm-two}
+use Rattle.spec_graph.specs.Unfolding.ItemExecution.{perform, turns}
 use Rattle.spec_graph.specs.Unfolding.Turns.{stop, turn}
 use Rattle.spec_schedule.specs.Event.Action.{read, lock, write, insert, delete, predicateRead, commit}
+use borrow.Author.Tests.{eq-eqb}
+use Rattle.law_base.specs.BoolLaws.{true-false, and-of, not-true}
 
 -- a line of a workload: kind id rel to reads writes tests, 0 for a value that the kind does not have
 abbrev pub line : LineKind → ℕ → ℕ → ℕ → ℕ → ℕ → ℕ → Line
@@ -97,27 +97,9 @@ pub wholes : (events : List Event) (l : List Transaction) → kept events 0 l �
     → keep (by i) events ≡ eventsOf i x
 wholes events l h i x e = rw zero-add at (whole-from events 0 l h i x e)
 
-abbrev one : ℕ → Run
-one i = next (statement (says Ks i 0 1 0 0)) done
-
--- H1: a loop turns any number of times, here three times, and takes either arm of a branch afresh in each turn
-loop-thrice : map (λ o. o .statement .id)
-    (occurrences {r = next (loop (next (branch (one 0) (one 1)) done)) done}
-    (step (turns (turn (step (arm-one (step perform end)) end)
-    (turn (step (arm-two (step perform end)) end) (turn (step (arm-one (step perform end)) end) stop)))) end)
-    0)
-    ≡ 0 ∷ 1 ∷ 0 ∷ []
-unfolding openWorkload
-loop-thrice = refl
-
--- H1: a loop may turn no time
-loop-never : occurrences {r = next (loop (one 0)) done} (step (turns stop) end) 0 ≡ []
-unfolding openWorkload
-loop-never = refl
-
 -- a transaction of one statement of this kind on relation 5, with reads 1, writes 2 and tests 4; as a key statement it is on
 -- tuple 7, as a predicate statement on tuples 8, 9 and 10
-abbrev alone : StatementKind → Transaction
+abbrev pub alone : StatementKind → Transaction
 alone k =
     record {
       program = record { body = next (statement (says k 0 5 1 2 4)) done; links = [] };
@@ -126,21 +108,11 @@ alone k =
       tuples = λ i. 8 ∷ 9 ∷ 10 ∷ [];
     }
 
-abbrev operation : ℕ → Action → ℕ → ℕ → ℕ → Operation
+abbrev pub operation : ℕ → Action → ℕ → ℕ → ℕ → Operation
 operation p action r t x = record { place = p; action = action; relation = r; tuple = t; attributes = x }
 
-abbrev last : List Operation
+abbrev pub last : List Operation
 last = operation 1 commit 0 0 0 ∷ []
-
--- H2, H13: is gives one insert, of all attributes
-insert-one : operations (alone Is) ≡ operation 0 insert 5 7 0xffff_ffff_ffff_ffff ∷ last
-unfolding openWorkload
-insert-one = refl
-
--- H2: ks gives one read
-select-one : operations (alone Ks) ≡ operation 0 read 5 7 1 ∷ last
-unfolding openWorkload
-select-one = refl
 
 -- H2, Req 03: kl gives one lock of one tuple, with what it reads
 lock-one : operations (alone Kl) ≡ operation 0 lock 5 7 1 ∷ last
@@ -163,159 +135,37 @@ select-many : operations (alone Ps)
 unfolding openWorkload
 select-many = refl
 
--- H2, H12: pu gives a predicate read, then a read and a write of each tuple
-update-many : operations (alone Pu)
-    ≡ operation 0 predicateRead 5 0 4
-    ∷ operation 0 read 5 8 1 ∷ operation 0 write 5 8 2
-    ∷ operation 0 read 5 9 1 ∷ operation 0 write 5 9 2
-    ∷ operation 0 read 5 10 1 ∷ operation 0 write 5 10 2 ∷ last
-unfolding openWorkload
-update-many = refl
-
--- H2, H12, H13: pd gives a predicate read, then a delete of each tuple
-delete-many : operations (alone Pd)
-    ≡ operation 0 predicateRead 5 0 4
-    ∷ operation 0 delete 5 8 everyAttribute ∷ operation 0 delete 5 9 everyAttribute ∷ operation 0 delete 5 10 everyAttribute ∷ last
-unfolding openWorkload
-delete-many = refl
-
--- a statement of this kind with these tuples at place 3
-abbrev at : StatementKind → List ℕ → Performed
-at k l = record { place = 3; occurrence = record { statement = says k 0 5 1 2 4; path = [] }; tuples = chosen k 7 l }
-
--- H2: so it is with any finite number of tuples, none too
-select-any : (l : List ℕ) → operationsOf (at Ps l) ≡ operation 3 predicateRead 5 0 4 ∷ flatMap (λ t. operation 3 read 5 t 1 ∷ []) l
-unfolding openWorkload
-select-any l = refl
-
-update-any : (l : List ℕ) → operationsOf (at Pu l)
-    ≡ operation 3 predicateRead 5 0 4 ∷ flatMap (λ t. operation 3 read 5 t 1 ∷ operation 3 write 5 t 2 ∷ []) l
-unfolding openWorkload
-update-any l = refl
-
-delete-any : (l : List ℕ) → operationsOf (at Pd l)
-    ≡ operation 3 predicateRead 5 0 4 ∷ flatMap (λ t. operation 3 delete 5 t everyAttribute ∷ []) l
-unfolding openWorkload
-delete-any l = refl
-
--- H8: every statement of the execution is performed, in its order
-performed-all : (x : Transaction) (i : ℕ) (l : List Occurrence) → map (λ p. p .occurrence) (performedFrom x i l) ≡ l
-unfolding performedFrom
-performed-all x i [] = refl
-performed-all x i (o ∷ l) = ap (λ r. o ∷ r) (performed-all x (suc i) l)
-
-every-statement : (x : Transaction) → map (λ p. p .occurrence) (performed x) ≡ occurrences (x .execution) 0
-unfolding performed
-every-statement x = performed-all x 0 (occurrences (x .execution) 0)
-
 -- H8, X7: a transaction's events are numbered in their order, and the commit is the last
 numbered-events : eventsOf 3 (alone Ku) ≡ event 3 0 0 read 5 7 1 ∷ event 3 1 0 write 5 7 2 ∷ event 3 2 1 commit 0 0 0 ∷ []
 unfolding openWorkload
 numbered-events = refl
 
--- H8: an execution of no statement has a commit all the same
-empty-commits : eventsOf 0 (record { program = record { body = done; links = [] }; execution = end; tuple = λ i. 0; tuples = λ i. [] })
-    ≡ event 0 0 0 commit 0 0 0 ∷ []
-unfolding openWorkload
-empty-commits = refl
-
 -- H4: in the lists below tuple 0 of each relation starts visible, the others start unborn
-abbrev rules : List Event → Bool
+abbrev pub rules : List Event → Bool
 rules events = allObey (λ r t. eqb t 0) [] events
 
 -- one event each, in its own statement: transaction number, place too, action, tuple
-abbrev does : ℕ → ℕ → Action → ℕ → Event
+abbrev pub does : ℕ → ℕ → Action → ℕ → Event
 does i k action t = event i k k action 0 t 1
 
 -- H3: a statement's operations stand together
-together-kept : rules (event 0 0 0 read 0 0 1 ∷ event 0 1 0 write 0 0 1 ∷ event 1 0 0 read 0 0 1 ∷ []) ≡ true
-unfolding openRules
-together-kept = refl
-
 together-broken : rules (event 0 0 0 read 0 0 1 ∷ event 1 0 0 read 0 0 1 ∷ event 0 1 0 write 0 0 1 ∷ []) ≡ false
 unfolding openRules
 together-broken = refl
 
--- H3: the operations of another statement of the same transaction may follow
-statements-follow : rules (event 0 0 0 read 0 0 1 ∷ event 1 0 0 read 0 0 1 ∷ event 0 1 1 write 0 0 1 ∷ []) ≡ true
-unfolding openRules
-statements-follow = refl
-
--- H5: an insert is the first write of a tuple that started unborn
-insert-unborn : rules (does 0 0 insert 1 ∷ []) ≡ true
-unfolding openRules
-insert-unborn = refl
-
-insert-visible : rules (does 0 0 insert 0 ∷ []) ≡ false
-unfolding openRules
-insert-visible = refl
-
-insert-twice : rules (does 0 0 insert 1 ∷ does 0 1 insert 1 ∷ []) ≡ false
-unfolding openRules
-insert-twice = refl
-
-insert-deleted : rules (does 0 0 insert 1 ∷ does 0 1 delete 1 ∷ does 0 2 insert 1 ∷ []) ≡ false
-unfolding openRules
-insert-deleted = refl
-
--- H5, H6: the first write of a tuple that started unborn is an insert
-write-unborn : rules (does 0 0 write 1 ∷ []) ≡ false
-unfolding openRules
-write-unborn = refl
-
 -- H5: a delete is a tuple's last write
-delete-last : rules (does 0 0 write 0 ∷ does 0 1 delete 0 ∷ []) ≡ true
-unfolding openRules
-delete-last = refl
-
-write-deleted : rules (does 0 0 delete 0 ∷ does 0 1 write 0 ∷ []) ≡ false
-unfolding openRules
-write-deleted = refl
-
-delete-twice : rules (does 0 0 delete 0 ∷ does 0 1 delete 0 ∷ []) ≡ false
-unfolding openRules
-delete-twice = refl
-
 nothing-after : deletesLast (does 0 0 delete 0 ∷ []) (does 0 1 write 0) ≡ false
 unfolding openRules
 nothing-after = refl
 
-other-after : deletesLast (does 0 0 delete 0 ∷ []) (does 0 1 write 1) ≡ true
-unfolding openRules
-other-after = refl
-
 -- H6: what is read is visible in the version seen
-read-visible : rules (does 0 0 read 0 ∷ []) ≡ true
-unfolding openRules
-read-visible = refl
-
-read-unborn : rules (does 0 0 read 1 ∷ []) ≡ false
-unfolding openRules
-read-unborn = refl
-
-read-inserted : rules (does 0 0 insert 1 ∷ does 0 1 read 1 ∷ []) ≡ true
-unfolding openRules
-read-inserted = refl
-
 read-uncommitted : rules (does 0 0 insert 1 ∷ does 1 0 read 1 ∷ []) ≡ false
 unfolding openRules
 read-uncommitted = refl
 
-read-committed : rules (does 0 0 insert 1 ∷ does 0 1 commit 0 ∷ does 1 0 read 1 ∷ []) ≡ true
-unfolding openRules
-read-committed = refl
-
 read-deleted : rules (does 0 0 delete 0 ∷ does 0 1 read 0 ∷ []) ≡ false
 unfolding openRules
 read-deleted = refl
-
-read-undeleted : rules (does 0 0 delete 0 ∷ does 1 0 read 0 ∷ []) ≡ true
-unfolding openRules
-read-undeleted = refl
-
-read-gone : rules (does 0 0 delete 0 ∷ does 0 1 commit 0 ∷ does 1 0 read 0 ∷ []) ≡ false
-unfolding openRules
-read-gone = refl
 
 -- H6, H10, Req 03: a lock meets what a read meets: the visible start; not an unborn tuple; what was inserted by itself, or by another that has
 -- committed and not before; not what was deleted by itself, or by another that has committed
@@ -333,15 +183,6 @@ lock-meets :
 unfolding openRules
 lock-meets = refl
 
--- H6: what is written or deleted is visible in the latest version
-write-visible : rules (does 0 0 insert 1 ∷ does 0 1 write 1 ∷ does 0 2 delete 1 ∷ []) ≡ true
-unfolding openRules
-write-visible = refl
-
-delete-unborn : rules (does 0 0 delete 1 ∷ []) ≡ false
-unfolding openRules
-delete-unborn = refl
-
 -- H9, Req 03: the writes of a tuple, latest first; inserts and deletes are writes; reads, locks and other tuples do not count
 versions : writesOf 0 1
     (does 1 3 delete 1 ∷ does 1 2 lock 1 ∷ does 1 1 write 2 ∷ does 1 0 read 1 ∷ does 0 1 write 1 ∷ event 0 1 1 write 3 1 1 ∷ does 0 0 insert 1 ∷ [])
@@ -356,71 +197,18 @@ unfolding openRules
 lock-no-version past i k p r t x j s u = (refl, refl)
 
 -- transaction 0 has written tuple 0 and committed, then transaction 1 has written it
-abbrev writtenTwice : List Event
+abbrev pub writtenTwice : List Event
 writtenTwice = does 1 0 write 0 ∷ does 0 1 commit 0 ∷ does 0 0 write 0 ∷ []
 
--- H10: a transaction sees its own latest version
-sees-own : seen writtenTwice 1 0 0 ≡ does 1 0 write 0 ∷ does 0 0 write 0 ∷ []
-unfolding openRules
-sees-own = refl
-
--- H10: else the last committed one
+-- H10: a transaction that has written nothing sees the last committed one
 sees-committed : seen writtenTwice 2 0 0 ≡ does 0 0 write 0 ∷ []
 unfolding openRules
 sees-committed = refl
-
--- H10: else the first
-sees-start : seen (does 0 0 write 0 ∷ []) 2 0 0 ≡ []
-unfolding openRules
-sees-start = refl
-
--- latest first: on tuple 2 of relation 3 transactions 0 and 1 have written and committed, then transaction 2 has written; transaction 3 has
--- begun before them all, and transaction 4 has written elsewhere and committed
-abbrev history : List Event
-history =
-    event 2 0 0 write 3 2 1 ∷ event 4 1 1 commit 0 0 0 ∷ event 4 0 0 write 0 2 1 ∷ event 1 1 1 commit 0 0 0 ∷ event 1 0 0 write 3 2 1
-    ∷ event 0 2 2 commit 0 0 0 ∷ event 0 1 1 write 3 2 1 ∷ event 0 0 0 write 3 2 1 ∷ event 3 0 0 read 3 2 1 ∷ []
-
--- H10: the version that each of the transactions sees of the tuple, as the transactions whose writes it holds: the last committed one, also for one
--- that began before; a transaction's own
-sees-each : map (λ i. map (λ w. w .transaction) (seen history i 3 2)) (2 ∷ 3 ∷ 4 ∷ 5 ∷ [])
-    ≡ (2 ∷ 1 ∷ 0 ∷ 0 ∷ []) ∷ (1 ∷ 0 ∷ 0 ∷ []) ∷ (1 ∷ 0 ∷ 0 ∷ []) ∷ (1 ∷ 0 ∷ 0 ∷ []) ∷ []
-unfolding openRules
-sees-each = refl
-
--- H10: a version holds all writes up to its last, also where the list is not lawful: transaction 0 has not committed, and 1 has
-sees-all-below : map (λ i. map (λ w. w .transaction) (seen (does 1 1 commit 0 ∷ does 1 0 write 0 ∷ does 0 0 write 0 ∷ []) i 0 0)) (0 ∷ 1 ∷ 2 ∷ [])
-    ≡ (0 ∷ []) ∷ (1 ∷ 0 ∷ []) ∷ (1 ∷ 0 ∷ []) ∷ []
-unfolding openRules
-sees-all-below = refl
-
--- who has committed, also with nothing written
-has-committed : map (committed (does 1 1 commit 0 ∷ does 2 0 read 0 ∷ does 0 1 commit 0 ∷ does 0 0 write 0 ∷ [])) (0 ∷ 1 ∷ 2 ∷ 3 ∷ [])
-    ≡ true ∷ true ∷ false ∷ false ∷ []
-unfolding openRules
-has-committed = refl
 
 -- H11: no transaction writes a tuple between another's write of it and that one's commit
 write-early : rules (does 0 0 write 0 ∷ does 1 0 write 0 ∷ []) ≡ false
 unfolding openRules
 write-early = refl
-
-write-late : rules (does 0 0 write 0 ∷ does 0 1 commit 0 ∷ does 1 0 write 0 ∷ []) ≡ true
-unfolding openRules
-write-late = refl
-
-write-again : rules (does 0 0 write 0 ∷ does 0 1 write 0 ∷ []) ≡ true
-unfolding openRules
-write-again = refl
-
--- H11: inserts and deletes included
-delete-early : rules (does 0 0 insert 1 ∷ does 1 0 delete 1 ∷ []) ≡ false
-unfolding openRules
-delete-early = refl
-
-delete-late : rules (does 0 0 insert 1 ∷ does 0 1 commit 0 ∷ does 1 0 delete 1 ∷ []) ≡ true
-unfolding openRules
-delete-late = refl
 
 -- H11, Req 03: nor writes or locks it between another's write or lock of it and that one's commit, whatever attributes the two are of and
 -- whoever does so; pairs of what is done to tuple 0, of which the second may come after the first only when that one is committed
@@ -428,7 +216,7 @@ abbrev claimsOfTwo : List (Action × Action)
 claimsOfTwo = (lock, lock) ∷ (lock, write) ∷ (lock, delete) ∷ (write, lock) ∷ (write, write) ∷ (write, delete) ∷ []
 
 -- the pairs in turn, for sets that meet and sets that do not, between these events of one and of another transaction
-abbrev bySets : ℕ → ℕ → (Event → List Event) → List (List Bool)
+abbrev pub bySets : ℕ → ℕ → (Event → List Event) → List (List Bool)
 bySets i j between =
     map
     (λ x. map (λ c. let first = event i 0 0 (c .0) 0 0 1 in rules (first ∷ between first ++ (event j 2 2 (c .1) 0 0 x ∷ []))) claimsOfTwo)
@@ -438,199 +226,19 @@ lock-early : map (λ (p : ℕ × ℕ). bySets (p .0) (p .1) (λ e. [])) ((0, 1) 
 unfolding openRules
 lock-early = refl
 
-lock-late : map (λ (p : ℕ × ℕ). bySets (p .0) (p .1) (λ e. event (e .transaction) 1 1 commit 0 0 0 ∷ [])) ((0, 1) ∷ (3, 2) ∷ [])
-    ≡ replicate 2 (replicate 2 (replicate 6 true))
-unfolding openRules
-lock-late = refl
-
--- H11, Req 03: a transaction's own locks and writes do not bar it
-lock-own : bySets 0 0 (λ e. []) ≡ replicate 2 (replicate 6 true)
-unfolding openRules
-lock-own = refl
-
--- H11, Req 03: another's lock lasts until its commit, whatever it does in between, and whoever else commits
-lock-lasts :
-    map
-    (λ between. rules (does 0 0 lock 0 ∷ between ++ (does 1 0 lock 0 ∷ [])))
-    ((does 0 1 read 0 ∷ [])
-    ∷ (does 0 1 lock 0 ∷ [])
-    ∷ (does 0 1 write 0 ∷ [])
-    ∷ (does 0 1 insert 1 ∷ does 0 2 write 1 ∷ [])
-    ∷ (event 0 1 1 lock 3 0 1 ∷ [])
-    ∷ (does 2 0 read 0 ∷ does 2 1 commit 0 ∷ [])
-    ∷ (does 0 1 insert 1 ∷ does 0 2 commit 0 ∷ [])
-    ∷ [])
-    ≡ replicate 6 false ++ (true ∷ [])
-unfolding openRules
-lock-lasts = refl
-
--- H11, Req 03: a lock is of its tuple alone: another tuple, and the tuple of this number of another relation, may be locked and written
-lock-elsewhere : map (λ e. rules (event 0 0 0 lock 0 0 1 ∷ e ∷ []))
-    (event 1 0 0 insert 0 1 1 ∷ event 1 0 0 lock 3 0 1 ∷ event 1 0 0 write 3 0 1 ∷ event 1 0 0 lock 0 0 1 ∷ [])
-    ≡ true ∷ true ∷ true ∷ false ∷ []
-unfolding openRules
-lock-elsewhere = refl
-
--- Req 03: a plain read and a predicate read wait for no lock, and no lock for them
-lock-and-read : map (λ a. rules (does 0 0 lock 0 ∷ does 1 0 a 0 ∷ []) && rules (does 0 0 a 0 ∷ does 1 0 lock 0 ∷ [])) (read ∷ predicateRead ∷ [])
-    ≡ true ∷ true ∷ []
-unfolding openRules
-lock-and-read = refl
-
--- an insert, then a write of attribute 0, then one of attribute 1, latest first
-abbrev thrice : List Event
-thrice = event 0 2 2 write 0 1 2 ∷ event 0 1 1 write 0 1 1 ∷ event 0 0 0 insert 0 1 0xffff_ffff_ffff_ffff ∷ []
-
--- H13: an attribute's value comes from the last write of it
-source-older : source thrice 0 ≡ some (event 0 1 1 write 0 1 1)
-unfolding openRules
-source-older = refl
-
-source-newer : source thrice 1 ≡ some (event 0 2 2 write 0 1 2)
-unfolding openRules
-source-newer = refl
-
--- H13: an insert writes all
-source-insert : source thrice 63 ≡ some (event 0 0 0 insert 0 1 0xffff_ffff_ffff_ffff)
-unfolding openRules
-source-insert = refl
-
--- H13: a delete writes all too
-source-delete : source (event 0 3 3 delete 0 1 0xffff_ffff_ffff_ffff ∷ thrice) 1 ≡ some (event 0 3 3 delete 0 1 0xffff_ffff_ffff_ffff)
-unfolding openRules
-source-delete = refl
-
--- H13: where there is none, from the start
-source-start : source (event 0 1 1 write 0 1 1 ∷ []) 1 ≡ none
-unfolding openRules
-source-start = refl
-
--- H13: existence comes from the last insert or delete
-existence-insert : existence thrice ≡ some (event 0 0 0 insert 0 1 0xffff_ffff_ffff_ffff)
-unfolding openRules
-existence-insert = refl
-
-existence-delete : existence (does 0 3 delete 1 ∷ thrice) ≡ some (does 0 3 delete 1)
-unfolding openRules
-existence-delete = refl
-
-existence-start : existence (does 0 0 write 0 ∷ []) ≡ none
-unfolding openRules
-existence-start = refl
-
--- H14: visible: existence from an insert or a visible start
-visible-insert : visible (λ r t. false) 0 1 thrice ≡ true
-unfolding openRules
-visible-insert = refl
-
-visible-delete : visible (λ r t. true) 0 1 (does 0 3 delete 1 ∷ thrice) ≡ false
-unfolding openRules
-visible-delete = refl
-
-visible-start : visible (λ r t. true) 0 1 (does 0 0 write 1 ∷ []) ≡ true
-unfolding openRules
-visible-start = refl
-
-visible-unborn : visible (λ r t. false) 0 1 [] ≡ false
-unfolding openRules
-visible-unborn = refl
-
 -- H4: each relation's tuples start on their own
 visible-relation : visible (λ r t. eqb r 1) 1 2 [] ≡ true
 unfolding openRules
 visible-relation = refl
 
-insert-relation : insertsFirst (λ r t. eqb r 0) [] (event 0 0 0 insert 1 0 0) ≡ true
-unfolding openRules
-insert-relation = refl
-
--- ---- each rule by itself, also where another would refuse the same: on tuple 2 of relation 3, which starts visible, transaction 0 has done
--- what `past` says, and then transaction 1 does what `a` says
-abbrev alone-rule : ((ℕ → ℕ → Bool) → List Event → Event → Bool) → List Event → List Bool
-alone-rule rule past =
-    map
-    (λ a. rule (λ r t. eqb r 3 && eqb t 2) past (event 1 0 0 a 3 2 1))
-    (read ∷ lock ∷ write ∷ insert ∷ delete ∷ predicateRead ∷ commit ∷ [])
-
--- H5: no insert after a write, nor where the tuple starts visible
-first-alone : map (alone-rule insertsFirst) ([] ∷ (event 0 0 0 delete 3 2 1 ∷ []) ∷ [])
-    ≡ (true ∷ true ∷ true ∷ false ∷ true ∷ true ∷ true ∷ []) ∷ (true ∷ true ∷ true ∷ false ∷ true ∷ true ∷ true ∷ []) ∷ []
-unfolding openRules
-first-alone = refl
-
-first-unborn : map (λ past. insertsFirst (λ r t. false) past (event 1 0 0 insert 3 2 1))
-    ([] ∷ (event 0 0 0 insert 3 2 1 ∷ []) ∷ (event 1 0 0 delete 3 2 1 ∷ []) ∷ (event 0 0 0 insert 2 3 1 ∷ []) ∷ [])
-    ≡ true ∷ false ∷ false ∷ true ∷ []
-unfolding openRules
-first-unborn = refl
-
--- H5: no write, insert or delete after a delete of the tuple, whosever it is and whether committed or not
-last-alone : map (alone-rule (λ start. deletesLast))
-    ((event 0 0 0 delete 3 2 1 ∷ [])
-    ∷ (event 0 1 1 commit 0 0 0 ∷ event 0 0 0 delete 3 2 1 ∷ [])
-    ∷ (event 0 0 0 delete 2 3 1 ∷ event 0 0 0 write 3 2 1 ∷ [])
-    ∷ [])
-    ≡ (true ∷ true ∷ false ∷ false ∷ false ∷ true ∷ true ∷ [])
-    ∷ (true ∷ true ∷ false ∷ false ∷ false ∷ true ∷ true ∷ [])
-    ∷ (true ∷ true ∷ true ∷ true ∷ true ∷ true ∷ true ∷ [])
-    ∷ []
-unfolding openRules
-last-alone = refl
-
--- H6, Req 03: a read and a lock meet the version seen, a write and a delete the latest; inserts, predicate reads and commits meet none
-visible-alone : map (alone-rule meetsVisible)
-    ([] ∷ (event 0 0 0 delete 3 2 1 ∷ []) ∷ (event 0 1 1 commit 0 0 0 ∷ event 0 0 0 delete 3 2 1 ∷ []) ∷ [])
-    ≡ (true ∷ true ∷ true ∷ true ∷ true ∷ true ∷ true ∷ [])
-    ∷ (true ∷ true ∷ false ∷ true ∷ false ∷ true ∷ true ∷ [])
-    ∷ (false ∷ false ∷ false ∷ true ∷ false ∷ true ∷ true ∷ [])
-    ∷ []
-unfolding openRules
-visible-alone = refl
-
--- H11, Req 03: each write or lock of the tuple that is another's and not committed bars locks, writes, inserts and deletes, also below an own one;
--- neither what is done to other tuples nor a plain read does
-waits-alone : map (alone-rule (λ start. waits))
-    ((event 0 0 0 lock 3 2 1 ∷ [])
-    ∷ (event 0 0 0 write 3 2 1 ∷ [])
-    ∷ (event 0 0 0 insert 3 2 1 ∷ [])
-    ∷ (event 0 0 0 delete 3 2 1 ∷ [])
-    ∷ (event 1 0 0 write 3 2 1 ∷ event 0 0 0 write 3 2 1 ∷ [])
-    ∷ (event 1 0 0 lock 3 2 1 ∷ event 0 0 0 lock 3 2 1 ∷ [])
-    ∷ (event 0 1 1 commit 0 0 0 ∷ event 0 0 0 write 3 2 1 ∷ event 1 0 0 write 3 2 1 ∷ [])
-    ∷ (event 0 1 1 commit 0 0 0 ∷ event 0 0 0 lock 3 2 1 ∷ event 1 0 0 lock 3 2 1 ∷ [])
-    ∷ (event 0 0 0 write 2 3 1 ∷ event 0 0 0 write 3 3 1 ∷ event 0 0 0 write 2 2 1 ∷ event 0 0 0 read 3 2 1 ∷ [])
-    ∷ (event 0 0 0 lock 2 3 1 ∷ event 0 0 0 lock 3 3 1 ∷ event 0 0 0 lock 2 2 1 ∷ [])
-    ∷ [])
-    ≡ replicate 6 (true ∷ false ∷ false ∷ false ∷ false ∷ true ∷ true ∷ [])
-    ++ replicate 4 (true ∷ true ∷ true ∷ true ∷ true ∷ true ∷ true ∷ [])
-unfolding openRules
-waits-alone = refl
-
--- H2: each place has its own tuples
-abbrev twoSelects : Transaction
-twoSelects =
-    record {
-      program = record { body = next (statement (says Ps 0 5 1 0 0)) (next (statement (says Ps 1 5 1 0 0)) done); links = [] };
-      execution = step perform (step perform end);
-      tuple = λ i. 0;
-      tuples = λ i. i ∷ [];
-    }
-
-tuples-by-place : operations twoSelects
-    ≡ operation 0 predicateRead 5 0 0 ∷ operation 0 read 5 0 1
-    ∷ operation 1 predicateRead 5 0 0 ∷ operation 1 read 5 1 1
-    ∷ operation 2 commit 0 0 0 ∷ []
-unfolding openWorkload
-tuples-by-place = refl
-
 -- ---- H7: foreign keys
 
 -- a key into relation 0, by the last digit
-abbrev byTen : ℕ → Tuple → Tuple
+abbrev pub byTen : ℕ → Tuple → Tuple
 byTen f t = record { relation = 0; number = t .number % 10 }
 
 -- a loop of a child on relation 1 and its parent on relation 0, run for two turns on the tuples given by place
-abbrev bothInside : (ℕ → ℕ) → Transaction
+abbrev pub bothInside : (ℕ → ℕ) → Transaction
 bothInside tuples =
     record {
       program =
@@ -643,152 +251,10 @@ bothInside tuples =
       tuples = λ i. [];
     }
 
--- a loop of the child, run for two turns, and the parent after it
-abbrev childInside : (ℕ → ℕ) → Transaction
-childInside tuples =
-    record {
-      program =
-          record {
-            body = next (loop (next (statement (says Ku 0 1 0 1 0)) done)) (next (statement (says Ku 1 0 0 1 0)) done);
-            links = record { key = 0; child = 0; parent = 1 } ∷ [];
-          };
-      execution = step (turns (turn (step perform end) (turn (step perform end) stop))) (step perform end);
-      tuple = tuples;
-      tuples = λ i. [];
-    }
-
--- a predicate select as the child, on the tuples given, after a parent on tuple 0
-abbrev childMany : List ℕ → Transaction
-childMany many =
-    record {
-      program =
-          record {
-            body = next (statement (says Ks 0 0 1 0 0)) (next (statement (says Ps 1 1 1 0 0)) done);
-            links = record { key = 0; child = 1; parent = 0 } ∷ [];
-          };
-      execution = step perform (step perform end);
-      tuple = λ i. 0;
-      tuples = λ i. many;
-    }
-
 -- the link binds within a turn: child 10 with parent 0, child 11 with parent 1
-link-in-turn : keysKept byTen (bothInside (λ i. getD (10 ∷ 0 ∷ 11 ∷ 1 ∷ []) i 0)) ≡ true
-unfolding openWorkload
-link-in-turn = refl
-
-link-broken : keysKept byTen (bothInside (λ i. getD (10 ∷ 0 ∷ 10 ∷ 1 ∷ []) i 0)) ≡ false
+pub link-broken : keysKept byTen (bothInside (λ i. getD (10 ∷ 0 ∷ 10 ∷ 1 ∷ []) i 0)) ≡ false
 unfolding openWorkload
 link-broken = refl
-
--- the key leads into the parent's relation
-link-elsewhere : keysKept (λ f t. record { relation = 2; number = t .number % 10 }) (bothInside (λ i. getD (10 ∷ 0 ∷ 11 ∷ 1 ∷ []) i 0))
-    ≡ false
-unfolding openWorkload
-link-elsewhere = refl
-
--- a statement performed on these tuples
-abbrev doing : Statement → List ℕ → Performed
-doing s tuples = record { place = 0; occurrence = record { statement = s; path = [] }; tuples = tuples }
-
--- a link by key 0 of an update of tuple 9 of relation 3 to an update of relation 1 on these tuples, where the key gives this tuple
-abbrev linkedTo : ℕ → ℕ → List ℕ → Bool
-linkedTo r n tuples =
-    linkKept (λ f t. record { relation = r; number = n }) (record { key = 0; child = 0; parent = 1 })
-    (doing (says Ku 0 3 0 1 0) (9 ∷ [])) (doing (says Ku 1 1 0 1 0) tuples)
-
--- of the images 4, 5 and 6 in relations 0, 1 and 2, the parent's tuple 5 of relation 1 is one; each tuple of a parent is asked
-link-image
-    : (map (λ r. map (λ n. linkedTo r n (5 ∷ [])) (4 ∷ 5 ∷ 6 ∷ [])) (0 ∷ 1 ∷ 2 ∷ [])
-    ≡ (false ∷ false ∷ false ∷ []) ∷ (false ∷ true ∷ false ∷ []) ∷ (false ∷ false ∷ false ∷ []) ∷ [])
-    × (map (linkedTo 1 5) ([] ∷ (5 ∷ 5 ∷ []) ∷ (5 ∷ 6 ∷ []) ∷ (6 ∷ 5 ∷ []) ∷ []) ≡ true ∷ true ∷ false ∷ false ∷ [])
-unfolding openWorkload
-link-image = (refl, refl)
-
--- a parent outside the loop binds every turn
-link-each-turn : keysKept byTen (childInside (λ i. getD (10 ∷ 20 ∷ 0 ∷ []) i 0)) ≡ true
-unfolding openWorkload
-link-each-turn = refl
-
-link-second-turn : keysKept byTen (childInside (λ i. getD (10 ∷ 11 ∷ 0 ∷ []) i 0)) ≡ false
-unfolding openWorkload
-link-second-turn = refl
-
--- each tuple of the child counts
-link-each-tuple : keysKept byTen (childMany (10 ∷ 20 ∷ 30 ∷ [])) ≡ true
-unfolding openWorkload
-link-each-tuple = refl
-
-link-last-tuple : keysKept byTen (childMany (10 ∷ 20 ∷ 31 ∷ [])) ≡ false
-unfolding openWorkload
-link-last-tuple = refl
-
--- a parent of this kind on tuple 0, and after it a child of that kind on tuple t
-abbrev linked : ℕ → StatementKind → StatementKind → Transaction
-linked t p c =
-    record {
-      program =
-          record {
-            body = next (statement (says p 0 0 1 1 0)) (next (statement (says c 1 1 1 1 1)) done);
-            links = record { key = 0; child = 1; parent = 0 } ∷ [];
-          };
-      execution = step perform (step perform end);
-      tuple = λ i. i * t;
-      tuples = λ i. t ∷ [];
-    }
-
--- links hold between parents and children of every kind that they may have
-link-kinds :
-    map
-    (λ p. all
-    (λ c. keysKept byTen (linked 10 p c) && not (keysKept byTen (linked 11 p c)))
-    (Is ∷ Ks ∷ Ps ∷ Ku ∷ Pu ∷ Kd ∷ Pd ∷ Kl ∷ []))
-    (Is ∷ Ks ∷ Ku ∷ Kd ∷ Kl ∷ [])
-    ≡ true ∷ true ∷ true ∷ true ∷ true ∷ []
-unfolding openWorkload
-link-kinds = refl
-
--- three children by three links: statement 1 by key 3, statement 2 by key 4 and statement 3 by key 5, on the tuples given by place
-abbrev threeLinks : (ℕ → ℕ) → Transaction
-threeLinks tuples =
-    record {
-      program =
-          record {
-            body =
-                next
-                (statement (says Ku 0 0 0 1 0))
-                (next (statement (says Ku 1 1 0 1 0)) (next (statement (says Ku 2 2 0 1 0)) (next (statement (says Ku 3 3 0 1 0)) done)));
-            links =
-                record { key = 3; child = 1; parent = 0 }
-                ∷ record { key = 4; child = 2; parent = 0 }
-                ∷ record { key = 5; child = 3; parent = 0 }
-                ∷ [];
-          };
-      execution = step perform (step perform (step perform (step perform end)));
-      tuple = tuples;
-      tuples = λ i. [];
-    }
-
--- a key that looks at its own number and at the relation and number of the tuple it is applied to
-abbrev byAll : ℕ → Tuple → Tuple
-byAll f t = record { relation = 0; number = f * 100 + t .relation * 10 + t .number }
-
--- each link's own key is applied to its child's tuple, relation and number: all give the parent's 535
-link-by-key : keysKept byAll (threeLinks (λ i. getD (535 ∷ 225 ∷ 115 ∷ 5 ∷ []) i 0)) ≡ true
-unfolding openWorkload
-link-by-key = refl
-
--- every link counts, the last too
-link-last : keysKept byAll (threeLinks (λ i. getD (535 ∷ 225 ∷ 115 ∷ 6 ∷ []) i 0)) ≡ false
-unfolding openWorkload
-link-last = refl
-
--- a schedule in which a link is broken is none
-link-refused : {lines : List Line} (s : Schedule lines) → s .key ≡ byTen
-    → List·Memᴰ (bothInside (λ i. getD (10 ∷ 0 ∷ 10 ∷ 1 ∷ []) i 0)) (s .transactions) → ⊥
-link-refused s e m =
-    true-false
-    (all-true (keysKept (s .key)) (s .kept) m)
-    (subst (λ k. keysKept k (bothInside (λ i. getD (10 ∷ 0 ∷ 10 ∷ 1 ∷ []) i 0)) ≡ false) (sym e) link-broken)
 
 -- ---- H8: a schedule holds all operations of transactions of the workload's programs, and nothing else
 
@@ -809,33 +275,6 @@ none-left-out s e = go (s .transactions) refl
         (commit-after 0 0 (flatMap operationsOf (performed x)) _
         (sym (s .whole 0 x (ap (λ m. getElem? m 0) h)) ∙ ap (keep (by 0)) e))
 
--- each event is of a transaction
-none-more : {lines : List Line} (s : Schedule lines) → s .transactions ≡ [] → s .events ≡ []
-none-more s e = go (s .events) refl
-  where
-    go : (l : List Event) → s .events ≡ l → l ≡ []
-    go [] h = refl
-    go (d ∷ l) h =
-        let m : List·Memᴰ d (d ∷ l) = List·Memᴰ·head refl in
-        let k : all (λ (c : Event). ltb (c .transaction) 0) (d ∷ l) ≡ true =
-        subst₂ (λ t n. all (λ (c : Event). ltb (c .transaction) (length t)) n ≡ true) e h (s .known) in
-        absurd (not-suc-le-zero (ltb-true (d .transaction) 0 (all-true (λ (c : Event). ltb (c .transaction) 0) k m)))
-
--- each transaction is of a program
-none-foreign : (s : Schedule []) → s .transactions ≡ []
-unfolding openWorkload
-none-foreign s = go (s .transactions) refl
-  where
-    go : (l : List Transaction) → s .transactions ≡ l → l ≡ []
-    go [] h = refl
-    go (x ∷ l) h = absurd (List·Memᴰ·not-nil (s .ofPrograms x (subst (List·Memᴰ x) (sym h) (List·Memᴰ·head refl))))
-
--- each event obeys the rules, here the second
-none-against : {lines : List Line} (s : Schedule lines) (rest : List Event)
-    → s .events ≡ event 1 0 0 commit 0 0 0 ∷ event 0 0 0 insert 0 0 everyAttribute ∷ rest → s .start 0 0 ≡ false
-unfolding openRules
-none-against s rest e = false-of (s .start 0 0) (λ h. false≢true (rw h at (subst (λ l. allObey (s .start) [] l ≡ true) e (s .obeyed))))
-
 -- ---- X: the serial run
 
 -- two transactions, interleaved: transaction 0 writes tuple 0, transaction 1 inserts tuple 1
@@ -852,46 +291,19 @@ state-first : stateAt mixed 0 0 0 ≡ []
 unfolding openRules
 state-first = refl
 
--- X3, Req 03: a write, an insert and a delete join their tuple's list, a read and a lock do not; X6: no step is refused
-state-joins :
-    stateAt
-    (does 0 0 delete 0 ∷ does 0 1 lock 0 ∷ does 1 0 write 0 ∷ does 1 1 read 0 ∷ does 2 0 insert 0 ∷ does 2 1 write 1 ∷ does 2 2 lock 0 ∷ [])
-    7 0 0
-    ≡ does 2 0 insert 0 ∷ does 1 0 write 0 ∷ does 0 0 delete 0 ∷ []
-unfolding openRules
-state-joins = refl
-
 -- X6: a commit changes nothing
 state-commit : stateAt mixed 4 0 0 ≡ stateAt mixed 2 0 0
 unfolding openRules
 state-commit = refl
 
--- X6: where the list has none, the start
-state-start : (a : ℕ) → source [] a ≡ none
-unfolding openRules
-state-start a = refl
-
 -- transaction 0 writes tuple 0 and commits, then transaction 1 reads it
-abbrev readAfter : List Event
+abbrev pub readAfter : List Event
 readAfter = does 0 0 write 0 ∷ does 0 1 commit 0 ∷ does 1 0 read 0 ∷ []
 
 -- X4: the read takes the write, so not the start
-read-same : SameRead readAfter 2 (does 1 0 read 0) (λ r t. does 0 0 write 0 ∷ [])
-unfolding openRules
-read-same a h = refl
-
 read-other : SameRead readAfter 2 (does 1 0 read 0) (λ r t. []) → ⊥
 unfolding openRules
 read-other f = Option·some-ne-none _ (f 0 refl)
-
--- transaction 0 writes tuple 5 and commits, then transaction 1 tests its attribute
-abbrev testAfter : List Event
-testAfter = does 0 0 write 5 ∷ does 0 1 commit 0 ∷ does 1 0 predicateRead 0 ∷ []
-
--- X5: the predicate read takes the write of a tested attribute of every tuple of the relation, so not the start
-test-other : SamePredicateRead testAfter 2 (does 1 0 predicateRead 0) (λ r t. []) → ⊥
-unfolding openRules
-test-other f = Option·some-ne-none _ (f .attributes 5 0 refl)
 
 -- transaction 0 inserts tuple 5 and commits, then transaction 1 reads by a predicate that tests nothing
 abbrev existsAfter : List Event
@@ -902,13 +314,6 @@ exists-other : SamePredicateRead existsAfter 2 (event 1 0 0 predicateRead 0 0 0)
 unfolding openRules
 exists-other f = Option·some-ne-none _ (f .exists 5)
 
--- X7: two writes are the same only if they are one operation of one transaction, and the start only as itself
-other-number : some (does 0 0 write 0) ≡ some (does 0 1 write 0) → ⊥
-other-number e = let z : _≡_ {A = ℕ} 0 1 = ap (λ (d : Event). d .number) (some-injective e) in omega arith
-
-other-transaction : some (does 0 0 write 0) ≡ some (does 1 0 write 0) → ⊥
-other-transaction e = let z : _≡_ {A = ℕ} 0 1 = ap (λ (d : Event). d .transaction) (some-injective e) in omega arith
-
 -- X8: an order holds each transaction, here one that only commits
 order-holds-each : (s : SerialOrder 1 (does 0 0 commit 0 ∷ [])) → s .order ≡ [] → ⊥
 order-holds-each s e = let z : _≡_ {A = ℕ} 0 1 = subst (λ l. count (eqb 0) l ≡ 1) e (s .eachOnce 0) in omega arith
@@ -917,12 +322,8 @@ order-holds-each s e = let z : _≡_ {A = ℕ} 0 1 = subst (λ l. count (eqb 0) 
 order-holds-once : (s : SerialOrder 1 (does 0 0 commit 0 ∷ [])) → s .order ≡ 0 ∷ 0 ∷ [] → ⊥
 order-holds-once s e = let z : _≡_ {A = ℕ} 2 1 = subst (λ l. count (eqb 0) l ≡ 1) e (s .eachOnce 0) in omega arith
 
--- X8: and nothing else
-order-holds-else : (s : SerialOrder 1 (does 0 0 commit 0 ∷ [])) → s .order ≡ 0 ∷ 1 ∷ [] → ⊥
-order-holds-else s e = let z : _≡_ {A = ℕ} 1 0 = subst (λ l. count (eqb 1) l ≡ 0) e (s .eachOnce 1) in omega arith
-
 -- what a tuple ends with in the serial run in an order
-abbrev final : List Event → ℕ → ℕ → List ℕ → List Event
+abbrev pub final : List Event → ℕ → ℕ → List ℕ → List Event
 final events r t order = stateAt (serialRun order events) (length (serialRun order events)) r t
 
 -- transaction 0 writes tuple 5 of relation 3, then transaction 1 does
@@ -939,15 +340,51 @@ ends-same s e =
     let y : _≡_ {A = ℕ} 1 0 = ap (λ (d : Event). d .transaction) (some-injective z) in
     omega arith
 
--- transaction 0 inserts tuple 5 of relation 3, then transaction 1 deletes it
-abbrev removes : List Event
-removes = event 0 0 0 insert 3 5 everyAttribute ∷ does 0 1 commit 0 ∷ event 1 0 0 delete 3 5 everyAttribute ∷ does 1 1 commit 0 ∷ []
+-- X4, Req 03: transaction 0 writes tuple 5 of relation 3, and transaction 1 reads it, by a read or a lock
+abbrev pub unseen : Event
+unseen = event 0 0 0 write 3 5 everyAttribute
 
--- X8: existence ends with the same insert or delete
-ends-existence : (s : SerialOrder 2 removes) → s .order ≡ 1 ∷ 0 ∷ [] → ⊥
+abbrev pub reading : Action → Event
+reading action = event 1 0 0 action 3 5 1
+
+-- an event stands at the head of a list alone where no other has its transaction and number
+pub at-head : (a : Event) (rest : List Event) → all (λ b. not (eqb (b .transaction) (a .transaction) && eqb (b .number) (a .number))) rest ≡ true
+    → (k : ℕ) → getElem? (a ∷ rest) k ≡ some a → k ≡ 0
+at-head a rest h zero e = refl
+at-head a rest h (suc k) e =
+    absurd
+    (true-false
+    (and-of (eq-eqb (a .transaction) (a .transaction) refl) (eq-eqb (a .number) (a .number) refl))
+    (not-true (eqb (a .transaction) (a .transaction) && eqb (a .number) (a .number))
+    (all-true (λ b. not (eqb (b .transaction) (a .transaction) && eqb (b .number) (a .number))) h (getElem?-member rest k e))))
+
+-- what transaction 0 does to tuple 5 and commits, and then transaction 1
+abbrev pub twoOf : Event → Event → List Event
+twoOf d e = d ∷ event 0 1 1 commit 0 0 0 ∷ e ∷ event 1 1 1 commit 0 0 0 ∷ []
+
+-- the serial run with transaction 1 first
+abbrev pub turned : Event → Event → List Event
+turned d e = e ∷ event 1 1 1 commit 0 0 0 ∷ d ∷ event 0 1 1 commit 0 0 0 ∷ []
+
+-- what has read a write is not served by an order in which it comes first
+not-turned : (action : Action) → isRead action ≡ true → (s : SerialOrder 2 (twoOf unseen (reading action))) → s .order ≡ 1 ∷ 0 ∷ [] → ⊥
 unfolding openRules
-ends-existence s e =
-    let z : some (event 1 0 0 delete 3 5 everyAttribute) ≡ some (event 0 0 0 insert 3 5 everyAttribute) =
-    subst (λ l. some (event 1 0 0 delete 3 5 everyAttribute) ≡ existence (final removes 3 5 l)) e (s .endsExistence 3 5) in
-    let y : _≡_ {A = ℕ} 1 0 = ap (λ (d : Event). d .transaction) (some-injective z) in
-    omega arith
+not-turned action r s e = go (subst
+    (λ o. (k : ℕ) × (getElem? (serialRun o (twoOf unseen (reading action))) k ≡ some (reading action))
+    × SameRead (twoOf unseen (reading action)) 2 (reading action) (stateAt (serialRun o (twoOf unseen (reading action))) k))
+    e (s .reads 2 (reading action) refl r))
+  where
+    go : (k : ℕ) × (getElem? (turned unseen (reading action)) k ≡ some (reading action))
+        × SameRead (twoOf unseen (reading action)) 2 (reading action) (stateAt (turned unseen (reading action)) k) → ⊥
+    go (k, h, f) =
+        let z : k ≡ 0 = at-head (reading action) (event 1 1 1 commit 0 0 0 ∷ unseen ∷ event 0 1 1 commit 0 0 0 ∷ []) refl k h in
+        Option·some-ne-none _
+        (subst (λ j. SameRead (twoOf unseen (reading action)) 2 (reading action) (stateAt (turned unseen (reading action)) j)) z f 0 refl)
+
+-- so it is with a read
+reads-count : (s : SerialOrder 2 (twoOf unseen (reading read))) → s .order ≡ 1 ∷ 0 ∷ [] → ⊥
+reads-count = not-turned read refl
+
+-- Req 03: and with a lock
+locks-count : (s : SerialOrder 2 (twoOf unseen (reading lock))) → s .order ≡ 1 ∷ 0 ∷ [] → ⊥
+locks-count = not-turned lock refl

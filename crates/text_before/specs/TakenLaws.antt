@@ -3,9 +3,9 @@ use mathlib.Core.Path.{_≡_, refl, sym, ap, subst, _∙_}
 use mathlib.Core.Bool.{Bool, true, false}
 use mathlib.Core.List.{List, [], _∷_, _++_, tail}
 use mathlib.Core.Option.{Option, none, some}
-use Prim.Native.Nat.{ℕ, _+_}
+use Prim.Native.Nat.{ℕ, _+_, _≤_, _<_}
 use lib.Dec.{leb}
-use lib.ListN.{length, drop}
+use lib.ListN.{length, drop, drop-of-length-le}
 use borrow.Author.Tests.{le-leb}
 use Rattle.law_base.specs.ListLaws.{count-keep}
 use Rattle.spec_text.specs.declared.Line.{Line}
@@ -17,18 +17,13 @@ use Rattle.law_text.specs.ReaderState.{stateOf, ownOf}
 use Rattle.line_state.specs.StateWords.{stateIn}
 use Rattle.line_rules.specs.TestLaws.{Numbers, numbers-of}
 use Rattle.line_rules.specs.WordsHold.{HoldsWords}
-use Rattle.line_rules.specs.WordsHoldLaws.{words-take}
-use Rattle.text_lines.specs.declared.Span.{Span}
-use Rattle.text_lines.specs.declared.Step.the-variants.{Line as AtLine, End as AtEnd}
-use Rattle.text_lines.specs.Span.{lineAt}
-use Rattle.text_lines.specs.Going.{bytesOf}
-use Rattle.text_lines.specs.GoingLaws.{came, ended}
+use Rattle.line_rules.specs.Tested.{Tested}
+use Rattle.line_rules.specs.ReadLaws.{fault-some, fault-none}
+use Rattle.text_fields.specs.LineIn.{lineBytes, placeAfter}
+use Rattle.text_fields.specs.LineInLaws.{line-here}
 use Rattle.text_whole.specs.declared.Whole.{Whole}
 use Rattle.text_whole.specs.Whole.{wholeOf}
 use Rattle.text_whole.specs.WholeLaws.{whole-cases}
-use Rattle.text_read.specs.declared.Seen.{Seen}
-use Rattle.text_read.specs.Parse.{Saw}
-use Rattle.text_read.specs.ParseLaws.{saw-stops, saw-passes}
 use Rattle.text_before.specs.declared.Before.{Before}
 use Rattle.text_before.specs.Before.{takenBefore, refusedWhole, takenOf, countsOf, beforeOf}
 use Rattle.text_before.specs.BeforeExamples.{counts, none-taken}
@@ -55,24 +50,31 @@ held-counts {words} lines h s lines-kept relations keys programs statements body
 
 -- ---- a line's bytes
 
--- a fault ends taking
-fault-stops : (before : List Line) (bytes : List ℕ) (rest : List (List ℕ)) {n : ℕ}
-    → ((l : Line) → lineOf bytes ≡ some l → fault before l ≡ some n) → takenBefore before (bytes ∷ rest) ≡ before
+-- bytes that are no line stop taking, and so does a line's fault
+wrong-stops : (before : List Line) (bytes : List ℕ) (rest : List (List ℕ)) → lineOf bytes ≡ none → takenBefore before (bytes ∷ rest) ≡ before
 unfolding takenBefore
-fault-stops before bytes rest {n} f = go (lineOf bytes) refl
-  where
-    go : (o : Option Line) → lineOf bytes ≡ o
-        → _≡_ {A = List Line} (elim o [
-          | none ↦ before
-          | some l ↦ elim (fault before l) [ some number ↦ before | none ↦ takenBefore (before ++ (l ∷ [])) rest ]
-        ])
-        before
-    go none e = refl
-    go (some l) e =
-        ap {B = List Line} (λ q. elim q [ some number ↦ before | none ↦ takenBefore (before ++ (l ∷ [])) rest ]) (f l e)
+wrong-stops before bytes rest e =
+    ap {B = List Line}
+    (λ o. elim o [
+      | none ↦ before
+      | some x ↦ elim (fault before x) [ some number ↦ before | none ↦ takenBefore (before ++ (x ∷ [])) rest ]
+    ])
+    e
+
+fault-stops : (before : List Line) (l : Line) (bytes : List ℕ) (rest : List (List ℕ)) {n : ℕ} → lineOf bytes ≡ some l → fault before l ≡ some n
+    → takenBefore before (bytes ∷ rest) ≡ before
+unfolding takenBefore
+fault-stops before l bytes rest e f =
+    ap {B = List Line}
+    (λ o. elim o [
+      | none ↦ before
+      | some x ↦ elim (fault before x) [ some number ↦ before | none ↦ takenBefore (before ++ (x ∷ [])) rest ]
+    ])
+    e
+    ∙ ap {B = List Line} (λ q. elim q [ some number ↦ before | none ↦ takenBefore (before ++ (l ∷ [])) rest ]) f
 
 -- a line without a fault is taken
-pub line-taken : (before : List Line) (l : Line) (bytes : List ℕ) (rest : List (List ℕ)) → lineOf bytes ≡ some l → fault before l ≡ none
+line-taken : (before : List Line) (l : Line) (bytes : List ℕ) (rest : List (List ℕ)) → lineOf bytes ≡ some l → fault before l ≡ none
     → takenBefore before (bytes ∷ rest) ≡ takenBefore (before ++ (l ∷ [])) rest
 unfolding takenBefore
 line-taken before l bytes rest e f =
@@ -95,35 +97,45 @@ pub record Taking (text : List ℕ) (start : ℕ) (words : List ℕ) (at : ℕ) 
 pub taking-first : (text : List ℕ) (start : ℕ) {words : List ℕ} → HoldsWords words [] → Taking text start words start
 taking-first text start h = record { before = []; holds = h; takes = refl }
 
-pub taking-next : {text words after : List ℕ} {start at : ℕ} {r : Seen} {span : Span} → Taking text start words at
-    → AtLine span ≡ lineAt text at 0 → Saw words (lineOf (bytesOf text span)) after r → r .number ≡ 0 → Taking text start after (span .next)
-taking-next {text} {at = at} {r = r} {span = span} t here saw z =
-    let passes = saw-passes (t .before) (t .holds) saw z in
-    record {
-      before = t .before ++ (r .line ∷ []);
-      holds = words-take (saw .taken z) (t .before) (t .holds) passes;
-      takes =
-          sym (line-taken (t .before) (r .line) (bytesOf text span) (linesIn (drop (span .next) text)) (saw .value z) passes)
-          ∙ ap (takenBefore (t .before)) (sym (came text at 0 here .lines))
-          ∙ t .takes;
-    }
+-- at the same place
+pub taking-at : {text words : List ℕ} {start at place : ℕ} → Taking text start words at → place ≡ at → Taking text start words place
+taking-at {text} {words} {start} t e = subst (λ k. Taking text start words k) (sym e) t
 
--- at a fault and at the end the words hold what is taken
-pub taking-stops : {text words after : List ℕ} {start at : ℕ} {r : Seen} {span : Span} → Taking text start words at
-    → AtLine span ≡ lineAt text at 0 → Saw words (lineOf (bytesOf text span)) after r → (r .number ≡ 0 → ⊥)
-    → HoldsWords after (takenBefore [] (linesIn (drop start text)))
-taking-stops {text} {words} {at = at} {r = r} {span = span} t here saw z =
-    let stops : takenBefore (t .before) (bytesOf text span ∷ linesIn (drop (span .next) text)) ≡ t .before =
-    fault-stops (t .before) (bytesOf text span) (linesIn (drop (span .next) text))
-    (λ l e. saw-stops (t .before) l (t .holds) (rw e at saw) z) in
-    rw (saw .kept z)
-    (subst (HoldsWords words) (sym stops ∙ ap (takenBefore (t .before)) (sym (came text at 0 here .lines)) ∙ t .takes) (t .holds))
+module _ {text words : List ℕ} {start at : ℕ} (t : Taking text start words at) where
+  module _ (inside : at < length text) where
+    abbrev rest : List (List ℕ)
+    rest = linesIn (drop (placeAfter text at) text)
 
-pub taking-ends : {text words : List ℕ} {start at : ℕ} → Taking text start words at → AtEnd ≡ lineAt text at 0
-    → HoldsWords words (takenBefore [] (linesIn (drop start text)))
-unfolding takenBefore
-taking-ends {text} {words} {at = at} t here =
-    subst (HoldsWords words) (sym (ap (takenBefore (t .before)) (ended text at 0 here)) ∙ t .takes) (t .holds)
+    takes-here : takenBefore (t .before) (lineBytes text at ∷ rest) ≡ takenBefore [] (linesIn (drop start text))
+    takes-here = ap (takenBefore (t .before)) (sym (line-here text at inside .0)) ∙ t .takes
+
+    -- at bytes that are no line, at a fault and at the end the words hold what is taken
+    pub taking-wrong : lineOf (lineBytes text at) ≡ none → HoldsWords words (takenBefore [] (linesIn (drop start text)))
+    taking-wrong e = subst (HoldsWords words) (sym (wrong-stops (t .before) (lineBytes text at) rest e) ∙ takes-here) (t .holds)
+
+    module _ {l : Line} (is-line : lineOf (lineBytes text at) ≡ some l) {r : ℕ} {after : List ℕ} (tested : Tested words l r after) where
+      pub taking-stops : (r ≡ 0 → ⊥) → HoldsWords after (takenBefore [] (linesIn (drop start text)))
+      taking-stops z =
+          rw (tested .kept z)
+          (subst (HoldsWords words)
+          (sym (fault-stops (t .before) l (lineBytes text at) rest is-line (fault-some (tested .told (t .before) (t .holds)) z)) ∙ takes-here)
+          (t .holds))
+
+      pub taking-next : r ≡ 0 → Taking text start after (placeAfter text at)
+      taking-next z =
+          record {
+            before = t .before ++ (l ∷ []);
+            holds = tested .held z (t .before) (t .holds);
+            takes =
+                sym (line-taken (t .before) l (lineBytes text at) rest is-line (fault-none (tested .told (t .before) (t .holds)) z)) ∙ takes-here;
+          }
+
+  pub taking-ends : length text ≤ at → HoldsWords words (takenBefore [] (linesIn (drop start text)))
+  unfolding takenBefore linesIn
+  taking-ends outside =
+      subst (HoldsWords words)
+      (ap (λ (rest : List ℕ). takenBefore (t .before) (linesIn rest)) (sym (drop-of-length-le text outside)) ∙ t .takes)
+      (t .holds)
 
 -- ---- the whole text
 

@@ -1,5 +1,6 @@
 // What was taken of a text before its fault: how many lines, and of which sorts, so that a refusal can be explained.
-use text_lines::Step;
+use text_fields::LineStep;
+use text_fields::line_in;
 use text_whole::Whole;
 ghost use mathlib.Core.Path.{_≡_};
 ghost use mathlib.Core.List.{List, []};
@@ -38,24 +39,21 @@ fn counted(words: &[u64; line_state::WORDS]) -> Before
     }
 }
 
-// Takes line after line from a place on, after the names line, up to a fault or the end. The words count the lines, so the reader need not.
+// Takes line after line from a place on, after the names line, up to a fault or the end.
 fn before_lines(text: &[u8], start: usize) -> Before
     ensures { λ r. ⌜ r ≡ countsOf (takenBefore [] (linesIn (drop start (now (text .entry))))) ⌝ }
 {
     let mut words = [0u64; line_state::WORDS];
     line_rules::start(&mut words);
     let mut at = start;
-    loop {
-        let Step::Line(span) = text_lines::line_at(text, at, 0) else {
+    while at < text.len() {
+        let LineStep::Value(l, next) = line_in(text, at) else {
             break;
         };
-        let begin = span.start;
-        let end = span.end;
-        let seen = text_read::see_bytes(&mut words, &text[begin..end]);
-        if seen.number != 0 {
-            return counted(&words);
+        if line_rules::take_tested(&mut words, l) != 0 {
+            break;
         }
-        at = span.next;
+        at = next;
     }
     counted(&words)
 }

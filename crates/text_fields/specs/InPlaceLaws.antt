@@ -1,14 +1,14 @@
 -- What is read in place is what the believed definitions give of the line's fields.
-use mathlib.Core.Bool.{Bool, true, false, cond, _&&_, _||_}
+use mathlib.Core.Bool.{Bool, true, false, cond, _&&_}
 use mathlib.Core.List.{List, [], _∷_}
 use mathlib.Core.Option.{Option, none, some}
 use mathlib.Core.Path.{_≡_, refl, sym, _∙_, ap, ap₂}
 use Prim.Native.Nat.{ℕ, zero, suc, _+_, _*_, _≤_, _<_}
 use native.Mathlib.Omega.{arith}
 use lib.Dec.{eqb, leb, ltb, eqb·suc-zero}
-use lib.ListN.{length, take, drop, getD}
-use borrow.Author.Tests.{eqb-true, eqb-false, eq-eqb, ne-eqb, le-leb, lt-ltb, le-ltb, ltb-true, ltb-false}
-use Rattle.spec_text.specs.Text.{space, newline, dash, same, onFirst, fieldsIn, Form, fieldOf, valuesOf, numberOf, setOf, dashOf}
+use lib.ListN.{length}
+use borrow.Author.Tests.{eqb-true, le-leb, lt-ltb, le-ltb, ltb-true, ltb-false}
+use Rattle.spec_text.specs.Text.{space, newline, dash, same, onFirst, fieldsIn, Form, fieldOf, valuesOf, dashOf}
 use Rattle.spec_text.specs.Text.Form.{number, set, nothing}
 use Rattle.text_lines.specs.Span.{lineLength}
 use Rattle.text_number.specs.Digits.{hexadecimal, digitsFrom, digitsIn, atMost255}

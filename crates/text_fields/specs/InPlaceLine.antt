@@ -1,30 +1,28 @@
 -- The line at a place of a text, from the three bytes that stand there first: a kind's word and a space.
-use mathlib.Core.Bool.{Bool, true, false, cond, not, _&&_, _||_}
+use mathlib.Core.Bool.{Bool, true, false, cond, not, _&&_}
 use mathlib.Core.List.{List, [], _∷_}
 use mathlib.Core.Option.{Option, none, some}
 use mathlib.Core.Path.{_≡_, refl, sym, _∙_, ap}
-use Prim.Native.Nat.{ℕ, suc, _+_, _*_, _-_, _≤_, _<_}
+use Prim.Native.Nat.{ℕ, suc, _+_, _-_, _≤_, _<_}
 use native.Mathlib.Omega.{arith}
-use native.Mathlib.Numerals.{add-one}
-use lib.Dec.{eqb, ltb}
-use lib.ListN.{length, drop, getD, length-drop, drop-of-length-le}
+use lib.Dec.{ltb}
+use lib.ListN.{length, drop, getD, length-drop}
 use lib.Seq.{drop-cons}
-use borrow.Author.Tests.{ltb-true, ltb-false, eq-eqb, ne-eqb, not-true}
+use borrow.Author.Tests.{ltb-true, ltb-false, not-true}
 use Rattle.spec_text.specs.declared.Line.{Line}
 use Rattle.spec_text.specs.declared.LineKind.{LineKind}
-use Rattle.spec_text.specs.Text.{space, newline, fieldsIn, Form, wordOf, kinds, kindOf, formsOf, valuesOf, lineWith, lineOf}
+use Rattle.spec_text.specs.Text.{space, fieldsIn, Form, wordOf, kinds, kindOf, formsOf, valuesOf, lineWith, lineOf}
 use Rattle.law_base.specs.BoolLaws.{and-true}
 use Rattle.law_text.specs.EveryLineKind.{every-line-kind}
-use Rattle.line_kinds.specs.Kinds.{lineFacts, formsWith}
+use Rattle.line_kinds.specs.Kinds.{formsWith}
 use Rattle.line_kinds.specs.KindLaws.{forms-told}
 use Rattle.text_lines.specs.Span.{lineLength, spanAt}
-use Rattle.text_lines.specs.SpanLaws.{line-within}
+use Rattle.text_lines.specs.GoingLaws.{line-within}
 use Rattle.text_fields.specs.declared.LineStep.{LineStep}
 use Rattle.text_fields.specs.Field.{lineFrom}
 use Rattle.text_fields.specs.FieldLaws.{kind-word}
-use Rattle.text_fields.specs.Word.{kindBy}
-use Rattle.text_fields.specs.WordLaws.{kind-number, kind-length}
-use Rattle.text_fields.specs.LineIn.{lineBytes, placeAfter, lineStep}
+use Rattle.text_fields.specs.WordLaws.{kind-length}
+use Rattle.text_fields.specs.LineIn.{placeAfter, lineStep}
 use Rattle.text_fields.specs.LineInLaws.{value-step, wrong-step}
 use Rattle.text_fields.specs.FieldStep.{ReadLine}
 use Rattle.text_fields.specs.InPlace.{fieldsAt, lineAfter, endsField, fieldIn, afterField, lineIn, afterLine}

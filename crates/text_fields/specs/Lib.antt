@@ -1,6 +1,3 @@
-pub mod Answer
-pub mod AnswerLaws
-pub mod BrokenLaws
 pub mod Field
 pub mod FieldLaws
 pub mod FieldStep

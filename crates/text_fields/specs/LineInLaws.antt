@@ -1,15 +1,14 @@
 -- What follows from an answer of `line_in`, case by case.
 use mathlib.Core.Option.{Option, none, some}
-use mathlib.Core.List.{List}
-use mathlib.Core.Path.{_≡_, refl, sym, ap, _∙_}
-use Prim.Native.Nat.{ℕ, _+_, _-_}
+use mathlib.Core.List.{List, _∷_}
+use mathlib.Core.Path.{_≡_, refl, sym, ap, ap₂, _∙_}
+use Prim.Native.Nat.{ℕ, _+_, _-_, _<_}
 use native.Mathlib.Omega.{arith}
-use lib.ListN.{drop}
+use lib.ListN.{length, drop}
 use Rattle.spec_text.specs.declared.Line.{Line}
-use Rattle.spec_text.specs.Text.{lineOf}
-use Rattle.text_lines.specs.declared.Span.{Span}
-use Rattle.text_lines.specs.Span.{lineLength, spanAt}
-use Rattle.text_lines.specs.Going.{bytesOf}
+use Rattle.spec_text.specs.Text.{lineOf, linesIn}
+use Rattle.text_lines.specs.Span.{lineLength, spanAt, bytesOf}
+use Rattle.text_lines.specs.GoingLaws.{came}
 use Rattle.text_fields.specs.declared.LineStep.{LineStep}
 use Rattle.text_fields.specs.LineIn.{lineBytes, placeAfter, lineStep}
 
@@ -57,11 +56,21 @@ unfolding step-cases
 wrong-step text at e = sym (step-is text at ∙ rw e)
 
 -- the bytes and the next place are those of the span that a reader comes to, whatever the line's number
-pub span-bytes : (text : List ℕ) (at line : ℕ) → bytesOf text (spanAt text at line) ≡ lineBytes text at
+span-bytes : (text : List ℕ) (at line : ℕ) → bytesOf text (spanAt text at line) ≡ lineBytes text at
 unfolding spanAt
 span-bytes text at line =
     let long : at + lineLength (drop at text) - at ≡ lineLength (drop at text) = omega arith in rw long
 
-pub span-next : (text : List ℕ) (at line : ℕ) → spanAt text at line .next ≡ placeAfter text at
+span-next : (text : List ℕ) (at line : ℕ) → spanAt text at line .next ≡ placeAfter text at
 unfolding spanAt
 span-next text at line = refl
+
+-- the line at a place is the first of those left, and the others stand from the place after it on, which is further
+pub line-here : (text : List ℕ) (at : ℕ) → at < length text
+    → (linesIn (drop at text) ≡ lineBytes text at ∷ linesIn (drop (placeAfter text at) text)) × (at < placeAfter text at)
+line-here text at inside =
+    let here = came text at inside 0 in (
+      here .0
+          ∙ ap₂ (λ (b : List ℕ) (k : ℕ). b ∷ linesIn (drop k text)) (span-bytes text at 0) (span-next text at 0),
+      here .1,
+    )

@@ -1,4 +1,4 @@
-// Reads one value line of a workload text: the bytes of the line, without the byte 0A that ends it.
+// Reads one value line of a workload text, where it stands.
 use spec_text::Line;
 use spec_text::LineKind;
 use spec_text::StatementKind;
@@ -9,18 +9,11 @@ ghost use mathlib.Core.Bool.{true, false, cond, not};
 ghost use lib.Dec.{eqb};
 ghost use Prim.Native.Nat.{_+_, _≤_, _<_};
 ghost use lib.ListN.{length, drop};
-ghost use Rattle.spec_text.specs.Text.{lineOf, kindOf, newline, space};
-ghost use Rattle.text_fields.specs.Answer.{lineAnswer, valueOr4};
+ghost use Rattle.spec_text.specs.Text.{kindOf, newline, space};
 ghost use Rattle.text_fields.specs.FieldStep.{kindAnswer, Read, ReadLine, Reach, Decimal};
 ghost use Rattle.text_fields.specs.Field.{numberIf, setIf};
 ghost use Rattle.text_fields.specs.InPlace.{endedWith, digitsRun, digitsAt, dashAt, fieldAt, lineAfter};
 ghost use Rattle.text_fields.specs.LineIn.{lineStep};
-
-// The line that the bytes are, or that they are none.
-pub enum LineRead {
-    Value(Line),
-    Wrong,
-}
 
 // The line at a place of a text and the place after it, or that there is none.
 pub enum LineStep {
@@ -291,26 +284,6 @@ pub fn line_in(text: &[u8], at: usize) -> LineStep
         KindRead::Kind(kind) => line_after(text, at + 3, kind),
         KindRead::Wrong => LineStep::Wrong,
     }
-}
-
-// The value line that the bytes are: the line that stands in front, where nothing follows it. The byte 0A ends a line and is none of it.
-pub fn line_of(bytes: &[u8]) -> LineRead
-    ensures { λ r. ⌜ lineAnswer r ≡ valueOr4 (lineOf (now (bytes .entry))) ⌝ }
-{
-    let n = bytes.len();
-    if n == 0 {
-        return LineRead::Wrong;
-    }
-    if bytes[n - 1] == 0x0a {
-        return LineRead::Wrong;
-    }
-    let LineStep::Value(l, next) = line_in(bytes, 0) else {
-        return LineRead::Wrong;
-    };
-    if next < n {
-        return LineRead::Wrong;
-    }
-    LineRead::Value(l)
 }
 
 // The value line that a reader comes to: the reader is taken apart.

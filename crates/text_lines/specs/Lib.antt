@@ -1,4 +1,2 @@
-pub mod Going
 pub mod GoingLaws
 pub mod Span
-pub mod SpanLaws

@@ -1,13 +1,11 @@
 -- The line at a place of a text.
-use mathlib.Core.Bool.{Bool, true, false, cond}
+use mathlib.Core.Bool.{cond}
 use mathlib.Core.List.{List, [], _∷_}
-use Prim.Native.Nat.{ℕ, suc, _+_}
+use Prim.Native.Nat.{ℕ, suc, _+_, _-_}
 use lib.Dec.{eqb, ltb}
-use lib.ListN.{length, drop}
+use lib.ListN.{length, take, drop}
 use Rattle.spec_text.specs.Text.{newline}
 use Rattle.text_lines.specs.declared.Span.{Span}
-use Rattle.text_lines.specs.declared.Step.{Step}
-use Rattle.text_lines.specs.declared.Step.the-variants.{Line as AtLine, End as AtEnd}
 
 -- how long the first line is
 unfoldable pub lineLength : List ℕ → ℕ
@@ -25,10 +23,6 @@ spanAt text place line =
       after = cond (ltb line 18446744073709551615) (line + 1) line;
     }
 
-abbrev pub pickStep : Bool → Step → Step → Step
-pickStep true a b = a
-pickStep false a b = b
-
--- the line at a place, where the text has one
-unfoldable pub lineAt : List ℕ → ℕ → ℕ → Step
-lineAt text place line = pickStep (ltb place (length text)) (AtLine (spanAt text place line)) AtEnd
+-- the bytes of a line
+abbrev pub bytesOf : List ℕ → Span → List ℕ
+bytesOf text span = take (span .end - span .start) (drop (span .start) text)

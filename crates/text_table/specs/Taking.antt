@@ -1,22 +1,19 @@
 -- The steps of the code that reads a text into lent words.
-use mathlib.Core.List.{List, [], _∷_, _++_}
+use mathlib.Core.List.{List, [], _++_}
 use mathlib.Core.Path.{_≡_}
 use Prim.Native.Nat.{ℕ, _*_}
 use lib.ListN.{length, drop}
 use Rattle.spec_text.specs.declared.Line.{Line}
 use Rattle.spec_text.specs.Text.{linesIn}
-use Rattle.spec_text.specs.Reading.{fault, readLines}
-use Rattle.line_rules.specs.Holds.{faultOf}
+use Rattle.spec_text.specs.Reading.{readLines}
 use Rattle.line_rules.specs.WordsHold.{HoldsWords}
-use Rattle.lent_words.specs.Lent.{Lent}
+use Rattle.line_rules.specs.Tested.{Tested}
 use Rattle.value_tables.specs.Lines.{lineTable, linePut}
 
--- a line's fault is told; without one the line is put into the table, and is one of the lines that the state holds; the state is lent
+-- a line is tested and taken into the state; where it is taken it is put into the table
 pub record LineTaken (state table : List ℕ) (n : ℕ) (l : Line) (r : ℕ) (state′ table′ : List ℕ) : Type 0 where
-  pub told : (lines : List Line) → HoldsWords state lines → faultOf r ≡ fault lines l
+  pub tested : Tested state l r state′
   pub put : r ≡ 0 → table′ ≡ linePut table n l
-  pub lent : Lent state state′
-  pub held : r ≡ 0 → (lines : List Line) → HoldsWords state lines → HoldsWords state′ (lines ++ (l ∷ []))
 
 -- between two lines: these were taken, the words hold them, and what is read is what the lines left give after them
 pub record Going (text : List ℕ) (start : ℕ) (table₀ state table : List ℕ) (at n : ℕ) : Type 0 where

@@ -1,119 +1,44 @@
 -- Each step of the code is one of `readLines`, and the table follows.
-use mathlib.Core.Bool.{Bool, true, false, cond}
 use mathlib.Core.List.{List, [], _∷_, _++_, append-assoc, flatMap}
-use mathlib.Core.Option.{Option, none, some}
+use mathlib.Core.Option.{none, some}
 use mathlib.Core.Path.{_≡_, refl, sym, ap, ap₂, subst, _∙_}
-use Prim.Native.Nat.{ℕ, suc, _+_, _*_, _≤_, _<_}
+use Prim.Native.Nat.{ℕ, _+_, _*_, _≤_, _<_}
+use native.Mathlib.Decide.{ℕ-discrete}
 use native.Mathlib.Omega.{arith}
 use lib.Dec.{eqb}
-use lib.ListN.{length, take, drop, length-append, length-drop, drop-of-length-le}
-use lib.Seq.{take-at, drop-at, drop-drop, length-take-le}
-use borrow.Author.Tests.{eq-eqb, ne-eqb}
+use lib.ListN.{length, drop, length-append, length-drop, drop-of-length-le}
+use lib.Seq.{take-at, drop-at, drop-drop}
 use Rattle.spec_text.specs.declared.Line.{Line}
 use Rattle.spec_text.specs.Text.{linesIn, lineOf}
-use Rattle.spec_text.specs.Reading.{fault, noneOpen, readLines, Outcome}
-use Rattle.spec_text.specs.Reading.Outcome.{refused, accepted}
+use Rattle.spec_text.specs.Reading.{noneOpen, readLines, Outcome}
+use Rattle.spec_text.specs.Reading.Outcome.{refused}
 use Rattle.line_state.specs.StateWords.{stateIn, startedIn}
 use Rattle.line_state.specs.StartLaws.{started-size}
-use Rattle.line_rules.specs.Holds.{faultOf}
 use Rattle.line_rules.specs.HoldsLaws.{holds-few}
 use Rattle.line_rules.specs.WordsHold.{HoldsWords}
-use Rattle.text_lines.specs.Span.{spanAt}
-use Rattle.text_lines.specs.SpanLaws.{line-found}
-use Rattle.text_lines.specs.Going.{Came}
-use Rattle.text_lines.specs.GoingLaws.{came}
+use Rattle.line_rules.specs.Tested.{Tested}
+use Rattle.line_rules.specs.ReadLaws.{read-wrong, read-fault, read-taken, read-open, read-closed}
 use Rattle.text_fields.specs.LineIn.{lineBytes, placeAfter}
-use Rattle.text_fields.specs.LineInLaws.{span-bytes, span-next}
-use Rattle.lent_words.specs.Lent.{Lent}
-use Rattle.value_tables.specs.Lines.{lineWords, lineTable, linePut}
+use Rattle.text_fields.specs.LineInLaws.{line-here}
+use Rattle.value_tables.specs.Lines.{lineWords, lineTable}
 use Rattle.value_tables.specs.LineLaws.{lineTable-length, lineTable-more, put-there}
 use Rattle.word_rows.specs.Put.{putAt}
 use Rattle.text_table.specs.declared.TextTable.{TextTable}
-use Rattle.text_table.specs.Tabled.{notRead, linesRead, TextTabled}
-use Rattle.text_table.specs.Tabled.TextTabled.{unread, tabled}
+use Rattle.text_table.specs.Tabled.{linesRead, TextTabled}
+use Rattle.text_table.specs.Tabled.TextTabled.{tabled}
 use Rattle.text_table.specs.Taking.{LineTaken, Going}
-
--- ---- a line of the text
-
--- the line at a place is the first of those left, and the others stand from the place after it on, which is further
-pub line-here : (text : List ℕ) (at : ℕ) → at < length text
-    → (linesIn (drop at text) ≡ lineBytes text at ∷ linesIn (drop (placeAfter text at) text)) × (at < placeAfter text at)
-line-here text at inside =
-    let here = came text at 0 (line-found text at 0 inside refl) in (
-      here .lines
-          ∙ ap₂ (λ (b : List ℕ) (k : ℕ). b ∷ linesIn (drop k text)) (span-bytes text at 0) (span-next text at 0),
-      here .further,
-    )
-
--- ---- `readLines`, case by case
-
-read-wrong : (before : List Line) (bytes : List ℕ) (rest : List (List ℕ)) → lineOf bytes ≡ none
-    → readLines before (bytes ∷ rest) ≡ refused 4 (length before + 2)
-unfolding readLines
-read-wrong before bytes rest e =
-    ap {B = Outcome}
-    (λ o. elim o [
-      | none ↦ refused 4 (length before + 2)
-      | some x ↦
-          elim (fault before x) [
-            | some number ↦ refused number (length before + 2)
-            | none ↦ readLines (before ++ (x ∷ [])) rest
-          ]
-    ])
-    e
-
-after-line : List Line → List (List ℕ) → Line → Option ℕ → Outcome
-after-line before rest l o = elim o [ some number ↦ refused number (length before + 2) | none ↦ readLines (before ++ (l ∷ [])) rest ]
-
-read-line : (before : List Line) (bytes : List ℕ) (rest : List (List ℕ)) (l : Line) → lineOf bytes ≡ some l
-    → readLines before (bytes ∷ rest) ≡ after-line before rest l (fault before l)
-unfolding readLines after-line
-read-line before bytes rest l e =
-    ap {B = Outcome}
-    (λ o. elim o [
-      | none ↦ refused 4 (length before + 2)
-      | some x ↦
-          elim (fault before x) [
-            | some number ↦ refused number (length before + 2)
-            | none ↦ readLines (before ++ (x ∷ [])) rest
-          ]
-    ])
-    e
-
--- the fault that a number tells
-fault-some : {n : ℕ} {o : Option ℕ} → faultOf n ≡ o → (n ≡ 0 → ⊥) → o ≡ some n
-unfolding faultOf
-fault-some {n} e z = sym e ∙ ap (λ t. cond t none (some n)) (ne-eqb n 0 z)
-
-fault-none : {n : ℕ} {o : Option ℕ} → faultOf n ≡ o → n ≡ 0 → o ≡ none
-unfolding faultOf
-fault-none {n} e z = sym e ∙ ap (λ t. cond t none (some n)) (eq-eqb n 0 z)
-
--- a line that fails a test is not taken
-pub not-taken : {state table : List ℕ} {n : ℕ} {l : Line} {r : ℕ} {state′ table′ : List ℕ}
-    → ((lines : List Line) → HoldsWords state lines → faultOf r ≡ fault lines l) → (r ≡ 0 → ⊥) → state′ ≡ state
-    → LineTaken state table n l r state′ table′
-unfolding Lent
-not-taken told other kept = record { told = told; put = λ z. absurd (other z); lent = ap length kept; held = λ z. absurd (other z) }
-
--- one that passes them is
-pub is-taken : {state table : List ℕ} {n : ℕ} {l : Line} {r : ℕ} {state′ table′ : List ℕ}
-    → ((lines : List Line) → HoldsWords state lines → faultOf r ≡ fault lines l) → r ≡ 0
-    → ((lines : List Line) → HoldsWords state lines → fault lines l ≡ none → HoldsWords state′ (lines ++ (l ∷ [])))
-    → length state′ ≡ length state → table′ ≡ linePut table n l → LineTaken state table n l 0 state′ table′
-unfolding Lent
-is-taken told z taken size put =
-    record {
-      told = λ lines h. ap faultOf (sym z) ∙ told lines h;
-      put = λ e. put;
-      lent = size;
-      held = λ e lines h. taken lines h (fault-none (told lines h) z);
-    }
 
 -- ---- the state, lent
 
 pub started-long : (before : List ℕ) {after : List ℕ} → after ≡ startedIn before → length after ≡ length before
 started-long before e = ap length e ∙ started-size before
+
+pub tested-long : {before after : List ℕ} {l : Line} {r : ℕ} → Tested before l r after → length after ≡ length before
+tested-long {before} {after} {r = r} tested = go (ℕ-discrete r 0)
+  where
+    go : Dec (r ≡ 0) → length after ≡ length before
+    go (yes z) = tested .taken z .size
+    go (no z) = ap length (tested .kept z)
 
 -- ---- the table
 
@@ -174,16 +99,14 @@ module _ {text : List ℕ} {start : ℕ} {table₀ state table : List ℕ} {at n
         (taken : LineTaken state table n l r state′ table′) where
       -- the first test that fails
       pub going-fault : (r ≡ 0 → ⊥) → readLines [] (linesIn (drop start text)) ≡ refused r (n + 2)
-      unfolding after-line
       going-fault z =
           sym reads-here
-          ∙ read-line lines (lineBytes text at) rest l is-line
-          ∙ ap (after-line lines rest l) (fault-some (taken .told lines (g .holds)) z)
+          ∙ read-fault lines (lineBytes text at) rest l is-line (taken .tested .told lines (g .holds)) z
           ∙ ap (λ (k : ℕ). refused r (k + 2)) (sym (g .count))
 
       module _ (passes : r ≡ 0) where
         held′ : HoldsWords state′ (lines ++ (l ∷ []))
-        held′ = taken .held passes lines (g .holds)
+        held′ = taken .tested .held passes lines (g .holds)
 
         pub going-room : n < 1616
         going-room =
@@ -193,7 +116,7 @@ module _ {text : List ℕ} {start : ℕ} {table₀ state table : List ℕ} {at n
             omega arith
 
         pub going-next : Going text start table₀ state′ table′ (placeAfter text at) (n + 1)
-        unfolding after-line lineWords
+        unfolding lineWords
         going-next =
             let room = going-room in
             let long = going-long in
@@ -214,31 +137,22 @@ module _ {text : List ℕ} {start : ℕ} {table₀ state table : List ℕ} {at n
                   ∙ ap₂ (λ (a b : List ℕ). a ++ b) (sym (lineTable-more lines l))
                   (drop-drop 8 (8 * n) table₀ ∙ ap (λ (k : ℕ). drop k table₀) next);
               holds = held′;
-              reads =
-                  sym (read-line lines (lineBytes text at) rest l is-line
-                  ∙ ap (after-line lines rest l) (fault-none (taken .told lines (g .holds)) passes))
-                  ∙ reads-here;
+              reads = sym (read-taken lines (lineBytes text at) rest l is-line (taken .tested .told lines (g .holds)) passes) ∙ reads-here;
             }
 
   -- after the last line
   module _ (outside : length text ≤ at) (d : ℕ) (open-blocks : (ls : List Line) → HoldsWords state ls → noneOpen ls ≡ eqb d 0) where
-    at-end : readLines [] (linesIn (drop start text)) ≡ elim (eqb d 0) [ true ↦ accepted lines | false ↦ refused 7 (length lines + 1) ]
-    unfolding readLines linesIn
-    at-end =
-        sym (g .reads)
-        ∙ ap (λ (t : List ℕ). readLines lines (linesIn t)) (drop-of-length-le text outside)
-        ∙ ap {B = Outcome} (λ t. elim t [ true ↦ accepted lines | false ↦ refused 7 (length lines + 1) ]) (open-blocks lines (g .holds))
+    at-end : readLines [] (linesIn (drop start text)) ≡ readLines lines []
+    unfolding linesIn
+    at-end = sym (g .reads) ∙ ap (λ (t : List ℕ). readLines lines (linesIn t)) (drop-of-length-le text outside)
 
     pub going-open : (d ≡ 0 → ⊥) → readLines [] (linesIn (drop start text)) ≡ refused 7 (n + 1)
-    going-open z =
-        at-end
-        ∙ ap {B = Outcome} (λ t. elim t [ true ↦ accepted lines | false ↦ refused 7 (length lines + 1) ]) (ne-eqb d 0 z)
-        ∙ ap (λ (k : ℕ). refused 7 (k + 1)) (sym (g .count))
+    going-open z = at-end ∙ read-open lines d (open-blocks lines (g .holds)) z ∙ ap (λ (k : ℕ). refused 7 (k + 1)) (sym (g .count))
 
     pub going-closed : d ≡ 0 → TextTabled (readLines [] (linesIn (drop start text))) table₀ (linesRead n) table
     going-closed z =
         tabled lines
-        (at-end ∙ ap {B = Outcome} (λ t. elim t [ true ↦ accepted lines | false ↦ refused 7 (length lines + 1) ]) (eq-eqb d 0 z))
+        (at-end ∙ read-closed lines d (open-blocks lines (g .holds)) z)
         (ap linesRead (g .count))
         (g .rows ∙ ap (λ (k : ℕ). lineTable lines ++ drop (8 * k) table₀) (g .count))
 

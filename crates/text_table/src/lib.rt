@@ -3,8 +3,8 @@ use spec_text::Line;
 use text_fields::LineStep;
 use text_fields::line_there;
 use text_whole::Whole;
+use value_lines::put_line;
 use value_tables::LINE_TABLE;
-use value_tables::put_line;
 ghost use mathlib.Core.Path.{_≡_};
 ghost use mathlib.Core.List.{[]};
 ghost use lib.ListN.{length, drop};
@@ -35,13 +35,12 @@ fn refused(number: u8, line: u64) -> TextTable
 fn take_line(state: &mut [u64; line_state::WORDS], lines: &mut [u64], n: usize, l: Line) -> u8
     ensures { λ r. ⌜ LineTaken (now (state .entry)) (now (lines .entry)) n l r (now (state .exit)) (now (lines .exit)) ⌝ }
 {
-    let number = line_rules::check(state, l);
+    let number = line_rules::take_tested(state, l);
     if number != 0 {
         return number;
     }
-    line_rules::take(state, l);
     put_line(lines, n, l);
-    0
+    number
 }
 
 // Reads line after line from a place on, after the names line, up to a fault or the end, where no block may be open. The names line is line 1.

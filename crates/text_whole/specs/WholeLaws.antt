@@ -1,5 +1,5 @@
 -- The tests of a whole text, step by step, are those of `Reading`, and what they settle is what reading gives.
-use mathlib.Core.Path.{_≡_, refl, sym, ap, ap₂, _∙_}
+use mathlib.Core.Path.{_≡_, refl, sym, ap, _∙_}
 use mathlib.Core.Bool.{Bool, true, false, cond, not, _&&_, and-assoc}
 use mathlib.Core.List.{List, [], _∷_, _++_, tail, headD}
 use mathlib.Core.Option.{Option, none, some}
@@ -16,12 +16,8 @@ use Rattle.spec_base.specs.Basic.{all}
 use Rattle.spec_text.specs.Text.{newline, same, onFirst, linesIn, namesLine}
 use Rattle.spec_text.specs.Reading.{isAllowed, otherByte, endsLine, readLines, read, Outcome}
 use Rattle.spec_text.specs.Reading.Outcome.{refused}
-use Rattle.text_lines.specs.declared.Span.{Span}
-use Rattle.text_lines.specs.declared.Step.the-variants.{Line as AtLine, End as AtEnd}
 use Rattle.text_lines.specs.Span.{lineLength, spanAt}
-use Rattle.text_lines.specs.SpanLaws.{line-found}
-use Rattle.text_lines.specs.Going.{bytesOf}
-use Rattle.text_lines.specs.GoingLaws.{came, ended}
+use Rattle.text_lines.specs.GoingLaws.{came}
 use Rattle.text_whole.specs.declared.Whole.{Whole}
 use Rattle.text_whole.specs.Whole.{wholeGives, wholeOf, lineOr, lineAfterByte, beginsNamed}
 
@@ -279,7 +275,7 @@ whole-cases text P early late = size (leb (length text) 32768) refl
         (elim t [ true ↦ readLines [] (tail (linesIn text)) | false ↦ refused 3 1 ])
     names false h = early 3 1 (omega arith)
     names true h =
-        let lines = came text 0 1 (line-found text 0 1 (endsLine-some text h) refl) .lines in
+        let lines = came text 0 (endsLine-some text h) 1 .0 in
         late (spanAt text 0 1 .next) (sym (ap (λ (l : List (List ℕ)). tail l) lines))
 
     last : (t : Bool) → endsLine text ≡ t

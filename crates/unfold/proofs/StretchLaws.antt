@@ -1,4 +1,5 @@
 -- Statement after statement: the steps of `write_stretch`, and what a stretch is to the run that it begins.
+use mathlib.Core.Bool.{Bool, true, false, cond}
 use mathlib.Core.List.{List, [], _∷_, _++_, append-assoc}
 use mathlib.Core.Path.{_≡_, refl, sym, ap, _∙_}
 use Prim.Native.Nat.{ℕ, suc, _+_, _-_, _/_, _%_, _≤_, _<_}
@@ -6,8 +7,10 @@ use native.Mathlib.Nat.{add-zero, sub-zero}
 use native.Mathlib.Numerals.{add-one}
 use native.Mathlib.Omega.{arith}
 use lib.Bits.{bitOr}
+use lib.Dec.{ltb}
 use lib.ListN.{length, getD, take, drop, set, length-set, length-take, length-drop, take-append-drop}
 use lib.Seq.{take-suc-set, drop-set-lt, drop-drop}
+use borrow.Author.Tests.{ltb-true, ltb-false}
 use borrow.Rule.Slice.PartMut.{putMid}
 use Rattle.unfold_laws.specs.declared.Counted.{Counted}
 use Rattle.unfold_laws.specs.Codes.{itemAt, countAt}
@@ -17,7 +20,7 @@ use Rattle.unfold_laws.specs.Writing.{writeBlock, writeAt}
 use Rattle.unfold_laws.specs.WritingLaws.{write-past, write-stop, write-statement, write-block}
 use Rattle.unfold_count.specs.Counted.{RunCounted}
 use Rattle.unfold.specs.declared.Stretch.{Stretch}
-use Rattle.unfold.specs.Laid.{Laid, Stretching, Stretched, Known}
+use Rattle.unfold.specs.Laid.{Laid, Stretching, BlockAt, Stretched, Known}
 use Rattle.unfold.proofs.LaidLaws.{laid-fits, lays-nothing, lays-length, lays-full, lays-end, lays-both}
 
 module _ (codes words marks : List ℕ) (seen at : ℕ) (before : List ℕ) where
@@ -60,31 +63,57 @@ module _ (codes words marks : List ℕ) (seen at : ℕ) (before : List ℕ) wher
         stands = sym (laid-fits (take m area) before (omega (arith, many, s .inside)) ∙ rw (many, ← s .rest) (take-append-drop m area));
       }
 
+  -- where a stretch ends
+  module _ (m sees : ℕ) (area : List ℕ) (s : Stretching codes words marks seen at before m sees area) where
+    abbrev told : Bool → Stretch
+    told ends = record { many = m; sees = sees; ends = ends }
+
+    ended : ((left k : ℕ) → length codes ≤ at + left → Laid (writeAt left codes words marks seen at k) before m area)
+        → Stretched codes words marks seen at before (told true) area
+    ended whole = record {
+      laid = s;
+      whole = λ _. whole;
+      block = λ e. let z : _≡_ {A = ℕ} 0 1 = ap (λ (b : Bool). cond b 0 1) e in absurd (omega arith);
+    }
+
+    first-words : (left k : ℕ) → length codes ≤ at + left
+        → writeAt left codes words marks seen at k ≡ take m area ++ writeAt (left - m) codes words marks sees (at + m) k
+    first-words left k enough = s .first left k (omega (arith, s .reach))
+
+    -- the area is full
+    pub stretched-full : length area ≤ m → Stretched codes words marks seen at before (told true) area
+    stretched-full h =
+        ended (λ left k enough.
+        lays-full _ _ _ before m area (first-words left k enough) (stretch-laid m sees area s) (omega (arith, s .many)))
+
+    -- no line is left
+    pub stretched-past : length codes ≤ at + m → Stretched codes words marks seen at before (told true) area
+    stretched-past h =
+        ended (λ left k enough.
+        lays-end _ _ _ before m area (first-words left k enough) (write-past codes words marks sees (at + m) k (left - m) h)
+        (stretch-laid m sees area s))
+
+    -- the next line begins no statement: a block, or none either
+    pub stretched-at : at + m < length codes → (code : ℕ) → code ≡ getD codes (at + m) 0 → (code ≡ 0 → ⊥)
+        → Stretched codes words marks seen at before (told (ltb 2 code)) area
+    stretched-at inside code e some =
+        record {
+          laid = s;
+          whole = λ stop left k enough.
+              lays-end _ _ _ before m area (first-words left k enough)
+              (write-stop codes words marks sees (at + m) k (left - m) inside (omega (arith, ltb-true 2 code stop, e))) (stretch-laid m sees area s);
+          block = λ go. record { inside = inside; some = λ z. some (e ∙ z); few = omega (arith, ltb-false 2 code go, e) };
+        }
+
 -- ---- a stretch, and the run after it
 
 module _ (codes words marks counts : List ℕ) (seen at left k : ℕ) (before : List ℕ) (known : Known codes counts at left) (r : Stretch)
     (area : List ℕ) (s : Stretched codes words marks seen at before r area) where
-  turn-first : Laid (take (r .many) area) before (r .many) area
-  turn-first = stretch-laid codes words marks seen at before (r .many) (r .sees) area (s .laid)
-
   pub turn-left : r .many ≤ left
   turn-left = omega (arith, s .laid .reach, known .enough)
 
-  turn-words : writeAt left codes words marks seen at k
-      ≡ take (r .many) area ++ writeAt (left - r .many) codes words marks (r .sees) (at + r .many) k
-  turn-words = s .laid .first left k turn-left
-
-  pub turn-full : length area ≤ r .many → Laid (writeAt left codes words marks seen at k) before (r .many) area
-  turn-full h = lays-full _ _ _ before (r .many) area turn-words turn-first (omega (arith, s .laid .many))
-
-  pub turn-past : length codes ≤ at + r .many → Laid (writeAt left codes words marks seen at k) before (r .many) area
-  turn-past h =
-      lays-end _ _ _ before (r .many) area turn-words (write-past codes words marks (r .sees) (at + r .many) k (left - r .many) h) turn-first
-
-  pub turn-stop : at + r .many < length codes → 2 < getD codes (at + r .many) 0
-      → Laid (writeAt left codes words marks seen at k) before (r .many) area
-  turn-stop h c =
-      lays-end _ _ _ before (r .many) area turn-words (write-stop codes words marks (r .sees) (at + r .many) k (left - r .many) h c) turn-first
+  pub turn-whole : r .ends ≡ true → Laid (writeAt left codes words marks seen at k) before (r .many) area
+  turn-whole e = s .whole e left k (known .enough)
 
   pub turn-known : Known codes counts (at + r .many) (left - r .many)
   turn-known = record { held = known .held; enough = omega (arith, known .enough, turn-left) }
@@ -92,7 +121,9 @@ module _ (codes words marks counts : List ℕ) (seen at left k : ℕ) (before : 
   pub turn-on : (n : ℕ) (end : List ℕ)
       → Laid (writeAt (left - r .many) codes words marks (r .sees) (at + r .many) k) (take (length area - r .many) (drop (r .many) area)) n end
       → Laid (writeAt left codes words marks seen at k) before (r .many + n) (putMid (r .many) (length area - r .many) area end)
-  turn-on n end l = lays-both _ _ _ before (r .many) area n end turn-words turn-first l
+  turn-on n end l =
+      lays-both _ _ _ before (r .many) area n end (s .laid .first left k turn-left)
+      (stretch-laid codes words marks seen at before (r .many) (r .sees) area (s .laid)) l
 
 -- ---- stretch, block, stretch, block: a run
 
@@ -143,62 +174,54 @@ module _ (codes words marks counts : List ℕ) where
       pub stretch-inside : m + r .many ≤ length before
       stretch-inside = first .inside
 
-      -- the area is full
-      pub stretch-full : length over ≤ m + r .many → Laid w before (m + r .many) over
-      stretch-full h = lays-full _ _ w before (m + r .many) over words-then first (omega (arith, over-many))
-
-      -- no line is left, or none that begins a statement or block
-      pub stretch-past : length codes ≤ line → Laid w before (m + r .many) over
-      stretch-past h =
-          lays-end _ _ w before (m + r .many) over words-then (write-past codes words marks (r .sees) line number (rest - r .many) h) first
-
-      pub stretch-stop : line < length codes → 2 < getD codes line 0 → Laid w before (m + r .many) over
-      stretch-stop h c =
-          lays-end _ _ w before (m + r .many) over words-then (write-stop codes words marks (r .sees) line number (rest - r .many) h c) first
+      -- the run ends, or the area
+      pub stretch-whole : r .ends ≡ true → Laid w before (m + r .many) over
+      stretch-whole e =
+          lays-both (g .done) (writeAt rest codes words marks sees here number) w before m area (r .many) part (g .parts) (g .laid)
+          (s .whole e rest number (g .known .enough))
 
       -- a block is next
-      module _ (inside : line < length codes) where
+      module _ (goes : r .ends ≡ false) where
+        abbrev at-block : BlockAt codes line
+        at-block = s .block goes
+
         pub stretch-left : r .many < rest
-        stretch-left = omega (arith, g .known .enough)
+        stretch-left = omega (arith, g .known .enough, at-block .inside)
 
         pub stretch-known : Known codes counts (line + 1) left
-        stretch-known = record { held = g .known .held; enough = omega (arith, g .known .enough) }
+        stretch-known = record { held = g .known .held; enough = omega (arith, g .known .enough, at-block .inside) }
 
         pub block-ends : (next : ℕ) → next ≡ itemAt (countAt left codes) codes line .end → next ≤ length codes
         block-ends next e =
-            let end = item-onward codes line inside (countAt left codes) (count-onward codes left) .inside (omega arith) in omega (arith, e)
+            let end = item-onward codes line (at-block .inside) (countAt left codes) (count-onward codes left) .inside (omega (arith, at-block .inside)) in
+            omega (arith, e)
 
-        module _ (room : m + r .many < length over) where
-          pub stretch-block : getD codes line 0 ≡ 0 → ⊥
-          stretch-block =
-              s .ends (omega (arith, over-many, running-many, length-take (length area - m) (drop m area), length-drop m area)) inside
+        module _ (next : ℕ) (more : Counted) (e : next ≡ itemAt (countAt left codes) codes line .end)
+            (q : RunCounted left codes next more) (onward : Known codes counts next left) (j : ℕ) (mid : List ℕ)
+            (block : Laid (writeBlock (writeAt left codes words marks (r .sees)) (countAt left codes) codes line (number / more .count))
+            (take (length over - (m + r .many)) (drop (m + r .many) over)) j mid) where
+          abbrev words-of : List ℕ
+          words-of = writeBlock (writeAt left codes words marks (r .sees)) (countAt left codes) codes line (number / more .count)
 
-          module _ (few : getD codes line 0 ≤ 2) (next : ℕ) (more : Counted) (e : next ≡ itemAt (countAt left codes) codes line .end)
-              (q : RunCounted left codes next more) (onward : Known codes counts next left) (j : ℕ) (mid : List ℕ)
-              (block : Laid (writeBlock (writeAt left codes words marks (r .sees)) (countAt left codes) codes line (number / more .count))
-              (take (length over - (m + r .many)) (drop (m + r .many) over)) j mid) where
-            abbrev words-of : List ℕ
-            words-of = writeBlock (writeAt left codes words marks (r .sees)) (countAt left codes) codes line (number / more .count)
+          pub running-next : Running codes words marks counts w before (putMid (m + r .many) (length over - (m + r .many)) over mid)
+              (m + r .many + j) next (r .sees) left (number % more .count)
+          running-next =
+              record {
+                done = (g .done ++ take (r .many) part) ++ words-of;
+                parts = words-then
+                    ∙ ap (λ (l : List ℕ). (g .done ++ take (r .many) part) ++ l) next-block
+                    ∙ sym (append-assoc (g .done ++ take (r .many) part) words-of _);
+                laid = lays-both (g .done ++ take (r .many) part) words-of _ before (m + r .many) over j mid refl first block;
+                known = onward;
+              }
+            where
+              one : rest - r .many ≡ suc left
+              one = omega (arith, stretch-left)
 
-            pub running-next : Running codes words marks counts w before (putMid (m + r .many) (length over - (m + r .many)) over mid)
-                (m + r .many + j) next (r .sees) left (number % more .count)
-            running-next =
-                record {
-                  done = (g .done ++ take (r .many) part) ++ words-of;
-                  parts = words-then
-                      ∙ ap (λ (l : List ℕ). (g .done ++ take (r .many) part) ++ l) next-block
-                      ∙ sym (append-assoc (g .done ++ take (r .many) part) words-of _);
-                  laid = lays-both (g .done ++ take (r .many) part) words-of _ before (m + r .many) over j mid refl first block;
-                  known = onward;
-                }
-              where
-                one : rest - r .many ≡ suc left
-                one = omega (arith, stretch-left)
-
-                next-block : writeAt (rest - r .many) codes words marks (r .sees) line number
-                    ≡ writeBlock (writeAt left codes words marks (r .sees)) (countAt left codes) codes line (number / more .count)
-                    ++ writeAt left codes words marks (r .sees) next (number % more .count)
-                next-block =
-                    ap (λ (n : ℕ). writeAt n codes words marks (r .sees) line number) one
-                    ∙ write-block codes words marks (r .sees) line number left inside few stretch-block
-                    ∙ rw (← e, ← q .counting .same) refl
+              next-block : writeAt (rest - r .many) codes words marks (r .sees) line number
+                  ≡ writeBlock (writeAt left codes words marks (r .sees)) (countAt left codes) codes line (number / more .count)
+                  ++ writeAt left codes words marks (r .sees) next (number % more .count)
+              next-block =
+                  ap (λ (n : ℕ). writeAt n codes words marks (r .sees) line number) one
+                  ∙ write-block codes words marks (r .sees) line number left (at-block .inside) (at-block .few) (at-block .some)
+                  ∙ rw (← e, ← q .counting .same) refl

@@ -3,9 +3,9 @@ use mathlib.Core.Bool.{Bool, true, false}
 use mathlib.Core.List.{List, [], _∷_, _++_}
 use mathlib.Core.Option.{Option, none, some}
 use mathlib.Core.Path.{_≡_, refl, sym, ap, _∙_}
-use Prim.Native.Nat.{ℕ, suc, _+_, _≤_}
+use Prim.Native.Nat.{ℕ, suc, _+_, _%_, _≤_}
 use native.Mathlib.Omega.{arith}
-use lib.ListN.{length, getD, drop, length-take}
+use lib.ListN.{length, getD, drop, replicate, length-take}
 use Rattle.spec_base.specs.Basic.{numbers}
 use Rattle.law_base.specs.ListLaws.{getElem?-member}
 use Rattle.spec_text.specs.declared.Line.{Line}
@@ -27,6 +27,7 @@ use Rattle.unfold_laws.specs.PiecesLaws.{length-pieces, flat-length, piece-prog
 use Rattle.unfold_laws.specs.Along.{OwnHere}
 use Rattle.unfold_laws.specs.Places.{placeWords}
 use Rattle.unfold_laws.specs.PlacesLaws.{IdWord, noMark, AnyLines, any-along, id-tables, id-words, OwnWord, own-tables, flat-own}
+use Rattle.unfold.specs.declared.Told.{Told}
 use Rattle.unfold.specs.declared.Unfolded.{Unfolded}
 use Rattle.unfold.specs.UnfoldTold.{refusedWith, placeIds, idsIn, startsIn, nodesTold}
 use Rattle.unfold.specs.PieceTable.{starts, table}
@@ -35,7 +36,9 @@ use Rattle.unfold.specs.UnfoldSettled.{Settled, PlacesSettled}
 use Rattle.unfold.specs.OwnLaws.{own-along}
 use Rattle.unfold.specs.Stand.{few-nodes}
 use Rattle.unfold.specs.LineWords.{wordsBy, marksBy}
-use Rattle.unfold.specs.UnfoldLines.{LinesSettled, LinePlacesSettled}
+use Rattle.unfold.specs.UnfoldLines.{LinesSettled, LinePlacesSettled, LastSettled}
+use Rattle.unfold.specs.UnfoldInto.{Into}
+use Rattle.unfold.specs.IntoLaws.{into-cells}
 use Rattle.node_laws.specs.GivenNodes.{accepted-lines}
 use Rattle.value_tables.specs.Lines.{lineTable, linesIn, tableCodes, tableIds, tableMarks}
 use Rattle.value_tables.specs.TableLaws.{lines-many, table-codes, table-marks, id-told, someLines, some-codes, some-ids}
@@ -246,3 +249,24 @@ module _ (words before : List ℕ) (r : Unfolded) (area : List ℕ) where
         tabled = u;
         settled = λ lines e g. settled-places (valueOf lines) g words (e ∙ ap lineTable (sym (lines-of-value lines))) before r area u;
       }
+
+-- the last row that is told, over cells of zeros
+pub last-settled : {words before area : List ℕ} {t : Told} {program start lengths : List ℕ}
+    → Into (λ u. Tabled (tableCodes words) (tableIds words) [] before u area) (replicate 64 0) (replicate 64 0) (replicate 64 0) t
+    program start lengths
+    → LastSettled words before (record {
+      refusal = t .refusal;
+      count = t .count;
+      start = getD start ((t .count % 64 + 63) % 64) 0;
+      length = getD lengths ((t .count % 64 + 63) % 64) 0;
+    }) area
+last-settled i =
+    let same = into-cells i (i .settles) in
+    record {
+      unfolded = i .unfolded;
+      settled = settled-lines _ _ _ _ (i .settles);
+      refusal = i .refusal;
+      count = i .count;
+      start = rw (same .1, i .count) refl;
+      length = rw (same .2, i .count) refl;
+    }

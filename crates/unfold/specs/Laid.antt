@@ -1,4 +1,5 @@
 -- Words laid over a lent area, as far as it reaches, and what the writing of a run asks for.
+use mathlib.Core.Bool.{true, false}
 use mathlib.Core.List.{List, [], _∷_, _++_}
 use mathlib.Core.Path.{_≡_}
 use Prim.Native.Nat.{ℕ, _+_, _-_, _≤_, _<_, min}
@@ -31,15 +32,27 @@ pub record Stretching (codes words marks : List ℕ) (seen at : ℕ) (before : L
   pub first : (left k : ℕ) → m ≤ left
       → writeAt left codes words marks seen at k ≡ take m area ++ writeAt (left - m) codes words marks sees (at + m) k
 
--- the same up to the first line that is no statement, or to the area's end
+-- a line begins a block
+pub record BlockAt (codes : List ℕ) (at : ℕ) : Type 0 where
+  pub inside : at < length codes
+  pub some : getD codes at 0 ≡ 0 → ⊥
+  pub few : getD codes at 0 ≤ 2
+
+-- the same up to the first line that is no statement, or to the area's end: then the run ends there, or the area, or a block is next
 pub record Stretched (codes words marks : List ℕ) (seen at : ℕ) (before : List ℕ) (r : Stretch) (area : List ℕ) : Type 0 where
   pub laid : Stretching codes words marks seen at before (r .many) (r .sees) area
-  pub ends : r .many < length before → at + r .many < length codes → getD codes (at + r .many) 0 ≡ 0 → ⊥
+  pub whole : r .ends ≡ true → (left k : ℕ) → length codes ≤ at + left → Laid (writeAt left codes words marks seen at k) before (r .many) area
+  pub block : r .ends ≡ false → BlockAt codes (at + r .many)
 
 -- the words for all runs stand, as far as they reach, and enough lines are left for the run at a place
 pub record Known (codes counts : List ℕ) (at left : ℕ) : Type 0 where
   pub held : Held codes counts 0
   pub enough : length codes ≤ at + left
+
+-- words for the counts: one for each line, or none
+pub record Countable (codes counts : List ℕ) : Type 0 where
+  pub short : length counts < 2048
+  pub all : (length counts ≡ 0 → ⊥) → length counts ≡ length codes
 
 -- number k of a block is so many turns of the run at a line
 pub record Parted (codes counts : List ℕ) (left at k : ℕ) (r : Part) : Type 0 where

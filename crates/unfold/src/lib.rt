@@ -5,7 +5,6 @@ use spec_text::CELLS;
 use spec_text::Workload;
 use unfold_bounds::line_after;
 use unfold_bounds::totals_refused;
-use unfold_count::count_all;
 use unfold_count::measure;
 use unfold_count::run_at;
 use unfold_laws::BRANCH;
@@ -13,33 +12,31 @@ use unfold_laws::LOOP;
 use unfold_laws::PROGRAM;
 use unfold_laws::STATEMENT;
 use unfold_laws::UNFOLDINGS;
-use unfold_laws::UnfoldingTotals;
 use unfold_laws::WORD_LINES;
 use value_given::is_given;
+use value_lines::line_table;
 use value_tables::LINE_WORDS;
 use value_tables::code_at;
 use value_tables::id_at;
-use value_tables::line_table;
 use value_tables::lines_in;
 use value_tables::mark_at;
 ghost use mathlib.Core.Path.{_≡_};
-ghost use Prim.Native.Nat.{_+_, _-_, _<_};
+ghost use Prim.Native.Nat.{_+_, _-_, _≤_, _<_};
 ghost use lib.ListN.{length, getD};
 ghost use Rattle.unfold_laws.specs.Codes.{itemAt, countAt};
 ghost use Rattle.unfold_laws.specs.Pieces.{row, tabulate, linePieces, linePrograms, piecesBefore};
 ghost use Rattle.unfold_laws.specs.WordCode.{packed};
 ghost use Rattle.unfold_laws.specs.Writing.{writeBlock, writeAt};
-ghost use Rattle.unfold_count.specs.Counted.{AllCounted};
 ghost use Rattle.unfold_count.specs.CountWords.{Held};
 ghost use Rattle.value_tables.specs.Lines.{tableCodes};
 ghost use Rattle.unfold.specs.LineWords.{wordsBy, marksBy};
-ghost use Rattle.unfold.specs.Laid.{Laid, Stretched, Known, Parted};
+ghost use Rattle.unfold.specs.Laid.{Laid, Stretched, Known, Countable, Parted};
 ghost use Rattle.unfold.specs.Written.{tableAt, Rows, Rowed, LineFits, Lined, AllFit, AllTold};
 ghost use Rattle.unfold.specs.PieceTable.{Wide, tableNone};
 ghost use Rattle.unfold.specs.UnfoldInto.{Into};
 ghost use Rattle.unfold.specs.UnfoldTold.{refusedWith};
 ghost use Rattle.unfold.specs.UnfoldSettled.{Settled, PlacesSettled};
-ghost use Rattle.unfold.specs.UnfoldLines.{LinesSettled, LinePlacesSettled};
+ghost use Rattle.unfold.specs.UnfoldLines.{LinePlacesSettled, LastSettled};
 ghost use Rattle.unfold.specs.UnfoldSteps.{Tabled};
 
 // So many lines have their counts in few words.
@@ -60,10 +57,19 @@ pub struct Told {
     pub count: u64,
 }
 
-// What is laid of a stretch of statements: how many words, and what is seen after them.
+// The number of the refusal, or 0, how many unfoldings there are, and the last one's start and length: of none, those of row 63.
+pub struct LastTold {
+    pub refusal: u8,
+    pub count: u64,
+    pub start: u64,
+    pub length: u64,
+}
+
+// What is laid of a stretch of statements: how many words, what is seen after them, and whether the run ends there, or the area, or a block is next.
 struct Stretch {
     many: usize,
     sees: u32,
+    ends: bool,
 }
 
 // A block's part in an unfolding: so many turns of the run at a line, the first by its number, the second by its.
@@ -116,12 +122,15 @@ fn write_stretch(lines: &[u64], ids: bool, seen: u32, at: usize, out: &mut [u64]
             return Stretch {
                 many: m,
                 sees: sees,
+                ends: true,
             };
         }
-        if code_at(lines, line) != STATEMENT {
+        let code = code_at(lines, line);
+        if code != STATEMENT {
             return Stretch {
                 many: m,
                 sees: sees,
+                ends: code > BRANCH,
             };
         }
         out[m] = place_word(lines, ids, line, sees);
@@ -131,6 +140,7 @@ fn write_stretch(lines: &[u64], ids: bool, seen: u32, at: usize, out: &mut [u64]
     Stretch {
         many: m,
         sees: sees,
+        ends: true,
     }
 }
 
@@ -174,17 +184,11 @@ fn write_run(
     let mut number = k;
     while m < out.len() {
         let s = write_stretch(lines, ids, sees, here, &mut out[m..]);
-        let line = here + s.many;
         m += s.many;
-        if out.len() <= m {
+        if s.ends {
             return m;
         }
-        if lines_in(lines) <= line {
-            return m;
-        }
-        if code_at(lines, line) > BRANCH {
-            return m;
-        }
+        let line = here + s.many;
         rest = rest - s.many - 1;
         here = block_end(lines, counts, line, rest);
         let more = run_at(lines, counts, here, rest);
@@ -300,17 +304,20 @@ fn write_turn(
 {
     let s = write_stretch(lines, ids, seen, at, out);
     let m = s.many;
-    if out.len() <= m {
+    if s.ends {
         return m;
     }
-    let line = at + m;
-    if lines_in(lines) <= line {
-        return m;
-    }
-    if code_at(lines, line) > BRANCH {
-        return m;
-    }
-    m + write_run(lines, counts, ids, s.sees, line, left - m, k, &mut out[m..])
+    m
+        + write_run(
+            lines,
+            counts,
+            ids,
+            s.sees,
+            at + m,
+            left - m,
+            k,
+            &mut out[m..],
+        )
 }
 
 // Writes the unfoldings k to n - 1 of the run at a place one after the other, the rest of the area lent on each time, and tells each.
@@ -462,23 +469,23 @@ fn write_all(
     t
 }
 
-// Writes the unfoldings of lines whose totals and runs are counted, or refuses 22 or 20.
+// Counts the runs of a table of lines, as far as there are words for them, and writes its unfoldings, or refuses 22 or 20.
 fn unfold_counted(
     lines: &[u64],
-    counts: &[u32],
+    counts: &mut [u32],
     ids: bool,
-    t: UnfoldingTotals,
     programs: &mut [u8],
     starts: &mut [u64],
     lengths: &mut [u64],
     area: &mut [u64],
 ) -> Told
-    requires { ⌜ Held (tableCodes (now lines)) (now counts) 0 × AllCounted (tableCodes (now lines)) t ⌝ }
+    requires { ⌜ Countable (tableCodes (now lines)) (now counts) ⌝ }
     requires { ⌜ Wide (tableNone (now programs) (now starts) (now lengths)) ⌝ }
     ensures { λ r. ⌜ Into (λ u. Tabled (tableCodes (now (lines .entry))) (wordsBy ids (now (lines .entry))) (marksBy ids (now (lines .entry)))
         (now (area .entry)) u (now (area .exit))) (now (programs .entry)) (now (starts .entry)) (now (lengths .entry)) r
         (now (programs .exit)) (now (starts .exit)) (now (lengths .exit)) ⌝ }
 {
+    let t = measure(lines, counts);
     let number = totals_refused(t, area.len() as u64);
     if number != 0 {
         return Told {
@@ -493,40 +500,17 @@ fn unfold_counted(
     }
 }
 
-// Counts the runs of a table of lines and writes its unfoldings, or refuses 22 or 20. Of more lines than a workload has, each run is counted anew.
-fn unfold_many(
-    lines: &[u64],
-    ids: bool,
-    programs: &mut [u8],
-    starts: &mut [u64],
-    lengths: &mut [u64],
-    area: &mut [u64],
-) -> Told
-    requires { ⌜ Wide (tableNone (now programs) (now starts) (now lengths)) ⌝ }
-    ensures { λ r. ⌜ Into (λ u. Tabled (tableCodes (now (lines .entry))) (wordsBy ids (now (lines .entry))) (marksBy ids (now (lines .entry)))
-        (now (area .entry)) u (now (area .exit))) (now (programs .entry)) (now (starts .entry)) (now (lengths .entry)) r
-        (now (programs .exit)) (now (starts .exit)) (now (lengths .exit)) ⌝ }
+// How many words the counts of so many lines take: of more lines than a workload has, each run is counted anew.
+fn words_for(n: usize) -> usize
+    ensures { λ r. ⌜ (r ≤ 1616) × ((r ≡ 0 → ⊥) → r ≡ n) ⌝ }
 {
-    let mut counts = [0u32; CELLS];
-    let n = lines_in(lines);
     if CELLS < n {
-        let all = count_all(lines);
-        return unfold_counted(
-            lines,
-            &counts[..0],
-            ids,
-            all,
-            programs,
-            starts,
-            lengths,
-            area,
-        );
+        return 0;
     }
-    let t = measure(lines, &mut counts[..n]);
-    unfold_counted(lines, &counts[..n], ids, t, programs, starts, lengths, area)
+    n
 }
 
-// The same with few words for the counts where there are few lines: a small text is unfolded in less time than it takes to clear many.
+// The same with words for the counts, few where there are few lines: a small text is unfolded in less time than it takes to clear many.
 fn unfold_told(
     lines: &[u64],
     ids: bool,
@@ -542,11 +526,12 @@ fn unfold_told(
 {
     let n = lines_in(lines);
     if FEW_LINES < n {
-        return unfold_many(lines, ids, programs, starts, lengths, area);
+        let mut many = [0u32; CELLS];
+        let m = words_for(n);
+        return unfold_counted(lines, &mut many[..m], ids, programs, starts, lengths, area);
     }
-    let mut counts = [0u32; FEW_LINES];
-    let t = measure(lines, &mut counts[..n]);
-    unfold_counted(lines, &counts[..n], ids, t, programs, starts, lengths, area)
+    let mut few = [0u32; FEW_LINES];
+    unfold_counted(lines, &mut few[..n], ids, programs, starts, lengths, area)
 }
 
 // The words for the places of the unfoldings of a table of lines, one after the other from the area's start, with each unfolding's program, start and
@@ -564,7 +549,25 @@ pub fn unfold_into(
     unfold_told(lines, false, programs, starts, lengths, area)
 }
 
-// The same told as a value, by ids or by numbers of lines.
+// The unfoldings of a table of lines as statement ids, one after the other from the area's start; told are how many there are and the last one. Or
+// refuses 22 or 20.
+pub fn unfold_ids(lines: &[u64], area: &mut [u64]) -> LastTold
+    ensures { λ r. ⌜ LastSettled (now (lines .entry)) (now (area .entry)) r (now (area .exit)) ⌝ }
+{
+    let mut programs = [0u8; UNFOLDINGS];
+    let mut starts = [0u64; UNFOLDINGS];
+    let mut lengths = [0u64; UNFOLDINGS];
+    let t = unfold_told(lines, true, &mut programs, &mut starts, &mut lengths, area);
+    let last = ((t.count % 64 + 63) % 64) as usize;
+    LastTold {
+        refusal: t.refusal,
+        count: t.count,
+        start: starts[last],
+        length: lengths[last],
+    }
+}
+
+// The unfoldings of a table of lines told as a value, by ids or by numbers of lines.
 fn unfold_by(lines: &[u64], ids: bool, area: &mut [u64]) -> Unfolded
     ensures { λ r. ⌜ Tabled (tableCodes (now (lines .entry))) (wordsBy ids (now (lines .entry))) (marksBy ids (now (lines .entry)))
         (now (area .entry)) r (now (area .exit)) ⌝ }
@@ -594,20 +597,6 @@ fn refused(number: u8) -> Unfolded
     }
 }
 
-// Writes the unfoldings of a table of lines as statement ids, one after the other from the area's start, or refuses 22 or 20.
-pub fn unfold_lines(lines: &[u64], area: &mut [u64]) -> Unfolded
-    ensures { λ r. ⌜ LinesSettled (now (lines .entry)) (now (area .entry)) r (now (area .exit)) ⌝ }
-{
-    unfold_by(lines, true, area)
-}
-
-// The same as words that tell the own line of each place's statement and which parents that shield are seen there.
-pub fn unfold_line_places(lines: &[u64], area: &mut [u64]) -> Unfolded
-    ensures { λ r. ⌜ LinePlacesSettled (now (lines .entry)) (now (area .entry)) r (now (area .exit)) ⌝ }
-{
-    unfold_by(lines, false, area)
-}
-
 // The unfoldings of a workload value as statement ids, or refuses 21, 22 or 20.
 pub fn unfold(w: Workload, area: &mut [u64]) -> Unfolded
     ensures { λ r. ⌜ Settled w (now (area .entry)) r (now (area .exit)) ⌝ }
@@ -617,7 +606,7 @@ pub fn unfold(w: Workload, area: &mut [u64]) -> Unfolded
     }
     let n = w.count * LINE_WORDS;
     let lines = line_table(w);
-    unfold_lines(&lines[..n], area)
+    unfold_by(&lines[..n], true, area)
 }
 
 // The same as words for places.
@@ -629,5 +618,5 @@ pub fn unfold_places(w: Workload, area: &mut [u64]) -> Unfolded
     }
     let n = w.count * LINE_WORDS;
     let lines = line_table(w);
-    unfold_line_places(&lines[..n], area)
+    unfold_by(&lines[..n], false, area)
 }

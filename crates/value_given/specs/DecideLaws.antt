@@ -1,5 +1,5 @@
 -- The steps of the code decide S21.
-use mathlib.Core.Bool.{Bool, true, false, cond}
+use mathlib.Core.Bool.{Bool, true, false}
 use mathlib.Core.List.{List, [], _∷_, _++_, append-assoc, append-nil}
 use mathlib.Core.Option.{Option, none, Option·some-ne-none}
 use mathlib.Core.Path.{_≡_, refl, sym, ap, subst, _∙_}
@@ -8,22 +8,21 @@ use native.Mathlib.Omega.{arith}
 use native.Mathlib.Nat.{not-suc-le-zero, le-of-suc-le-suc}
 use native.Mathlib.Numerals.{add-one}
 use lib.Dec.{eqb, leb}
-use lib.ListN.{length, getD, take, drop, replicate, length-append, length-drop, drop-of-length-le}
-use lib.Seq.{take-suc, drop-cons, getD-take, take-take, length-take-le}
-use borrow.Author.Tests.{eqb-true, leb-true, leb-false, eq-eqb, ne-eqb}
+use lib.ListN.{length, getD, take, drop, length-append, length-drop}
+use lib.Seq.{take-suc, getD-take, take-take, length-take-le}
+use borrow.Author.Tests.{leb-true, leb-false, eq-eqb, ne-eqb}
 use Rattle.spec_base.specs.Basic.{all}
-use Rattle.law_base.specs.BoolLaws.{and-true, and-of, true-false}
+use Rattle.law_base.specs.BoolLaws.{true-false}
 use Rattle.spec_text.specs.declared.Line.{Line}
-use Rattle.spec_text.specs.declared.LineKind.{LineKind}
-use Rattle.spec_text.specs.declared.LineKind.the-variants.{Rl, Fk, Pr, St, Lo, Br, El, En, Li}
 use Rattle.spec_text.specs.declared.Workload.{Workload}
-use Rattle.spec_text.specs.Text.{unusedLine, namesLine, newline}
+use Rattle.spec_text.specs.Text.{namesLine, newline}
 use Rattle.spec_text.specs.Reading.{fault, noneOpen}
 use Rattle.spec_text.specs.Value.{linesOf}
 use Rattle.law_text.specs.Written.{lineWritten, linesWritten, written}
 use Rattle.law_text.specs.TextLaws.{fits, lineFits}
 use Rattle.value_laws.specs.Givens.{SoundLines, SoundValue, sound-given, given-sound}
-use Rattle.line_rules.specs.Holds.{faultOf}
+use Rattle.line_rules.specs.Tested.{Tested}
+use Rattle.line_rules.specs.ReadLaws.{fault-some, fault-none}
 use Rattle.value_length.specs.Size.{sizeOf}
 use Rattle.value_length.specs.LineSizeLaws.{unfit-none, size-told}
 use Rattle.value_given.specs.Decided.{Decided}
@@ -128,14 +127,11 @@ step-unfit words l e =
     }
 
 -- the line has a fault
-pub step-fault : (words : List ℕ) (l : Line) (number : ℕ) → (number ≡ 0 → ⊥)
-    → ((lines : List Line) → HoldsWords words lines → faultOf number ≡ fault lines l) → Stepped words l 0 words
-unfolding faultOf
-step-fault words l number other told =
+pub step-fault : {words after : List ℕ} {l : Line} {number : ℕ} → Tested words l number after → (number ≡ 0 → ⊥) → Stepped words l 0 after
+step-fault {number = number} tested other =
     record {
       small = omega arith;
-      wrong = λ lines h q f p.
-          Option·some-ne-none number (ap (λ t. cond t none (Option.some number)) (sym (ne-eqb number 0 other)) ∙ told lines h ∙ p);
+      wrong = λ lines h q f p. Option·some-ne-none number (sym (fault-some (tested .told lines h) other) ∙ p);
       fits = λ lines h some. absurd (some refl);
       passes = λ lines h some. absurd (some refl);
       bytes = λ lines h some. absurd (some refl);
@@ -143,24 +139,18 @@ step-fault words l number other told =
     }
 
 -- the line is taken
-pub step-taken : (words after : List ℕ) (l : Line) (size number : ℕ) → sizeOf l ≡ Option.some size → number ≡ 0
-    → ((lines : List Line) → HoldsWords words lines → faultOf number ≡ fault lines l)
-    → ((lines : List Line) → HoldsWords words lines → fault lines l ≡ none → HoldsWords after (lines ++ (l ∷ [])))
+pub step-taken : {words after : List ℕ} {l : Line} {number : ℕ} (size : ℕ) → sizeOf l ≡ Option.some size → Tested words l number after → number ≡ 0
     → Stepped words l size after
-unfolding faultOf
-step-taken words after l size number is zero-number told taken =
+step-taken {l = l} size is tested passes =
     let sized = size-told l size is in
     record {
       small = sized .most;
       wrong = λ lines h q. absurd (omega (arith, sized .least));
       fits = λ lines h q. sized .fits;
-      passes = λ lines h q. passes lines h;
+      passes = λ lines h q. fault-none (tested .told lines h) passes;
       bytes = λ lines h q. sized .bytes;
-      holds = λ lines h q. taken lines h (passes lines h);
+      holds = λ lines h q. tested .held passes lines h;
     }
-  where
-    passes : (lines : List Line) → HoldsWords words lines → fault lines l ≡ none
-    passes lines h = sym (told lines h) ∙ ap faultOf zero-number
 
 -- ---- the lines up to a place
 

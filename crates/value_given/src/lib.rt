@@ -19,11 +19,9 @@ fn step(words: &mut [u64; line_state::WORDS], l: Line) -> u64
             return 0;
         }
         LineSize::Bytes(size) => {
-            let number = line_rules::check(words, l);
-            if number != 0 {
+            if line_rules::take_tested(words, l) != 0 {
                 return 0;
             }
-            line_rules::take(words, l);
             return size;
         }
     }

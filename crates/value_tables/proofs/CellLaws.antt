@@ -1,34 +1,13 @@
--- Tables that are filled cell after cell.
-use mathlib.Core.Bool.{Bool, true, false, cond, _&&_}
-use mathlib.Core.List.{List, [], _∷_, map}
+-- The numbers below n, cell by cell.
+use mathlib.Core.List.{List, [], _∷_}
 use mathlib.Core.Option.{Option, none, some}
-use mathlib.Core.Path.{_≡_, refl, sym, ap, _∙_}
-use Prim.Native.Nat.{ℕ, zero, suc, _+_, _*_, _%_, _^_, _≤_, _<_}
-use native.Mathlib.Nat.{zero-add, one-mul, mod-eq-of-lt}
-use lib.Bits.{bitAnd}
-use lib.Pow.{pow-lt}
-use native.Mathlib.Numerals.{add-one}
+use mathlib.Core.Path.{_≡_, sym, _∙_}
+use Prim.Native.Nat.{ℕ, zero, suc, _<_}
+use native.Mathlib.Nat.{zero-add}
 use native.Mathlib.Omega.{arith}
-use lib.ListN.{length, getD, getElem?, set, take, length-map, length-set}
-use lib.Seq.{take-suc, take-suc-set, take-all}
-use borrow.Author.Tests.{lt-ltb, le-ltb}
+use lib.ListN.{getD, getElem?}
 use Rattle.spec_base.specs.Basic.{numbers}
-use Rattle.law_base.specs.ListLaws.{some-injective, length-numbersFrom, getElem?-numbersFrom}
-use Rattle.spec_text.specs.declared.Line.{Line}
-use Rattle.spec_text.specs.declared.LineKind.{LineKind}
-use Rattle.spec_text.specs.declared.Workload.{Workload}
-use Rattle.spec_text.proofs.Workload.{the-type}
-use Rattle.edge_kinds.specs.Kinds.{shieldBit, kindFacts, kindOf}
-use Rattle.edge_kinds.specs.KindLaws.{told, bit-clear, bit-set}
-use Rattle.unfold_laws.specs.Codes.{codeOf, codesOf, idsOf, markIn, bitIn, marksOf}
-use Rattle.spec_text.specs.declared.StatementKind.{StatementKind}
-use Rattle.spec_graph.specs.Edge.{shields}
-use Rattle.value_tables.specs.Lines.{prNumber, lineNumber, markBy}
-use Rattle.value_tables.specs.LineLaws.{mark-told}
-
--- a value has as many cells as its form in memory, which is known by its type
-pub cells-known : (w : Workload) → length (the-type .to w .1 .0) ≡ 1616 → length (w .lines) ≡ 1616
-cells-known w h = sym (length-map (w .lines) _) ∙ h
+use Rattle.law_base.specs.ListLaws.{some-injective, getElem?-numbersFrom}
 
 getD-there : (l : List ℕ) (i : ℕ) {x : ℕ} → getElem? l i ≡ some x → getD l i 0 ≡ x
 getD-there [] i {x} e = let z : _≡_ {A = Option ℕ} none (some x) = e in let y : _≡_ {A = ℕ} 0 1 = cc in absurd (omega arith)
@@ -37,40 +16,3 @@ getD-there (y ∷ l) (suc i) e = getD-there l i e
 
 pub number-at : (n i : ℕ) → i < n → i ≡ getD (numbers n) i 0
 number-at n i h = sym (getD-there (numbers n) i (getElem?-numbersFrom 0 n i h) ∙ zero-add i)
-
--- ---- the paths to a mark
-
-pub mark-none : (n id : ℕ) → prNumber ≤ n → 0 ≡ markBy n id
-unfolding markBy
-mark-none n id h = sym (simp (le-ltb n prNumber h))
-
-pub mark-some : (n id x : ℕ) → n < prNumber → x ≡ bitIn (kindOf n) id → x ≡ markBy n id
-unfolding markBy
-mark-some n id x h e = e ∙ sym (simp (lt-ltb n prNumber h))
-
-module _ (n facts : ℕ) (k : StatementKind) (e : k ≡ kindOf n) (f : facts ≡ kindFacts k) where
-  pub shield-clear : bitAnd facts shieldBit ≡ 0 → shields (kindOf n) ≡ false
-  shield-clear h = rw (← e) (bit-clear (ap (λ (x : ℕ). bitAnd x shieldBit) (sym f) ∙ h) (told k .shields))
-
-  pub shield-set : (bitAnd facts shieldBit ≡ 0 → ⊥) → shields (kindOf n) ≡ true
-  shield-set h = rw (← e) (bit-set (λ z. h (ap (λ (x : ℕ). bitAnd x shieldBit) f ∙ z)) (told k .shields))
-
-pub bit-unshielding : (k : StatementKind) (id : ℕ) → shields k ≡ false → 0 ≡ bitIn k id
-unfolding bitIn
-bit-unshielding k id h = sym (rw h)
-
-pub bit-large : (k : StatementKind) (id : ℕ) → 32 ≤ id → 0 ≡ bitIn k id
-unfolding bitIn
-bit-large k id h = sym (rw (le-ltb id 32 h) (go (shields k)))
-  where
-    go : (b : Bool) → cond (b && false) (2 ^ id) 0 ≡ 0
-    go true = refl
-    go false = refl
-
-pub bit-small : (k : StatementKind) (id x : ℕ) → shields k ≡ true → id < 32 → x ≡ 2 ^ id → x ≡ bitIn k id
-unfolding bitIn
-bit-small k id x h p e = e ∙ sym (rw (h, lt-ltb id 32 p))
-
--- a shifted bit
-pub bit-shifted : (id : ℕ) → id < 32 → (1 * 2 ^ id) % 4294967296 ≡ 2 ^ id
-bit-shifted id h = rw one-mul (mod-eq-of-lt (pow-lt h))

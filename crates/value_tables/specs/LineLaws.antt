@@ -1,29 +1,25 @@
 -- What is read off a line's number is what its kind says, and the cells of the table of lines are the words of the lines.
 use mathlib.Core.Bool.{cond}
 use mathlib.Core.List.{List, [], _∷_, _++_, flatMap, append-assoc, append-nil}
-use mathlib.Core.Path.{_≡_, refl, sym, ap, ap₂, _∙_}
+use mathlib.Core.Path.{_≡_, refl, sym, ap, _∙_}
 use Prim.Native.Nat.{ℕ, zero, suc, _+_, _*_, _≤_, _<_}
 use native.Mathlib.Nat.{add-zero}
-use native.Mathlib.Decide.{decLt}
-use native.Mathlib.Numerals.{add-one}
 use native.Mathlib.Omega.{arith}
-use lib.ListN.{length, getD, take, replicate, List·getD-append, List·getD-eq-default, getD-replicate, length-replicate}
-use lib.Seq.{take-suc, take-all, getD-append-add}
+use lib.ListN.{length, getD, List·getD-append}
+use lib.Seq.{getD-append-add}
 use borrow.Author.Tests.{lt-ltb}
 use Rattle.spec_text.specs.declared.Line.{Line}
 use Rattle.spec_text.specs.declared.LineKind.{LineKind}
 use Rattle.spec_text.specs.declared.LineKind.the-variants.{Rl, Fk, Pr, St, Lo, Br, El, En, Li}
 use Rattle.spec_text.specs.declared.StatementKind.{StatementKind}
 use Rattle.spec_text.specs.declared.StatementKind.the-variants.{Is, Ks, Ps, Ku, Pu, Kd, Pd, Kl}
-use Rattle.spec_text.specs.declared.Workload.{Workload}
-use Rattle.spec_text.specs.Value.{linesOf}
 use Rattle.spec_graph.specs.Edge as E
 use Rattle.line_kinds.specs.Kinds.{lineFacts, hasReads, hasWrites, hasTests}
 use Rattle.edge_kinds.specs.Kinds.{kindCount, kindNumber}
 use Rattle.edge_kinds.specs.KindLaws.{number-small, kindOf-number}
-use Rattle.unfold_laws.specs.Codes.{codeOf, markIn, bitIn}
-use Rattle.value_tables.specs.Lines.{prNumber, liNumber, lineNumber, codeBy, markBy, setIn, lineWords, lineTable, Zeros, linePut}
-use Rattle.word_rows.specs.Put.{putAt, rowPut, row-put, putAt-length, putAt-take, putAt-rest}
+use Rattle.unfold_laws.specs.Codes.{codeOf, markIn}
+use Rattle.value_tables.specs.Lines.{prNumber, liNumber, lineNumber, codeBy, markBy, setIn, lineWords, lineTable, linePut}
+use Rattle.word_rows.specs.Put.{putAt, row-put}
 
 -- ---- what a line's number tells
 
@@ -82,7 +78,7 @@ sets-told Kl = record { reads = λ x. refl; writes = λ x. refl; tests = λ x. r
 
 -- ---- the cells of the table
 
-eight : (l : Line) → length (lineWords l) ≡ 8
+pub eight : (l : Line) → length (lineWords l) ≡ 8
 unfolding lineWords
 eight l = refl
 
@@ -121,60 +117,7 @@ lineTable-more [] l = append-nil (lineWords l)
 lineTable-more (x ∷ lines) l =
     ap (λ (t : List ℕ). lineWords x ++ t) (lineTable-more lines l) ∙ sym (append-assoc (lineWords x) (lineTable lines) (lineWords l))
 
--- the words of a line from its parts
-pub line-words : (l : Line) (n facts : ℕ) → n ≡ lineNumber (l .kind) → facts ≡ lineFacts (l .kind)
-    → (a b c m : ℕ) → a ≡ setIn facts hasReads (l .reads) → b ≡ setIn facts hasWrites (l .writes) → c ≡ setIn facts hasTests (l .tests)
-    → m ≡ markBy n (l .id) → n ∷ l .id ∷ l .rel ∷ l .to ∷ a ∷ b ∷ c ∷ m ∷ [] ≡ lineWords l
-unfolding lineWords
-line-words l n facts en ef a b c m ea eb ec em = rw (ea, eb, ec, em, en, ef) refl
-
 -- a line put into a table
-pub line-put : (area : List ℕ) (i : ℕ) (l : Line) {words after : List ℕ} → words ≡ lineWords l → after ≡ rowPut area (i * 8) words → i < 1616
-    → after ≡ linePut area i l
-unfolding linePut
-line-put area i l w put inside = put ∙ ap (rowPut area (i * 8)) w ∙ sym (simp (lt-ltb i 1616 inside))
-
 pub put-there : (area : List ℕ) (i : ℕ) (l : Line) → i < 1616 → i * 8 + 8 ≤ length area → linePut area i l ≡ putAt area (i * 8) (lineWords l)
 unfolding linePut
 put-there area i l inside room = rw (lt-ltb i 1616 inside) (row-put area (i * 8) (lineWords l) room)
-
--- an area of zeros
-pub all-zeros : (n : ℕ) → Zeros 0 (replicate n 0)
-all-zeros n k h = zeros-at (decLt k n)
-  where
-    zeros-at : Dec (k < n) → _≡_ {A = ℕ} (getD (replicate n 0) k 0) 0
-    zeros-at (yes l) = getD-replicate n k 0 0 l
-    zeros-at (no l) = List·getD-eq-default (replicate n 0) 0 (rw (length-replicate {A = ℕ} n 0) (omega (arith, l)))
-
--- one line more
-pub line-next : (lines : List Line) (area : List ℕ) (i : ℕ) (d : Line) → i < length lines → length area ≡ 12928 → length lines ≡ 1616
-    → (words after : List ℕ) → words ≡ lineWords (getD lines i d) → after ≡ rowPut area (i * 8) words
-    → take (i * 8) area ≡ lineTable (take i lines) → Zeros (i * 8) area
-    → (length after ≡ 12928) × (take ((i + 1) * 8) after ≡ lineTable (take (i + 1) lines)) × Zeros ((i + 1) * 8) after
-line-next lines area i d inside cells most words after w put h zeros =
-    let many = ap length w ∙ eight (getD lines i d) in
-    let there = put ∙ row-put area (i * 8) words (omega arith) in
-    let k : (i + 1) * 8 ≡ i * 8 + length words = omega arith in (
-      ap length there ∙ putAt-length area (i * 8) words (omega arith) ∙ cells,
-      ap₂ (λ (n : ℕ) (t : List ℕ). take n t) k there
-          ∙ putAt-take area (i * 8) words (omega arith)
-          ∙ ap₂ (λ (s t : List ℕ). s ++ t) h w
-          ∙ sym (lineTable-more (take i lines) (getD lines i d))
-          ∙ ap lineTable (sym (take-suc lines i d inside))
-          ∙ ap (λ (n : ℕ). lineTable (take n lines)) (sym (add-one i)),
-      λ j l. ap (λ (t : List ℕ). getD t j 0) there ∙ putAt-rest area (i * 8) words (omega arith) j (omega arith) ∙ zeros j (omega arith),
-    )
-
--- all lines, where their count or the cells end
-module _ (w : Workload) (words : List ℕ) (i : ℕ) (cells : length words ≡ 12928) (h : take (i * 8) words ≡ lineTable (take i (w .lines))) where
-  pub lines-stored : i ≤ w .count → w .count ≤ i → take (w .count * 8) words ≡ lineTable (linesOf w)
-  unfolding linesOf
-  lines-stored p q = let d : w .count ≡ i = omega arith in rw d h
-
-  pub cells-stored : length (w .lines) ≡ 1616 → i < w .count → 1616 ≤ i → take (w .count * 8) words ≡ lineTable (linesOf w)
-  unfolding linesOf
-  cells-stored most p q =
-      take-all (w .count * 8) words (omega arith)
-      ∙ sym (take-all (i * 8) words (omega arith))
-      ∙ h
-      ∙ ap lineTable (take-all i (w .lines) (omega arith) ∙ sym (take-all (w .count) (w .lines) (omega arith)))

@@ -13,10 +13,11 @@ use Rattle.spec_base.specs.Basic.{has, meets}
 use Rattle.law_base.specs.SetLaws.{has-empty, has-bitOr, meets-empty}
 use Rattle.pick_laws.specs.declared.Going.{Going}
 use Rattle.pick_laws.specs.Demands.{onlyIf}
-use Rattle.walk_reach.specs.Layers.{rowsIn, joinedRow, rowsFilled, joinedRows, entersAt, nodesInto, wideAt, Written}
+use Rattle.walk_nodes.specs.Nodes.{rowsIn, entersAt, nodesInto}
+use Rattle.walk_reach.specs.Layers.{joinedRow, rowsFilled, joinedRows, wideAt, Written}
 use Rattle.walk_reach.specs.FilledLaws.{filled-at}
-use Rattle.walk_reach.specs.LayerLaws.{rows-bound, first-has}
-use Rattle.walk_reach.specs.NodeWordLaws.{list-length, word-in}
+use Rattle.walk_nodes.specs.NodeWordLaws.{rows-bound, first-has}
+use Rattle.walk_nodes.specs.NodeWordLaws.{list-length, word-in}
 use Rattle.walk_lead.specs.Leads.{leadRow, leadsFilled, leadRows}
 use Rattle.walk_ways.specs.Ways.{exactWord, waysTo, nextOpening, opening, openings}
 use Rattle.walk_wide.specs.Wide.{widestAt}

@@ -14,7 +14,7 @@ use Rattle.pick_laws.specs.Completing.{leastBelow, leavesAt, exactly, leavesFir
 use Rattle.pick_laws.specs.Demands.{onlyIf, endingNeeds, needsIn, startingLimit, limitsIn}
 use Rattle.edge_word.specs.Coding.{backsIn}
 use Rattle.walk_reach.specs.Layers.{wideAt}
-use Rattle.walk_reach.specs.NodeWordLaws.{list-at}
+use Rattle.walk_nodes.specs.NodeWordLaws.{list-at}
 use Rattle.walk_need.specs.Needs.{leavesFor, firstLeaving, openingNeed, endingNeed, needAt, needAmong, needsOf}
 use Rattle.walk_limit.specs.Limits.{startingLimitAt, limitAt, limitAmong, limitsOf}
 

@@ -10,7 +10,8 @@ use Rattle.spec_base.specs.Basic.{has}
 use Rattle.spec_graph.specs.Walk.{Step}
 use Rattle.pick_laws.specs.declared.Going.{Going}
 use Rattle.pick_laws.specs.Demands.{onlyIf}
-use Rattle.walk_reach.specs.Layers.{listBelow, wideAt}
+use Rattle.walk_nodes.specs.Nodes.{listBelow}
+use Rattle.walk_reach.specs.Layers.{wideAt}
 use Rattle.walk_need.specs.Needs.{endingNeed, needAt, needAmong, needsOf}
 use Rattle.walk_limit.specs.Limits.{startingLimitAt, limitAt, limitAmong, limitsOf}
 use Rattle.step_word.specs.declared.Taken.{Taken}

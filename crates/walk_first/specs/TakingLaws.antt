@@ -15,8 +15,9 @@ use Rattle.pick_laws.specs.declared.Going.{Going}
 use Rattle.pick_laws.specs.Demands.{goingAfter}
 use Rattle.walk_need.specs.Needs.{needAt, needAmong, needsOf}
 use Rattle.walk_limit.specs.Limits.{limitAt, limitAmong, limitsOf}
-use Rattle.walk_reach.specs.Layers.{listBelow, rowsIn, joinedRow, rowsFilled, joinedRows, Written}
-use Rattle.walk_reach.specs.NodeWordLaws.{list-length, list-at}
+use Rattle.walk_nodes.specs.Nodes.{listBelow, rowsIn}
+use Rattle.walk_reach.specs.Layers.{joinedRow, rowsFilled, joinedRows, Written}
+use Rattle.walk_nodes.specs.NodeWordLaws.{list-length, list-at}
 use Rattle.walk_lead.specs.Leads.{leadRow, leadsFilled, leadRows, wrapStart}
 use Rattle.walk_return.specs.Returns.{shortestReturn}
 use Rattle.walk_ways.specs.Ways.{waysTo, openings, firstStart}

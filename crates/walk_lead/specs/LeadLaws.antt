@@ -20,9 +20,11 @@ use Rattle.pick_laws.specs.Completing.{leastBelow, opensBelow, leavesAt, leads}
 use Rattle.pick_laws.specs.LeastLaws.{least-at, least-rest}
 use Rattle.edge_word.specs.Coding.{forwardPick, backPick, entry, forwardsIn, backsIn}
 use Rattle.edge_opens.specs.OpensLaws.{leaves-none, leaves-some, word-opens, dangerous-words}
-use Rattle.walk_reach.specs.Layers.{withNode, wordBelow, joinedBit, joinedRow, rowsIn, rowsFilled}
-use Rattle.walk_reach.specs.LayerLaws.{rows-bound, entry-past, filled-row}
-use Rattle.walk_reach.specs.NodeWordLaws.{bit-shifted, last-turn, word-in, word-inside, word-none, word-rest, word-or, list-at, has-high, meets-none}
+use Rattle.walk_nodes.specs.Nodes.{withNode, wordBelow, rowsIn}
+use Rattle.walk_reach.specs.Layers.{joinedBit, joinedRow, rowsFilled}
+use Rattle.walk_nodes.specs.NodeWordLaws.{rows-bound}
+use Rattle.walk_reach.specs.LayerLaws.{entry-past, filled-row}
+use Rattle.walk_nodes.specs.NodeWordLaws.{bit-shifted, last-turn, word-in, word-inside, word-none, word-rest, word-or, list-at, has-high, meets-none}
 use Rattle.walk_reach.specs.Search.{firstFrom}
 use Rattle.walk_lead.specs.Leads.{leadsAlong, leadsThrough, leadsBy, leadsOn, leadRow, leavesTo, earliest, earlyFilled}
 use Rattle.walk_lead.specs.Leads.{layersAt, wrapsFrom, wrapsAmong, wrapStart}

@@ -9,7 +9,8 @@ use Rattle.pick_laws.specs.Pick.{dangerousPicks}
 use Rattle.pick_laws.specs.Completing.{leastBelow, leavesAt, leads}
 use Rattle.edge_word.specs.Coding.{forwardPick, entry, forwardsIn, backsIn}
 use Rattle.walk_reach.specs.Search.{firstFrom}
-use Rattle.walk_reach.specs.Layers.{wordBelow, listBelow, rowsIn, layer}
+use Rattle.walk_nodes.specs.Nodes.{wordBelow, listBelow, rowsIn}
+use Rattle.walk_reach.specs.Layers.{layer}
 
 -- ---- to which nodes dangerous pairs lead
 

@@ -15,9 +15,11 @@ use Rattle.pick_laws.specs.Pick.{dangerousPicks, reaches}
 use Rattle.pick_laws.specs.Completing.{opensBelow, leavesAt, leads}
 use Rattle.edge_word.specs.Coding.{entry, forwardsIn, backsIn}
 use Rattle.edge_opens.specs.OpensLaws.{opens-none, dangerous-words}
-use Rattle.walk_reach.specs.Layers.{rowsIn, joinedRows, layer}
-use Rattle.walk_reach.specs.NodeWordLaws.{word-in, word-inside, word-none, list-at, rows-at}
-use Rattle.walk_reach.specs.LayerLaws.{entry-past, rows-bound, layer-has}
+use Rattle.walk_nodes.specs.Nodes.{rowsIn}
+use Rattle.walk_reach.specs.Layers.{joinedRows, layer}
+use Rattle.walk_nodes.specs.NodeWordLaws.{word-in, word-inside, word-none, list-at, rows-at}
+use Rattle.walk_reach.specs.LayerLaws.{entry-past, layer-has}
+use Rattle.walk_nodes.specs.NodeWordLaws.{rows-bound}
 use Rattle.walk_reach.specs.Search.{firstFrom}
 use Rattle.walk_reach.specs.SearchLaws.{first-passes, first-bound, first-least}
 use Rattle.walk_lead.specs.Leads.{leadsAlong, leadsThrough, leadsBy, leadRow, leadsFilled, leadRows}

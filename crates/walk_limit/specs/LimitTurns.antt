@@ -8,7 +8,7 @@ use lib.ListN.{getD}
 use Rattle.spec_base.specs.Basic.{has}
 use Rattle.pick_laws.specs.declared.Going.{Going}
 use Rattle.walk_reach.specs.Layers.{wideAt}
-use Rattle.walk_reach.specs.NodeWordLaws.{wide-inside, wide-past}
+use Rattle.walk_reach.specs.FilledLaws.{wide-inside, wide-past}
 use Rattle.walk_limit.specs.Limits.{startingLimitAt, limitAt, limitAmong}
 
 -- ---- the first step

@@ -5,7 +5,8 @@ use Prim.Native.Nat.{ℕ, zero, suc}
 use lib.ListN.{getD}
 use Rattle.spec_base.specs.Basic.{has}
 use Rattle.pick_laws.specs.declared.Going.{Going}
-use Rattle.walk_reach.specs.Layers.{listBelow, wideAt}
+use Rattle.walk_nodes.specs.Nodes.{listBelow}
+use Rattle.walk_reach.specs.Layers.{wideAt}
 
 unfoldable pub startingLimitAt : List ℕ → ℕ → ℕ → ℕ
 startingLimitAt wide zero y = 0

@@ -4,7 +4,7 @@
 
 use edge_word::NODES;
 use pick_laws::Going;
-use walk_reach::capped;
+use walk_nodes::capped;
 use word_list::has_bit;
 use word_list::word_at;
 ghost use mathlib.Core.Path.{_≡_};

@@ -16,7 +16,7 @@ use Rattle.pick_laws.specs.Demands.{onlyIf}
 use Rattle.edge_word.specs.Coding.{backPick}
 use Rattle.edge_opens.specs.OpensLaws.{leaves-none}
 use Rattle.walk_reach.specs.Layers.{wideAt}
-use Rattle.walk_reach.specs.NodeWordLaws.{has-high}
+use Rattle.walk_nodes.specs.NodeWordLaws.{has-high}
 use Rattle.walk_need.specs.Needs.{leavesFor, firstLeaving, openingNeed, endingNeed, needAt, needAmong}
 
 -- ---- where a back edge leaves

@@ -9,7 +9,8 @@ use Rattle.pick_laws.specs.declared.Going.{Going}
 use Rattle.pick_laws.specs.Completing.{leastBelow, leavesAt}
 use Rattle.pick_laws.specs.Demands.{onlyIf}
 use Rattle.edge_word.specs.Coding.{backsIn}
-use Rattle.walk_reach.specs.Layers.{listBelow, wideAt}
+use Rattle.walk_nodes.specs.Nodes.{listBelow}
+use Rattle.walk_reach.specs.Layers.{wideAt}
 
 -- the place at which a back edge leaves x for y, where y is one of the nodes
 unfoldable pub leavesFor : List ℕ → ℕ → ℕ → ℕ → ℕ

@@ -6,7 +6,7 @@ use edge_opens::leaves_at;
 use edge_word::NODES;
 use edge_word::PLACES;
 use pick_laws::Going;
-use walk_reach::capped;
+use walk_nodes::capped;
 use word_list::has_bit;
 use word_list::word_at;
 ghost use mathlib.Core.Bool.{cond};

@@ -1,15 +1,16 @@
 -- Lists of words that are filled one by one, whatever their size, and words that are written in place.
 use mathlib.Core.Path.{_≡_, refl, sym, ap, ap₂, subst, _∙_}
 use mathlib.Core.List.{List}
-use Prim.Native.Nat.{ℕ, zero, suc, _+_, _≤_, _<_}
+use Prim.Native.Nat.{ℕ, zero, suc, _+_, _*_, _≤_, _<_}
 use native.Mathlib.Nat.{not-suc-le-zero}
 use native.Mathlib.Decide.{ℕ-discrete, decLt}
 use native.Mathlib.Numerals.{add-one}
 use native.Mathlib.Omega.{arith}
 use lib.ListN.{length, getD, set, length-set, length-replicate}
 use lib.Seq.{getD-set-same, getD-set-other}
+use borrow.Author.Tests.{lt-ltb, le-ltb}
 use Rattle.word_list.specs.Clear.{Cleared}
-use Rattle.walk_reach.specs.Layers.{filled, Written}
+use Rattle.walk_reach.specs.Layers.{filled, Written, wideAt}
 
 module _ (size : ℕ) (f : ℕ → ℕ) where
   -- a turn of a loop that fills the next word
@@ -84,3 +85,12 @@ module _ (f : ℕ → ℕ) where
   pub written-end : {from i to : ℕ} {before after : List ℕ} → i ≤ to → to ≤ i → Written f from i before after → Written f from to before after
   written-end {from} {i} {to} {before} {after} h l p =
       let same : i ≡ to = omega arith in subst (λ (k : ℕ). Written f from k before after) same p
+
+-- a word of a table
+pub wide-inside : (wide : List ℕ) (r y : ℕ) {x : ℕ} → r < 64 → x ≡ getD wide (r * 64 + y) 0 → x ≡ wideAt wide r y
+unfolding wideAt
+wide-inside wide r y h e = rw (lt-ltb r 64 h) e
+
+pub wide-past : (wide : List ℕ) (r y : ℕ) → 64 ≤ r → 0 ≡ wideAt wide r y
+unfolding wideAt
+wide-past wide r y h = rw (le-ltb r 64 h) refl

@@ -1,33 +1,29 @@
 -- Rows and layers, turn by turn, and what they tell: a layer has the nodes from which a node is reached in so many steps.
 use mathlib.Core.Path.{_≡_, refl, sym, ap, ap₂, _∙_}
 use mathlib.Core.Bool.{Bool, true, false, cond, not, _||_}
-use mathlib.Core.Logic.{_⊎_, inl, inr}
 use mathlib.Core.List.{List}
 use mathlib.Core.Option.{none, some}
-use Prim.Native.Nat.{ℕ, zero, suc, _+_, _*_, _/_, _^_, _≤_, _<_, min}
+use Prim.Native.Nat.{ℕ, zero, suc, _+_, _*_, _≤_, _<_}
 use native.Mathlib.Decide.{decLt}
 use native.Mathlib.Numerals.{add-one}
 use native.Mathlib.Omega.{arith}
 use lib.Bits.{bitOr, or-add-and, and-le-l, and-le-r}
-use lib.Dec.{eqb, ltb}
+use lib.Dec.{eqb}
 use lib.ListN.{length, getD, List·getD-eq-default}
-use borrow.Author.Tests.{ltb-false, ne-eqb, eq-eqb}
+use borrow.Author.Tests.{eq-eqb}
 use Rattle.spec_base.specs.Basic.{any, numbers, has, meets}
-use Rattle.law_base.specs.BoolLaws.{decide, same-test, and-true, and-of, not-of-true}
+use Rattle.law_base.specs.BoolLaws.{same-test, and-true, and-of, not-of-true}
 use Rattle.law_base.specs.ListLaws.{any-numbers, any-numbers-of}
-use Rattle.law_base.specs.SetLaws.{has-empty, has-bitOr, has-bit, meets-has, has-meets, meets-empty}
+use Rattle.law_base.specs.SetLaws.{has-bitOr, meets-has, has-meets}
 use Rattle.pick_laws.specs.Pick.{picked, onwardTo, reaches}
 use Rattle.edge_word.specs.Coding.{forwardPick, forwardEdge, entry, forwardsIn}
-use Rattle.walk_reach.specs.Layers.{wordBelow, listBelow, Blank, joinedBit, joinedRow, rowsIn, rowsFilled, joinedRows}
-use Rattle.walk_reach.specs.Layers.{withNode, entersAt, nodesInto, grown, nodeWord, layer}
-use Rattle.walk_reach.specs.NodeWordLaws.{last-turn, word-in, word-inside, word-none, word-rest, list-at, list-past, rows-at}
+use Rattle.walk_nodes.specs.Nodes.{wordBelow, listBelow, rowsIn}
+use Rattle.walk_reach.specs.Layers.{Blank, joinedBit, joinedRow, rowsFilled, joinedRows}
+use Rattle.walk_nodes.specs.Nodes.{entersAt, nodesInto, grown}
+use Rattle.walk_reach.specs.Layers.{layer}
+use Rattle.walk_nodes.specs.NodeWordLaws.{word-in, word-inside, word-none, word-rest, list-at, list-past, rows-at, rows-bound, first-has}
 
 -- ---- turn by turn
-
--- the end of the loop that fills a row
-pub row-end : (forwards : List ℕ) (u : ℕ) {word k : ℕ} → word ≡ wordBelow (joinedBit forwards u) k → k ≤ 64 → 64 ≤ k → word ≡ joinedRow forwards u
-unfolding joinedRow
-row-end forwards u {word} {k} e h l = last-turn (wordBelow (joinedBit forwards u)) 64 k e h l
 
 -- words that are joined to nothing are nothing
 pub or-none-l : (a b : ℕ) → bitOr a b ≡ 0 → a ≡ 0
@@ -63,39 +59,23 @@ row-rest forwards u {n} h b e = e ∙ word-rest (joinedBit forwards u) n 64 h pa
     past : (k : ℕ) → n ≤ k → k < 64 → joinedBit forwards u k ≡ false
     past k l m = not-of-true (eq-eqb (entry forwards u k) 0 (b .none (u * 64 + k) (omega arith) (omega arith)))
 
+-- and where the table ends there
+pub row-part : (forwards : List ℕ) (u : ℕ) {n word : ℕ} → n ≤ 64 → length forwards ≤ u * 64 + n → word ≡ wordBelow (joinedBit forwards u) n
+    → word ≡ joinedRow forwards u
+row-part forwards u h l e = row-rest forwards u h (record { none = λ k low high. List·getD-eq-default forwards 0 (omega arith) }) e
+
+pub row-none : (forwards : List ℕ) (u : ℕ) → length forwards ≤ u * 64 → 0 ≡ joinedRow forwards u
+unfolding wordBelow
+row-none forwards u l = row-part forwards u {n = 0} (omega arith) (omega arith) refl
+
 pub row-all : (forwards : List ℕ) (u : ℕ) {word : ℕ} → word ≡ wordBelow (joinedBit forwards u) 64 → word ≡ joinedRow forwards u
 unfolding joinedRow
 row-all forwards u e = e
 
--- a table has so many rows
-pub rows-few : (n : ℕ) → n < 4096 → (n + 63) / 64 ≡ min ((n + 63) / 64) 64
-rows-few n h = omega arith
-
-pub rows-most : (n : ℕ) → 4096 ≤ n → 64 ≡ min ((n + 63) / 64) 64
-rows-most n h = omega arith
-
-pub rows-bound : (table : List ℕ) → rowsIn table ≤ 64
-unfolding rowsIn
-rows-bound table = omega arith
-
--- past them there is no word
+-- past the rows of a table there is no word
 pub entry-past : (table : List ℕ) (u v : ℕ) → rowsIn table ≤ u → u < 64 → entry table u v ≡ 0
 unfolding rowsIn
 entry-past table u v h l = List·getD-eq-default table 0 (omega arith)
-
--- the end of the loop over the rows that are there
-pub into-end : (rows : List ℕ) (nodes : ℕ) {word k n : ℕ} → n ≡ min (length rows) 64 → word ≡ wordBelow (entersAt rows nodes) k → k ≤ n → n ≤ k
-    → word ≡ nodesInto rows nodes
-unfolding nodesInto entersAt
-into-end rows nodes {word} {k} {n} m e h l =
-    e ∙ go (decLt (length rows) 64)
-  where
-    past : (x : ℕ) → length rows ≤ x → meets (getD rows x 0) nodes ≡ false
-    past x i = ap (λ (w : ℕ). meets w nodes) (List·getD-eq-default rows 0 i) ∙ meets-empty nodes
-
-    go : Dec (length rows < 64) → wordBelow (entersAt rows nodes) k ≡ wordBelow (entersAt rows nodes) 64
-    go (yes i) = word-rest (entersAt rows nodes) k 64 (omega arith) (λ x j small. past x (omega arith))
-    go (no i) = let same : k ≡ 64 = omega arith in ap (wordBelow (entersAt rows nodes)) same
 
 -- the layer after another
 pub layer-turn : (rows : List ℕ) (u d : ℕ) {nodes more : ℕ} → nodes ≡ layer rows u d → more ≡ grown rows nodes → more ≡ layer rows u (d + 1)
@@ -129,15 +109,6 @@ picked-word x = go (eqb x 0)
     go : (b : Bool) → picked (cond b none (some (forwardEdge x))) ≡ not b
     go true = refl
     go false = refl
-
--- the first layer has u, where it is one of the 64 nodes
-pub first-has : (u w : ℕ) → w < 64 → has (nodeWord u) w ≡ eqb w u
-unfolding nodeWord withNode
-first-has u w h = go (decide (ltb u 64))
-  where
-    go : (ltb u 64 ≡ true) ⊎ (ltb u 64 ≡ false) → has (nodeWord u) w ≡ eqb w u
-    go (inl e) = rw e (has-bitOr 0 (2 ^ u) w ∙ ap₂ (λ (a b : Bool). a || b) (has-empty w) (has-bit u w))
-    go (inr e) = let l = ltb-false u 64 e in rw e (has-empty w ∙ sym (ne-eqb w u (λ same. let z : ⊥ = omega arith in z)))
 
 -- a node without a row has no edge
 row-past : (forwards : List ℕ) (w : ℕ) → w < 64 → rowsIn forwards ≤ w → joinedRow forwards w ≡ 0

@@ -1,29 +1,14 @@
--- Sets of nodes as words, and which nodes reach which along forward edges.
+-- Which nodes reach which along forward edges, and words filled one by one.
 use mathlib.Core.Bool.{Bool, cond, not}
 use mathlib.Core.List.{List}
 use mathlib.Core.Path.{_≡_}
-use Prim.Native.Nat.{ℕ, zero, suc, _+_, _*_, _/_, _^_, _≤_, _<_, min}
-use lib.Bits.{bitOr}
+use Prim.Native.Nat.{ℕ, zero, suc, _+_, _*_, _≤_, _<_}
 use lib.Dec.{eqb, ltb}
 use lib.ListN.{length, getD, set, replicate, take}
-use Rattle.spec_base.specs.Basic.{meets}
 use Rattle.edge_word.specs.Coding.{entry}
+use Rattle.walk_nodes.specs.Nodes.{wordBelow, listBelow, rowsIn, grown, nodeWord}
 
--- ---- words and lists filled one by one
-
--- the nodes of a word, and node k too where the test passed
-unfoldable pub withNode : ℕ → Bool → ℕ → ℕ
-withNode word test k = cond test (bitOr word (2 ^ k)) word
-
--- the word that has the numbers below n that pass the test
-unfoldable pub wordBelow : (ℕ → Bool) → ℕ → ℕ
-wordBelow test zero = 0
-wordBelow test (suc k) = withNode (wordBelow test k) (test k) k
-
--- 64 words, the first of them as given
-unfoldable pub listBelow : (ℕ → ℕ) → ℕ → List ℕ
-listBelow f zero = replicate 64 0
-listBelow f (suc k) = set (listBelow f k) k (f k)
+-- ---- words filled one by one
 
 -- so many words, the first n of them as given and the others 0
 unfoldable pub filled : ℕ → (ℕ → ℕ) → ℕ → List ℕ
@@ -55,10 +40,6 @@ joinedBit forwards u v = not (eqb (entry forwards u v) 0)
 unfoldable pub joinedRow : List ℕ → ℕ → ℕ
 joinedRow forwards u = wordBelow (joinedBit forwards u) 64
 
--- how many rows of 64 words a table has, the last of them perhaps in part, and at most 64
-unfoldable pub rowsIn : List ℕ → ℕ
-rowsIn table = min ((length table + 63) / 64) 64
-
 -- 64 words, of which those of the table's rows are the nodes to which a forward edge goes from a node
 unfoldable pub rowsFilled : List ℕ → List ℕ
 rowsFilled forwards = listBelow (joinedRow forwards) (rowsIn forwards)
@@ -66,22 +47,6 @@ rowsFilled forwards = listBelow (joinedRow forwards) (rowsIn forwards)
 -- the rows alone: for each node that has one the nodes to which a forward edge goes from it
 unfoldable pub joinedRows : List ℕ → List ℕ
 joinedRows forwards = take (rowsIn forwards) (rowsFilled forwards)
-
--- the row of node x has one of the nodes
-unfoldable pub entersAt : List ℕ → ℕ → ℕ → Bool
-entersAt rows nodes x = meets (getD rows x 0) nodes
-
--- the nodes whose row has one of the nodes
-unfoldable pub nodesInto : List ℕ → ℕ → ℕ
-nodesInto rows nodes = wordBelow (entersAt rows nodes) 64
-
--- the nodes, and those with an edge into one of them
-unfoldable pub grown : List ℕ → ℕ → ℕ
-grown rows nodes = bitOr nodes (nodesInto rows nodes)
-
--- node u alone, where it is one of the 64
-unfoldable pub nodeWord : ℕ → ℕ
-nodeWord u = withNode 0 (ltb u 64) u
 
 -- the nodes from which u is reached in at most d steps
 unfoldable pub layer : List ℕ → ℕ → ℕ → ℕ

@@ -1,5 +1,4 @@
 pub mod Layers
-pub mod NodeWordLaws
 pub mod FilledLaws
 pub mod LayerLaws
 pub mod Search

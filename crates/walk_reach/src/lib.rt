@@ -2,37 +2,17 @@
 // table need only be as long as the rows of its nodes, and a list of rows too: what is past the end counts as 0.
 
 use edge_word::NODES;
-use edge_word::PAIRS;
-use word_list::word_at;
-ghost use mathlib.Core.Bool.{true, cond};
+use walk_nodes::grow;
+use walk_nodes::node_word;
+use walk_nodes::rows_in;
+use walk_nodes::with_node;
+ghost use mathlib.Core.Bool.{cond};
 ghost use mathlib.Core.Path.{_≡_};
-ghost use Prim.Native.Nat.{_+_, _*_, _≤_, _<_, min};
+ghost use Prim.Native.Nat.{_+_, _*_, _≤_, _<_};
 ghost use lib.Dec.{ltb};
 ghost use lib.ListN.{length};
-ghost use Rattle.walk_reach.specs.Layers.{withNode, wordBelow, Blank, joinedBit, rowsIn, joinedRow, rowsFilled};
-ghost use Rattle.walk_reach.specs.Layers.{nodesInto, nodeWord, grown, layer};
-
-// The nodes of a word, and node k too where the test passed.
-fn with_node(word: u64, test: bool, k: usize) -> u64
-    requires { ⌜ (test ≡ true → k < 64) ⌝ }
-    ensures { λ r. ⌜ r ≡ withNode word test k ⌝ }
-{
-    if test {
-        return word | (1u64 << k);
-    }
-    word
-}
-
-// How many rows of 64 words a table has, the last of them perhaps in part, and at most 64.
-pub fn rows_in(table: &[u64]) -> usize
-    ensures { λ r. ⌜ (r ≡ rowsIn (now (table .entry))) × (r ≤ 64) ⌝ }
-{
-    let n = table.len();
-    if n < PAIRS {
-        return (n + 63) / NODES;
-    }
-    NODES
-}
+ghost use Rattle.walk_nodes.specs.Nodes.{wordBelow};
+ghost use Rattle.walk_reach.specs.Layers.{Blank, joinedBit, joinedRow, rowsFilled, layer};
 
 // Words from one to another as one word: it is 0 where they all are.
 fn words_joined(table: &[u64], from: usize, to: usize) -> u64
@@ -75,30 +55,20 @@ fn whole_row(forwards: &[u64], u: usize, n: usize) -> u64
     row_below(forwards, u, NODES)
 }
 
-// The same where it has a part of the row or none.
-fn part_row(forwards: &[u64], u: usize) -> u64
-    requires { ⌜ u < 64 ⌝ }
-    ensures { λ r. ⌜ r ≡ joinedRow (now (forwards .entry)) u ⌝ }
-{
-    let mut word: u64 = 0;
-    let mut v: usize = 0;
-    while v < NODES {
-        let x = word_at(forwards, u * NODES + v);
-        word = with_node(word, x != 0, v);
-        v += 1;
-    }
-    word
-}
-
-// The same however long the table is.
+// The same however long the table is: it may have a part of the row or none.
 fn joined_row(forwards: &[u64], u: usize, n: usize) -> u64
     requires { ⌜ (u < 64) × (n ≤ 64) ⌝ }
     ensures { λ r. ⌜ r ≡ joinedRow (now (forwards .entry)) u ⌝ }
 {
-    if u * NODES + NODES <= forwards.len() {
+    let b = u * NODES;
+    let m = forwards.len();
+    if b + NODES <= m {
         return whole_row(forwards, u, n);
     }
-    part_row(forwards, u)
+    if m <= b {
+        return 0;
+    }
+    row_below(forwards, u, m - b)
 }
 
 // The nodes to which a forward edge goes from u, as a word; none where u is no node.
@@ -124,44 +94,6 @@ pub fn joined_rows(forwards: &[u64]) -> [u64; NODES]
         u += 1;
     }
     rows
-}
-
-// A number, but at most 64.
-pub fn capped(x: usize) -> usize
-    ensures { λ r. ⌜ r ≡ min x 64 ⌝ }
-{
-    if x < NODES {
-        return x;
-    }
-    NODES
-}
-
-// The nodes whose row has one of the nodes.
-pub fn nodes_into(rows: &[u64], nodes: u64) -> u64
-    ensures { λ r. ⌜ r ≡ nodesInto (now (rows .entry)) nodes ⌝ }
-{
-    let n = capped(rows.len());
-    let mut word: u64 = 0;
-    let mut x: usize = 0;
-    while x < n {
-        word = with_node(word, rows[x] & nodes != 0, x);
-        x += 1;
-    }
-    word
-}
-
-// The word of node u alone; none where u is no node.
-pub fn node_word(u: usize) -> u64
-    ensures { λ r. ⌜ r ≡ nodeWord u ⌝ }
-{
-    with_node(0, u < NODES, u)
-}
-
-// The nodes, and those with a forward edge to one of them.
-pub fn grow(rows: &[u64], nodes: u64) -> u64
-    ensures { λ r. ⌜ r ≡ grown (now (rows .entry)) nodes ⌝ }
-{
-    nodes | nodes_into(rows, nodes)
 }
 
 // The nodes from which u is reached along forward edges in at most d steps; none where u is no node. Once a step adds nothing, none does.

@@ -11,9 +11,10 @@ use Rattle.spec_base.specs.Basic.{meets}
 use Rattle.law_base.specs.SetLaws.{meets-empty}
 use Rattle.pick_laws.specs.Completing.{leastBelow}
 use Rattle.pick_laws.specs.LeastLaws.{least-most}
-use Rattle.walk_reach.specs.Layers.{grown, layer}
+use Rattle.walk_nodes.specs.Nodes.{grown}
+use Rattle.walk_reach.specs.Layers.{layer}
 use Rattle.walk_reach.specs.LayerLaws.{layer-still}
-use Rattle.walk_reach.specs.NodeWordLaws.{meets-none, meets-some}
+use Rattle.walk_nodes.specs.NodeWordLaws.{meets-none, meets-some}
 use Rattle.walk_reach.specs.Search.{firstFrom}
 use Rattle.walk_reach.specs.SearchLaws.{first-none, first-above, search-stop, search-turn}
 use Rattle.walk_return.specs.Returns.{meetsAt, firstMeeting, returnFrom, shortestReturn}

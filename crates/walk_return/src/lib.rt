@@ -2,9 +2,9 @@
 // forward edge goes from it (walk_reach), `leads` those to which a dangerous pair of edges leads from it (walk_lead). A set of nodes is a word.
 
 use edge_word::NODES;
-use walk_reach::capped;
-use walk_reach::grow;
-use walk_reach::node_word;
+use walk_nodes::capped;
+use walk_nodes::grow;
+use walk_nodes::node_word;
 ghost use mathlib.Core.Path.{_≡_};
 ghost use Prim.Native.Nat.{_≤_, min};
 ghost use Rattle.walk_return.specs.Returns.{firstMeeting, shortestReturn};

@@ -10,7 +10,8 @@ use lib.ListN.{length, getD, set, replicate, List·getD-eq-default}
 use borrow.Author.Tests.{eq-eqb, ne-eqb}
 use Rattle.spec_base.specs.Basic.{has}
 use Rattle.law_base.specs.SetLaws.{has-empty}
-use Rattle.walk_reach.specs.Layers.{filled, nodesInto, nodeWord}
+use Rattle.walk_reach.specs.Layers.{filled}
+use Rattle.walk_nodes.specs.Nodes.{nodesInto, nodeWord}
 use Rattle.walk_reach.specs.FilledLaws.{filled-at, filled-length}
 use Rattle.walk_ways.specs.Ways.{exactWord, waysTo, nextOpening, opening, openings, startsAt}
 

@@ -6,7 +6,8 @@ use lib.Bits.{bitOr}
 use lib.Dec.{eqb}
 use lib.ListN.{getD}
 use Rattle.spec_base.specs.Basic.{has}
-use Rattle.walk_reach.specs.Layers.{filled, nodesInto, nodeWord}
+use Rattle.walk_reach.specs.Layers.{filled}
+use Rattle.walk_nodes.specs.Nodes.{nodesInto, nodeWord}
 use Rattle.walk_reach.specs.Search.{firstFrom}
 
 -- ---- ways of an exact number of steps

@@ -16,10 +16,12 @@ use Rattle.pick_laws.specs.Completing.{exactly, needed, leads}
 use Rattle.pick_laws.specs.NeededLaws.{needed-none, needed-first, needed-later, needed-edge}
 use Rattle.edge_word.specs.Coding.{entry, forwardsIn, backsIn}
 use Rattle.edge_opens.specs.OpensLaws.{word-opens, word-leaves}
-use Rattle.walk_reach.specs.Layers.{withNode, joinedRows, entersAt, nodesInto, nodeWord}
-use Rattle.walk_reach.specs.NodeWordLaws.{word-in, word-inside}
+use Rattle.walk_nodes.specs.Nodes.{withNode, entersAt, nodesInto, nodeWord}
+use Rattle.walk_reach.specs.Layers.{joinedRows}
+use Rattle.walk_nodes.specs.NodeWordLaws.{word-in, word-inside}
 use Rattle.walk_reach.specs.FilledLaws.{filled-at}
-use Rattle.walk_reach.specs.LayerLaws.{first-has, row-at, row-has, row-meets}
+use Rattle.walk_nodes.specs.NodeWordLaws.{first-has}
+use Rattle.walk_reach.specs.LayerLaws.{row-at, row-has, row-meets}
 use Rattle.walk_reach.specs.SearchLaws.{first-bound, first-passes, first-least}
 use Rattle.walk_ways.specs.Ways.{exactWord, waysTo, nextOpening, opening, openings, startsAt, firstStart}
 

@@ -2,8 +2,8 @@
 // has for each node the nodes to which a forward edge goes from it (walk_reach), `leads` those to which a dangerous pair of edges leads from it.
 
 use edge_word::NODES;
-use walk_reach::node_word;
-use walk_reach::nodes_into;
+use walk_nodes::node_word;
+use walk_nodes::nodes_into;
 use word_list::has_bit;
 use word_list::word_at;
 ghost use mathlib.Core.Path.{_≡_};

@@ -18,10 +18,11 @@ use Rattle.pick_laws.specs.LeastLaws.{greatest-rest}
 use Rattle.pick_laws.specs.NeededLaws.{greatest-same}
 use Rattle.edge_word.specs.Coding.{forwardPick, forwardsIn}
 use Rattle.edge_opens.specs.OpensLaws.{opens-none}
-use Rattle.walk_reach.specs.Layers.{filled, rowsIn, joinedRows, wideAt, Written}
+use Rattle.walk_reach.specs.Layers.{filled, joinedRows, wideAt, Written}
+use Rattle.walk_nodes.specs.Nodes.{rowsIn}
 use Rattle.walk_reach.specs.FilledLaws.{filled-at, written-none, written-one, written-clear, written-join}
 use Rattle.walk_reach.specs.LayerLaws.{entry-past, row-at, row-has}
-use Rattle.walk_reach.specs.NodeWordLaws.{has-high}
+use Rattle.walk_nodes.specs.NodeWordLaws.{has-high}
 use Rattle.walk_wide.specs.Wide.{wordFor, greatestIn, widthInto, widestWord, widestAt, widestFrom, widestTable, Above}
 
 -- ---- the greatest

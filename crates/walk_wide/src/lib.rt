@@ -4,8 +4,8 @@
 use edge_opens::opens_below;
 use edge_word::NODES;
 use edge_word::PAIRS;
-use walk_reach::capped;
-use walk_reach::rows_in;
+use walk_nodes::capped;
+use walk_nodes::rows_in;
 use word_list::clear;
 use word_list::has_bit;
 use word_list::word_at;
@@ -13,7 +13,8 @@ ghost use mathlib.Core.Bool.{cond};
 ghost use mathlib.Core.Path.{_≡_};
 ghost use Prim.Native.Nat.{_+_, _*_, _≤_, _<_, min, max};
 ghost use lib.ListN.{length};
-ghost use Rattle.walk_reach.specs.Layers.{rowsIn, Written};
+ghost use Rattle.walk_nodes.specs.Nodes.{rowsIn};
+ghost use Rattle.walk_reach.specs.Layers.{Written};
 ghost use Rattle.walk_wide.specs.Wide.{greatestIn, widthInto, widestAt, widestFrom, Above};
 
 // The greater of a number and, where the test passed, another.

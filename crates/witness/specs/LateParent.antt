@@ -25,7 +25,7 @@ use Rattle.spec_schedule.specs.Event.{Event, pastAt, writesOf, seen, source, wa
 use Rattle.spec_schedule.specs.Event.Action.{read, write, commit}
 use Rattle.spec_schedule.specs.Schedule.{Tuple, Transaction, Schedule}
 use Rattle.spec_schedule.specs.Serial.{Serialisable}
-use Rattle.spec_schedule.specs.SerialTest.{serial-by-test, openTest}
+use Rattle.schedule_cases.specs.SerialTest.{serial-by-test, openTest}
 use Rattle.spec_schedule.specs.ScheduleExamples.{line, says, event, openWorkload, openRules}
 use Rattle.cases.specs.Computed.{allPass}
 use Rattle.witness.specs.Joined.{demand}

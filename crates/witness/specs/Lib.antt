@@ -9,6 +9,5 @@ pub mod Locked
 pub mod LockedParent
 pub mod KindsClause
 pub mod LockedFirst
-pub mod RuleMachines
 pub mod LockedTurns
 pub mod Unbounded

@@ -20,8 +20,8 @@ use Rattle.spec_schedule.specs.Event.{Action, Event, pastAt, seen, source, wait
 use Rattle.spec_schedule.specs.Event.Action.{read, lock, write, commit}
 use Rattle.spec_schedule.specs.Schedule.{Transaction, Schedule}
 use Rattle.spec_schedule.specs.Serial.{Serialisable}
-use Rattle.spec_schedule.specs.SerialTest.{serial-by-test}
-use Rattle.spec_schedule.specs.Unserialisable.{bothFirst}
+use Rattle.schedule_cases.specs.SerialTest.{serial-by-test}
+use Rattle.schedule_cases.specs.Unserialisable.{bothFirst}
 use Rattle.spec_schedule.specs.ScheduleExamples.{line, says, event, openWorkload, openRules}
 use Rattle.cases.specs.Computed.{allPass}
 use Rattle.witness.specs.Joined.{demand}

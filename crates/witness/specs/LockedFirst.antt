@@ -22,7 +22,7 @@ use Rattle.spec_schedule.specs.Event.{Event}
 use Rattle.spec_schedule.specs.Event.Action.{read, lock, write, commit}
 use Rattle.spec_schedule.specs.Schedule.{Transaction, Schedule}
 use Rattle.spec_schedule.specs.Serial.{Serialisable}
-use Rattle.spec_schedule.specs.SerialTest.{serial-by-test}
+use Rattle.schedule_cases.specs.SerialTest.{serial-by-test}
 use Rattle.spec_schedule.specs.ScheduleExamples.{line, says, event, openWorkload, openRules}
 use Rattle.witness.specs.Joined.{demand}
 use Rattle.witness.specs.KindsClause.{withLoose}

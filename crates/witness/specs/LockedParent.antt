@@ -20,7 +20,7 @@ use Rattle.spec_schedule.specs.Event.{Action, Event, pastAt, waits}
 use Rattle.spec_schedule.specs.Event.Action.{read, lock, write, commit}
 use Rattle.spec_schedule.specs.Schedule.{Schedule}
 use Rattle.spec_schedule.specs.Serial.{Serialisable}
-use Rattle.spec_schedule.specs.SerialTest.{serial-by-test}
+use Rattle.schedule_cases.specs.SerialTest.{serial-by-test}
 use Rattle.spec_schedule.specs.ScheduleExamples.{line, event, openWorkload, openRules}
 use Rattle.cases.specs.Computed.{allPass}
 use Rattle.witness.specs.Joined.{demand}

@@ -34,7 +34,7 @@ use Rattle.spec_schedule.specs.Event.{Action, Event, isLock, pastAt, seen, sour
 use Rattle.spec_schedule.specs.Event.Action.{read, lock, write, insert, commit}
 use Rattle.spec_schedule.specs.Schedule.{Tuple, Transaction, Performed, Schedule, everyAttribute, performed, linkKept}
 use Rattle.spec_schedule.specs.Serial.{Serialisable}
-use Rattle.spec_schedule.specs.SerialTest.{serial-by-test}
+use Rattle.schedule_cases.specs.SerialTest.{serial-by-test}
 use Rattle.spec_schedule.specs.ScheduleExamples.{line, says, event, openWorkload, openRules}
 use Rattle.witness.specs.Joined.{demand}
 use Rattle.witness.specs.Orders.{none-serves, openOrders}

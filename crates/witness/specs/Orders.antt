@@ -15,7 +15,7 @@ use Rattle.spec_text.specs.Text.{same}
 use Rattle.law_text.specs.TextLaws.{same-equal}
 use Rattle.spec_schedule.specs.Event.{Event}
 use Rattle.spec_schedule.specs.Serial.{SerialOrder}
-use Rattle.spec_schedule.specs.SerialTest.{serialTest, test-by-serial, openTest}
+use Rattle.schedule_cases.specs.SerialTest.{serialTest, test-by-serial, openTest}
 
 abbrev without : ℕ → List ℕ → List ℕ
 without i l = keep (λ j. not (eqb i j)) l

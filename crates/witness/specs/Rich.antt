@@ -24,7 +24,7 @@ use Rattle.spec_schedule.specs.Event.{Event, by, isDelete, pastAt, writesOf, se
 use Rattle.spec_schedule.specs.Event.Action.{read, write, insert, delete, predicateRead, commit}
 use Rattle.spec_schedule.specs.Schedule.{Tuple, Transaction, Schedule, everyAttribute, eventsOf}
 use Rattle.spec_schedule.specs.Serial.{Serialisable}
-use Rattle.spec_schedule.specs.SerialTest.{serial-by-test, openTest, actionNumber}
+use Rattle.schedule_cases.specs.SerialTest.{serial-by-test, openTest, actionNumber}
 use Rattle.spec_schedule.specs.ScheduleExamples.{line, says, event, openWorkload, openRules}
 use Rattle.witness.specs.Schedules.{interleaving, scheduled}
 

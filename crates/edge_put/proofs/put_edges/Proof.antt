@@ -176,10 +176,10 @@ use Rattle.edge_put.proofs.answered as answered-fn
 use Rattle.edge_put.proofs.answered.Symbol as answered-def
 use Rattle.edge_put.proofs.answered.Symbol.{name as #edge_put·answered}
 use Rattle.edge_put.proofs.answered.Met as answered-thm
-use Rattle.edge_put.proofs.fits_in as fits-fn
-use Rattle.edge_put.proofs.fits_in.Symbol as fits-def
-use Rattle.edge_put.proofs.fits_in.Symbol.{name as #edge_put·fits-in}
-use Rattle.edge_put.proofs.fits_in.Met as fits-thm
+use Rattle.edge_count.proofs.fits_in as fits-fn
+use Rattle.edge_count.proofs.fits_in.Symbol as fits-def
+use Rattle.edge_count.proofs.fits_in.Symbol.{name as #edge_count·fits-in}
+use Rattle.edge_count.proofs.fits_in.Met as fits-thm
 use Rattle.edge_put.proofs.next_edge as next-fn
 use Rattle.edge_put.proofs.next_edge.Symbol as next-def
 use Rattle.edge_put.proofs.next_edge.Symbol.{name as #edge_put·next-edge}
@@ -557,7 +557,7 @@ module _ {M : Type 1} (𝓤 : URA M) (H : Heap 𝓤) (A : Atoms 𝓤) (W : Given
         (runs Ca Λ En parts.t-5 (atRet En Post))
     looped c v is e = first ! $ blocks ! $ loops ! 𝓣 Nearer Nearer-wf At turns (start c v is e)
 
-  walk : (𝓣 : Tables 𝓤 H) → Triple 𝓤 (𝓣 .C #edge_put·fits-in) (Fits 𝓤 H A mem run) → Triple 𝓤 (𝓣 .C #edge_put·start-for)
+  walk : (𝓣 : Tables 𝓤 H) → Triple 𝓤 (𝓣 .C #edge_count·fits-in) (Fits 𝓤 H A mem run) → Triple 𝓤 (𝓣 .C #edge_put·start-for)
       (Start 𝓤 H A mem run) → Triple 𝓤 (𝓣 .C #edge_put·next-edge) (Next 𝓤 H A mem run) → Triple 𝓤 (𝓣 .C #edge_put·answered)
       (Answer 𝓤 H A mem run) → Is (ShrSlice (named 0) κ u64) ar (sv ∷ []) → Is (MutSlice (named 1) κ₁ T.the-row) (x ys) (s ∷ []) → Room
       T.the-row (length ys) → ent 𝓤 (onEntry 𝓤 H A f.signature (κ, (κ₁, tt)) (q, (q₁, tt)) a vals)
@@ -612,7 +612,7 @@ module _ {M : Type 1} (𝓤 : URA M) (H : Heap 𝓤) (A : Atoms 𝓤) (W : Given
       looped 𝓣 known-next known-answer room l₀ l₁ l₂ l₃ l₄ l₅ l₆ l₇ l₈ l₉ l₁₀ c v is₁ d)))))))))))))))))))
 
 module _ {M : Type 1} (𝓤 : URA M) (H : Heap 𝓤) (A : Atoms 𝓤) (W : Given 𝓤 H A) (mem : Memory → SProp 𝓤) (run : Routine → Fun 𝓤)
-    (𝓣 : Tables 𝓤 H) (known-fits : Triple 𝓤 (𝓣 .C #edge_put·fits-in) (Fits 𝓤 H A mem run))
+    (𝓣 : Tables 𝓤 H) (known-fits : Triple 𝓤 (𝓣 .C #edge_count·fits-in) (Fits 𝓤 H A mem run))
     (known-start : Triple 𝓤 (𝓣 .C #edge_put·start-for) (Start 𝓤 H A mem run))
     (known-next : Triple 𝓤 (𝓣 .C #edge_put·next-edge) (Next 𝓤 H A mem run))
     (known-answer : Triple 𝓤 (𝓣 .C #edge_put·answered) (Answer 𝓤 H A mem run)) where
@@ -637,7 +637,7 @@ put-edges-spec 𝓤 H 𝓜 𝓖 𝓡 =
     entered 𝓤 H (tripleOf 𝓤 H (𝓖 .A) f.signature (f.spec 𝓤 H (𝓖 .A) (𝓜 .mem) (𝓡 .run)))
     (tables 𝓤 H 𝓜 𝓡 code.env .C) (tables 𝓤 H 𝓜 𝓡 code.env .Λ) #edge_put·put-edges code.function (code.unfolded 𝓤 H 𝓜 𝓡)
     (put-meets 𝓤 H (𝓖 .A) (givenOf 𝓤 H 𝓜 𝓖) (𝓜 .mem) (𝓡 .run) (tablesOf 𝓤 H 𝓜 (tables 𝓤 H 𝓜 𝓡 code.env))
-    (cited 𝓤 H (Fits 𝓤 H (𝓖 .A) (𝓜 .mem) (𝓡 .run)) 𝓜 𝓡 code.env #edge_put·fits-in fits-def.routine code.calls-edge-put·fits-in
+    (cited 𝓤 H (Fits 𝓤 H (𝓖 .A) (𝓜 .mem) (𝓡 .run)) 𝓜 𝓡 code.env #edge_count·fits-in fits-def.routine code.calls-edge-count·fits-in
     (fits-thm.met 𝓤 H 𝓜 𝓖 𝓡))
     (cited 𝓤 H (Start 𝓤 H (𝓖 .A) (𝓜 .mem) (𝓡 .run)) 𝓜 𝓡 code.env #edge_put·start-for start-def.routine code.calls-edge-put·start-for
     (start-thm.met 𝓤 H 𝓜 𝓖 𝓡))

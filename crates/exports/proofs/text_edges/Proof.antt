@@ -1,5 +1,5 @@
 -- A walk of its code by hand. `read_text` reads the text; where it is refused, `refusal_word` gives the answer, and the list, which no call was
--- given, ends as it was; else the value that was read and the list go to `put_workload_edges`, and `edges_word` gives the answer.
+-- given, ends as it was; else the value that was read and the list go to `put_workload_edges`, and `put_word` gives the answer.
 use mathlib.Core.Bool.{Bool, true, false, not}
 use mathlib.Core.Path.{_≡_, refl, ap, subst}
 use Prim.Native.Nat.{ℕ, _<_, _^_}
@@ -128,8 +128,9 @@ use Rattle.edge_list.specs.Few.{put-few}
 use Rattle.text_read.specs.declared.Parsed.{Parsed}
 use Rattle.text_read.specs.Parse.{parsedAs}
 use Rattle.export_word.specs.Word.{refusalWord}
-use Rattle.exports.specs.TextEdges.{TextEdges, edgesWord, FewPut}
-use Rattle.exports.specs.TextEdgesLaws.{edges-unread, edges-settled}
+use Rattle.export_edges.specs.EdgesTold.{putTold}
+use Rattle.exports.specs.TextEdges.{TextEdges}
+use Rattle.exports.specs.TextEdgesLaws.{few-word, edges-unread, edges-settled}
 use Rattle.spec_text.proofs.Workload as Wk
 use Rattle.spec_text.proofs.Workload.Laws as Wk′
 use Rattle.edge_record.proofs.Edge as T
@@ -150,10 +151,10 @@ use Rattle.export_word.proofs.refusal_word as refusal-fn
 use Rattle.export_word.proofs.refusal_word.Symbol as refusal-def
 use Rattle.export_word.proofs.refusal_word.Symbol.{name as #export_word·refusal-word}
 use Rattle.export_word.proofs.refusal_word.Met as refusal-thm
-use Rattle.exports.proofs.edges_word as word-fn
-use Rattle.exports.proofs.edges_word.Symbol as word-def
-use Rattle.exports.proofs.edges_word.Symbol.{name as #exports·edges-word}
-use Rattle.exports.proofs.edges_word.Met as word-thm
+use Rattle.export_edges.proofs.put_word as word-fn
+use Rattle.export_edges.proofs.put_word.Symbol as word-def
+use Rattle.export_edges.proofs.put_word.Symbol.{name as #export_edges·put-word}
+use Rattle.export_edges.proofs.put_word.Met as word-thm
 use Rattle.exports.proofs.text_edges.Key.{name as #exports·text-edges}
 use Rattle.exports.proofs.text_edges as f
 use Rattle.exports.proofs.text_edges.Statement as stated
@@ -254,16 +255,16 @@ module _ {M : Type 1} (𝓤 : URA M) (H : Heap 𝓤) (A : Atoms 𝓤) (W : Given
       (fact 𝓤 (p ≡ parsedAs (read text)))
   said-read p = exE 𝓤 _ (λ ws. snd∗ 𝓤 (sem 𝓤 H A (lasts read-fn.ended (κ, tt) (ar, tt) ws)) (fact 𝓤 (p ≡ parsedAs (read text))))
 
-  -- `edges_word` is passed what became of the edges
+  -- `put_word` is passed what became of the edges
   module _ (r : Answer) (v : Val) where
     abbrev to-word : Word 𝓤 H A mem run .Ghost
     to-word = ((tt, tt, tt, (r, tt), (v ∷ [], tt)), tt)
 
-    asked-word : FewPut r → ent 𝓤 (onEntry 𝓤 H A word-fn.signature tt tt (r, tt) (v ∷ [], tt)) (Word 𝓤 H A mem run .pre to-word)
-    asked-word few = qed W (‵ ftrue ∷ ‵ (owns (R.the-row ∷ []) (r, tt) (v ∷ [], tt)) ∷ []) ∵ says ! few $ join ! $ done !
+    asked-word : ent 𝓤 (onEntry 𝓤 H A word-fn.signature tt tt (r, tt) (v ∷ [], tt)) (Word 𝓤 H A mem run .pre to-word)
+    asked-word = qed W (‵ ftrue ∷ ‵ (owns (R.the-row ∷ []) (r, tt) (v ∷ [], tt)) ∷ []) ∵ join ! $ frame ! $ done !
 
-    said-word : (n : ℕ) → ent 𝓤 (ensured 𝓤 H A word-fn.ended (word-fn.clauses 𝓤 H A mem run) tt (r, tt) tt n) (fact 𝓤 (n ≡ edgesWord (putSaid r)))
-    said-word n = exE 𝓤 _ (λ ws. snd∗ 𝓤 (sem 𝓤 H A (lasts word-fn.ended tt (r, tt) ws)) (fact 𝓤 (n ≡ edgesWord (putSaid r))))
+    said-word : (n : ℕ) → ent 𝓤 (ensured 𝓤 H A word-fn.ended (word-fn.clauses 𝓤 H A mem run) tt (r, tt) tt n) (fact 𝓤 (n ≡ putTold (putSaid r)))
+    said-word n = exE 𝓤 _ (λ ws. snd∗ 𝓤 (sem 𝓤 H A (lasts word-fn.ended tt (r, tt) ws)) (fact 𝓤 (n ≡ putTold (putSaid r))))
 
   -- what was read, and its machine value
   module _ (p : Parsed) (isP : Is P.the-row p (LL.vals P.the-type P′.the-laws p)) where
@@ -312,7 +313,7 @@ module _ {M : Type 1} (𝓤 : URA M) (H : Heap 𝓤) (A : Atoms 𝓤) (W : Given
     -- what follows the test of the number, where the text is accepted
     module _ (C : Calls 𝓤 H) (Λ : Loops 𝓤 H) (fm : FmC 𝓤 H (W .laws) C)
         (known-put : Triple 𝓤 (C #edge_list·put-workload-edges) (Put 𝓤 H A mem run))
-        (known-word : Triple 𝓤 (C #exports·edges-word) (Word 𝓤 H A mem run))
+        (known-word : Triple 𝓤 (C #export_edges·put-word) (Word 𝓤 H A mem run))
         (read-as : p ≡ parsedAs (read text)) (room : Room T.the-row (length ys)) (l₀ l₁ l₂ l₃ l₄ l₅ l₆ l₇ l₈ : ℕ) where
       abbrev En : Env 𝓤 H
       En = (number, l₀) ∷ (shared, l₁) ∷ (slice, l₂) ∷ (P′.mir, l₃) ∷ (Wk′.mir, l₄) ∷ (R′.mir, l₅) ∷ (tyBool, l₆) ∷ (lentPtr, l₇) ∷ (lentTy, l₈) ∷ []
@@ -355,14 +356,14 @@ module _ {M : Type 1} (𝓤 : URA M) (H : Heap 𝓤) (A : Atoms 𝓤) (W : Given
           -- [the last list; true; true; the list's token and the result; the text's token; the text's; _8; …]
           move ! (3 ∷ []) $ split ! $ move ! (1 ∷ []) $ facts ! R.the-row (Is R.the-row) (shows 𝓤 H A R.the-row) r (v ∷ []) (λ put-is.
           land ! (from ! (stop !)) (init ! 12 refl (EL.lawful R.the-type R′.the-laws 𝓤 H A W tt .typed r _ put-is .0)) $
-          -- `edges_word`: [what it asks; the list's token; the last list; true; true; the text's token; the text's; _8; …]
+          -- `put_word`: [what it asks; the list's token; the last list; true; true; the text's token; the text's; _8; …]
           nothing ! $ owned ! R.the-row (Is R.the-row) (EL.makes R.the-type R′.the-plain 𝓤 H A) r (v ∷ []) put-is $ fjoin ! $ nothing ! $
-          use2 W (raw (Word 𝓤 H A mem run .pre (to-word r v))) (asked-word r v (put-few settled)) $
+          use2 W (raw (Word 𝓤 H A mem run .pre (to-word r v))) (asked-word r v) $
           calls-at ! fm (Word 𝓤 H A mem run) known-word (to-word r v) (and-then ! (load ! (from ! (stop !)) (look ! 13 refl)) (no-more !)) (λ y.
           use1 W (later (some (λ (n : ℕ). (‵ ftrue ⊛ ‵ (u32 .own n (y ∷ []))) ⊛ raw
           (ensured 𝓤 H A word-fn.ended (word-fn.clauses 𝓤 H A mem run) tt (r, tt) tt n)))) (id⊢ 𝓤 _) $ await ! tt $ pick ! (λ n.
-          split ! $ move ! (1 ∷ []) $ use1 W (raw (fact 𝓤 (n ≡ edgesWord (putSaid r)))) (said-word r v n) $ heard !
-          (n ≡ edgesWord (putSaid r)) (λ word. split ! $ move ! (1 ∷ []) $
+          split ! $ move ! (1 ∷ []) $ use1 W (raw (fact 𝓤 (n ≡ putTold (putSaid r)))) (said-word r v n) $ heard !
+          (n ≡ putTold (putSaid r)) (λ word. split ! $ move ! (1 ∷ []) $
           facts ! u32 (Is u32) (shows 𝓤 H A u32) n (y ∷ []) (λ is.
           -- [true; the list's token; the last list; true; true; the text's token; the text's; _8; …; _7; …; _6; …; _5; …; _4; …; _3; …; _2; …;
           -- _1; …; room for _0; …]
@@ -373,7 +374,7 @@ module _ {M : Type 1} (𝓤 : URA M) (H : Heap 𝓤) (A : Atoms 𝓤) (W : Given
           move ! (23 ∷ 24 ∷ []) $ free1 ! $ move ! (21 ∷ 22 ∷ []) $ free1 ! $ move ! (19 ∷ 20 ∷ []) $ free1 ! $ move ! (17 ∷ 18 ∷ []) $
           free1 ! $ move ! (15 ∷ 16 ∷ []) $ free1 ! $ move ! (13 ∷ 14 ∷ []) $ free1 ! $
           move ! (11 ∷ 12 ∷ []) $ free1 ! $ move ! (9 ∷ 10 ∷ []) $ free1 ! $ move ! (7 ∷ 8 ∷ []) $ free1 ! $ free0 ! $
-          keep ! (5 ∷ 1 ∷ 6 ∷ 2 ∷ []) $ by ! (exits n (zs .1 .0) (is .1) same (edges-settled text read-as zero-number settled word))))))))))))
+          keep ! (5 ∷ 1 ∷ 6 ∷ 2 ∷ []) $ by ! (exits n (zs .1 .0) (is .1) same (edges-settled text read-as zero-number settled (few-word r (put-few settled) word)))))))))))))
 
       -- the test of the number, and what follows it
       tested : (known-refusal : Triple 𝓤 (C #export_word·refusal-word) (Refusal 𝓤 H A mem run)) → Sq W Read-on (runs C Λ En parts.t-3 (atRet En Post))
@@ -419,7 +420,7 @@ module _ {M : Type 1} (𝓤 : URA M) (H : Heap 𝓤) (A : Atoms 𝓤) (W : Given
   module _ (C : Calls 𝓤 H) (Λ : Loops 𝓤 H) (fm : FmC 𝓤 H (W .laws) C) (known-read : Triple 𝓤 (C #text_read·read-text) (Read 𝓤 H A mem run))
       (known-refusal : Triple 𝓤 (C #export_word·refusal-word) (Refusal 𝓤 H A mem run))
       (known-put : Triple 𝓤 (C #edge_list·put-workload-edges) (Put 𝓤 H A mem run))
-      (known-word : Triple 𝓤 (C #exports·edges-word) (Word 𝓤 H A mem run)) where
+      (known-word : Triple 𝓤 (C #export_edges·put-word) (Word 𝓤 H A mem run)) where
     walk : Is (ShrSlice (named 0) κ u8) ar (sv ∷ []) → Is (MutSlice (named 1) κ₁ T.the-row) x (s ∷ []) → Room T.the-row (length ys)
         → ent 𝓤 (onEntry 𝓤 H A f.signature (κ, (κ₁, tt)) (q, (q₁, tt)) a vals) (WpFn 𝓤 H C Λ code.function (sv ∷ s ∷ []) Post)
     walk ga g room =
@@ -455,7 +456,7 @@ module _ {M : Type 1} (𝓤 : URA M) (H : Heap 𝓤) (A : Atoms 𝓤) (W : Given
     (𝓣 : Tables 𝓤 H) (known-read : Triple 𝓤 (𝓣 .C #text_read·read-text) (Read 𝓤 H A mem run))
     (known-refusal : Triple 𝓤 (𝓣 .C #export_word·refusal-word) (Refusal 𝓤 H A mem run))
     (known-put : Triple 𝓤 (𝓣 .C #edge_list·put-workload-edges) (Put 𝓤 H A mem run))
-    (known-word : Triple 𝓤 (𝓣 .C #exports·edges-word) (Word 𝓤 H A mem run)) where
+    (known-word : Triple 𝓤 (𝓣 .C #export_edges·put-word) (Word 𝓤 H A mem run)) where
   edges-walks : Walks 𝓤 H A f.ended stayed (WpFn 𝓤 H (𝓣 .C) (𝓣 .Λ) code.function) (f.clauses 𝓤 H A mem run)
   edges-walks =
       walked 𝓤 H A f.ended stayed (f.clauses 𝓤 H A mem run) (WpFn 𝓤 H (𝓣 .C) (𝓣 .Λ) code.function)
@@ -483,5 +484,5 @@ text-edges-spec 𝓤 H 𝓜 𝓖 𝓡 =
     (refusal-thm.met 𝓤 H 𝓜 𝓖 𝓡))
     (cited 𝓤 H (Put 𝓤 H (𝓖 .A) (𝓜 .mem) (𝓡 .run)) 𝓜 𝓡 code.env #edge_list·put-workload-edges put-def.routine
     code.calls-edge-list·put-workload-edges (put-thm.met 𝓤 H 𝓜 𝓖 𝓡))
-    (cited 𝓤 H (Word 𝓤 H (𝓖 .A) (𝓜 .mem) (𝓡 .run)) 𝓜 𝓡 code.env #exports·edges-word word-def.routine code.calls-exports·edges-word
+    (cited 𝓤 H (Word 𝓤 H (𝓖 .A) (𝓜 .mem) (𝓡 .run)) 𝓜 𝓡 code.env #export_edges·put-word word-def.routine code.calls-export-edges·put-word
     (word-thm.met 𝓤 H 𝓜 𝓖 𝓡)))

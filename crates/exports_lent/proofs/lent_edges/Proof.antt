@@ -150,11 +150,11 @@ use Rattle.edge_count.specs.Slots.{tableEdges}
 use Rattle.edge_put.specs.declared.Put.{Put as Answer}
 use Rattle.edge_put.specs.Put.{putSaid, PutAs}
 use Rattle.place_text.specs.declared.TextRows.{TextRows}
-use Rattle.exports.specs.TextEdges.{TextEdges, FewPut}
-use Rattle.exports_lent.specs.EdgesTold.{edgesTold}
+use Rattle.exports.specs.TextEdges.{TextEdges}
+use Rattle.export_edges.specs.EdgesTold.{edgesTold}
 use Rattle.lent_words.specs.Lent.{Lent}
 use Rattle.exports_lent.specs.Linked.{TextLinked, RowsLinked}
-use Rattle.exports_lent.specs.LinkedLaws.{linked-long, linked-few, linked-settled}
+use Rattle.exports_lent.specs.LinkedLaws.{linked-long, linked-settled}
 use Rattle.edge_record.proofs.Edge as T
 use Rattle.edge_put.proofs.Put as R
 use Rattle.edge_put.proofs.Put.Laws as R′
@@ -168,10 +168,10 @@ use Rattle.edge_put.proofs.put_edges as put-fn
 use Rattle.edge_put.proofs.put_edges.Symbol as put-def
 use Rattle.edge_put.proofs.put_edges.Symbol.{name as #edge_put·put-edges}
 use Rattle.edge_put.proofs.put_edges.Met as put-thm
-use Rattle.exports_lent.proofs.edges_word as word-fn
-use Rattle.exports_lent.proofs.edges_word.Symbol as word-def
-use Rattle.exports_lent.proofs.edges_word.Symbol.{name as #exports_lent·edges-word}
-use Rattle.exports_lent.proofs.edges_word.Met as word-thm
+use Rattle.export_edges.proofs.edges_word as word-fn
+use Rattle.export_edges.proofs.edges_word.Symbol as word-def
+use Rattle.export_edges.proofs.edges_word.Symbol.{name as #export_edges·edges-word}
+use Rattle.export_edges.proofs.edges_word.Met as word-thm
 use Rattle.exports_lent.proofs.lent_edges.Key.{name as #exports_lent·lent-edges}
 use Rattle.exports_lent.proofs.lent_edges as f
 use Rattle.exports_lent.proofs.lent_edges.Statement as stated
@@ -399,8 +399,8 @@ module _ {M : Type 1} (𝓤 : URA M) (H : Heap 𝓤) (A : Atoms 𝓤) (W : Given
     abbrev to-word : Word 𝓤 H A mem run .Ghost
     to-word = ((tt, tt, tt, (n, (l, (r, tt))), three), tt)
 
-    asked-word : FewPut r → ent 𝓤 (onEntry 𝓤 H A word-fn.signature tt tt (n, (l, (r, tt))) three) (Word 𝓤 H A mem run .pre to-word)
-    asked-word few = qed W (‵ ftrue ∷ ‵ (owns (u8 ∷ u64 ∷ R.the-row ∷ []) (n, (l, (r, tt))) three) ∷ []) ∵ says ! few $ join ! $ done !
+    asked-word : ent 𝓤 (onEntry 𝓤 H A word-fn.signature tt tt (n, (l, (r, tt))) three) (Word 𝓤 H A mem run .pre to-word)
+    asked-word = qed W (‵ ftrue ∷ ‵ (owns (u8 ∷ u64 ∷ R.the-row ∷ []) (n, (l, (r, tt))) three) ∷ []) ∵ join ! $ frame ! $ done !
 
     said-word : (m : ℕ) → ent 𝓤 (ensured 𝓤 H A word-fn.ended (word-fn.clauses 𝓤 H A mem run) tt (n, (l, (r, tt))) tt m)
         (fact 𝓤 (m ≡ edgesTold n l (putSaid r)))
@@ -408,7 +408,7 @@ module _ {M : Type 1} (𝓤 : URA M) (H : Heap 𝓤) (A : Atoms 𝓤) (W : Given
 
   module _ (C : Calls 𝓤 H) (Λ : Loops 𝓤 H) (fm : FmC 𝓤 H (W .laws) C)
       (known-rows : Triple 𝓤 (C #exports_lent·linked-rows) (Rows 𝓤 H A mem run)) (known-put : Triple 𝓤 (C #edge_put·put-edges) (Put 𝓤 H A mem run))
-      (known-word : Triple 𝓤 (C #exports_lent·edges-word) (Word 𝓤 H A mem run)) where
+      (known-word : Triple 𝓤 (C #export_edges·edges-word) (Word 𝓤 H A mem run)) where
     walk : Is (ShrSlice (named 0) κ u8) ar (sv ∷ []) → Is (MutSlice (named 5) κ₅ T.the-row) x (s ∷ []) → Room T.the-row (length ys)
         → ent 𝓤 (onEntry 𝓤 H A f.signature (κ, (κ₁, (κ₂, (κ₃, (κ₄, (κ₅, tt)))))) (q, (q₁, (q₂, (q₃, (q₄, (q₅, tt)))))) a vals)
         (WpFn 𝓤 H C Λ code.function (sv ∷ at-of x₁ ∷ at-of x₂ ∷ at-of x₃ ∷ vptr b₄ o₄ ∷ s ∷ []) Post)
@@ -529,8 +529,7 @@ module _ {M : Type 1} (𝓤 : URA M) (H : Heap 𝓤) (A : Atoms 𝓤) (W : Given
         nothing ! $ owned ! R.the-row (Is R.the-row) (EL.makes R.the-type R′.the-plain 𝓤 H A) r (v ∷ []) put-is $ fjoin ! $ owned ! u64 (Is u64)
         (uint-makes 𝓤 H A W w64) (p .line) _ (refl, line-fits p is) $ fjoin ! $ owned ! u8 (Is u8) (uint-makes 𝓤 H A W w8) (p .number) _
         (refl, number-fits p is) $ fjoin ! $ nothing ! $
-        use2 W (raw (Word 𝓤 H A mem run .pre (to-word (p .number) (p .line) r v))) (asked-word (p .number) (p .line) r v (linked-few text (placed .0)
-        edges)) $
+        use2 W (raw (Word 𝓤 H A mem run .pre (to-word (p .number) (p .line) r v))) (asked-word (p .number) (p .line) r v) $
         calls-at ! fm (Word 𝓤 H A mem run) known-word (to-word (p .number) (p .line) r v)
         (and-then ! (load ! (from ! (fld ! refl (stop !))) (look-in ! 28 (sub ! 0 refl (whole !))))
         (and-then ! (load ! (from ! (fld ! refl (stop !))) (look-in ! 28 (sub ! 1 refl (whole !))))
@@ -571,7 +570,7 @@ module _ {M : Type 1} (𝓤 : URA M) (H : Heap 𝓤) (A : Atoms 𝓤) (W : Given
 module _ {M : Type 1} (𝓤 : URA M) (H : Heap 𝓤) (A : Atoms 𝓤) (W : Given 𝓤 H A) (mem : Memory → SProp 𝓤) (run : Routine → Fun 𝓤)
     (𝓣 : Tables 𝓤 H) (known-rows : Triple 𝓤 (𝓣 .C #exports_lent·linked-rows) (Rows 𝓤 H A mem run))
     (known-put : Triple 𝓤 (𝓣 .C #edge_put·put-edges) (Put 𝓤 H A mem run))
-    (known-word : Triple 𝓤 (𝓣 .C #exports_lent·edges-word) (Word 𝓤 H A mem run)) where
+    (known-word : Triple 𝓤 (𝓣 .C #export_edges·edges-word) (Word 𝓤 H A mem run)) where
   edges-walks : Walks 𝓤 H A f.ended stayed (WpFn 𝓤 H (𝓣 .C) (𝓣 .Λ) code.function) (f.clauses 𝓤 H A mem run)
   edges-walks =
       walked 𝓤 H A f.ended stayed (f.clauses 𝓤 H A mem run) (WpFn 𝓤 H (𝓣 .C) (𝓣 .Λ) code.function)
@@ -626,5 +625,5 @@ lent-edges-spec 𝓤 H 𝓜 𝓖 𝓡 =
     (rows-thm.met 𝓤 H 𝓜 𝓖 𝓡))
     (cited 𝓤 H (Put 𝓤 H (𝓖 .A) (𝓜 .mem) (𝓡 .run)) 𝓜 𝓡 code.env #edge_put·put-edges put-def.routine code.calls-edge-put·put-edges
     (put-thm.met 𝓤 H 𝓜 𝓖 𝓡))
-    (cited 𝓤 H (Word 𝓤 H (𝓖 .A) (𝓜 .mem) (𝓡 .run)) 𝓜 𝓡 code.env #exports_lent·edges-word word-def.routine code.calls-exports-lent·edges-word
+    (cited 𝓤 H (Word 𝓤 H (𝓖 .A) (𝓜 .mem) (𝓡 .run)) 𝓜 𝓡 code.env #export_edges·edges-word word-def.routine code.calls-export-edges·edges-word
     (word-thm.met 𝓤 H 𝓜 𝓖 𝓡)))

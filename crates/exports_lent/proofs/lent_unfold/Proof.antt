@@ -31,7 +31,7 @@ returns-2 c =
     let c8 = c3 .before .before .before .before .before in
     let table = c8 .before .before .read-table .ensures in
     let read = lines-read _ (table .0) (c8 .if1 .left) in
-    (lines-unfolded _ (read .1) (read .3) (c3 .unfold-first .ensures) (c .unfold-word .ensures), table .1)
+    (lines-unfolded _ (read .1) (read .3) (c3 .unfold-first .ensures) (c .last-word .ensures), table .1)
 
 pub lent-unfold-spec : {M : Type 1} → statement M
 lent-unfold-spec =

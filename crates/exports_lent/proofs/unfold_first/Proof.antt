@@ -5,11 +5,11 @@ use borrow.Author.Needs.{needs}
 use Rattle.exports_lent.proofs.unfold_first.Statement.{statement}
 use Rattle.exports_lent.proofs.unfold_first.Tie as tie
 
-slice-aggregate-unfold-lines : tie.Need-slice-aggregate-unfold-lines
-slice-aggregate-unfold-lines c = sym (length-take-le _ _ (c .before .before .before .pre))
+slice-aggregate-unfold-ids : tie.Need-slice-aggregate-unfold-ids
+slice-aggregate-unfold-ids c = sym (length-take-le _ _ (c .before .before .before .pre))
 
 returns : tie.Need-returns
-returns c = c .before .before .unfold-lines .ensures
+returns c = c .before .before .unfold-ids .ensures
 
 pub unfold-first-spec : {M : Type 1} → statement M
-unfold-first-spec = tie.close (tie.spec slice-aggregate-unfold-lines (λ c κs. search needs) (λ c. search needs) returns)
+unfold-first-spec = tie.close (tie.spec slice-aggregate-unfold-ids (λ c κs. search needs) (λ c. search needs) returns)

@@ -16,7 +16,7 @@ use Rattle.law_base.specs.ListLaws.{keep-member, member-keep, getElem?-member, 
 use Rattle.law_base.specs.SetLaws.{has-meets, has-every}
 use Rattle.spec_schedule.specs.Event.{Event, by, isRead, isPredicateRead, isInsert, isDelete, writesTo, pastAt, writesOf, seen}
 use Rattle.spec_schedule.specs.Event.{source, existence}
-use Rattle.spec_schedule.specs.SerialTest.{run-member}
+use Rattle.schedule_cases.specs.SerialTest.{run-member}
 use Rattle.spec_schedule.specs.Serial.{serialRun, stateAt, SameRead, SamePredicateRead, SerialOrder}
 use Rattle.soundness.specs.dependency.Dependency.{depends, before, sees, Numbered, Filled, Known}
 use Rattle.soundness.specs.dependency.DependencyLaws.{before-of, depends-letter, touches-of, depends-writeWrite, depends-writeRead}

@@ -1,15 +1,19 @@
--- At each line that the reader comes to the words hold the lines taken so far: a fault ends taking there, else the line is taken and the reader
--- goes on from the next place; at the end it comes to no line more.
+-- At each place the words hold the lines taken so far: bytes that are no line, or a fault, end taking there, else the line is taken and taking goes
+-- on at the place after it; at the end no line is left.
+use mathlib.Core.Logic.{inl, inr}
+use mathlib.Core.List.{[]}
+use mathlib.Core.Option.{some}
 use mathlib.Core.Path.{_≡_, sym, _∙_}
 use native.Mathlib.Omega.{arith}
 use Prim.Native.Nat.{_-_}
-use lib.ListN.{length}
+use lib.ListN.{length, drop}
 use borrow.Author.Needs.{needs}
-use Rattle.text_lines.specs.declared.Step.the-variants.{Line as AtLine, End as AtEnd}
-use Rattle.text_lines.specs.Span.{lineAt}
-use Rattle.text_lines.specs.Going.{Came}
-use Rattle.text_lines.specs.GoingLaws.{came}
-use Rattle.text_before.specs.TakenLaws.{Taking, taking-first, taking-next, taking-stops, taking-ends}
+use Rattle.spec_text.specs.Text.{lineOf, linesIn}
+use Rattle.text_fields.specs.LineIn.{lineBytes, placeAfter}
+use Rattle.text_fields.specs.LineInLaws.{step-value, step-wrong, line-here}
+use Rattle.line_rules.specs.WordsHold.{HoldsWords}
+use Rattle.text_before.specs.Before.{takenBefore}
+use Rattle.text_before.specs.TakenLaws.{Taking, taking-first, taking-at, taking-wrong, taking-stops, taking-next, taking-ends}
 use Rattle.text_before.proofs.before_lines.Statement.{statement}
 use Rattle.text_before.proofs.before_lines.Tie as tie
 
@@ -19,77 +23,59 @@ Inv-loop text start words₀ at₀ words at = Taking text start words at
 abbrev μ-loop : tie.MeasureT-loop
 μ-loop text start words₀ at₀ words at = length text - at
 
--- where the reader has come to a line
-line-there : (c : tie.After-known-told Inv-loop μ-loop) → AtLine (c .before .span .given .0 .0)
-    ≡ lineAt (c .before .before .before .before .before .before .before .before .args .text .now)
-    (c .before .before .before .before .loop .at) 0
-line-there c = sym (c .before .span .given .1) ∙ c .before .before .before .line-at .ensures
-
--- what that line is
-came-at : (c : tie.After-known-told Inv-loop μ-loop)
-    → Came (c .before .before .before .before .before .before .before .before .args .text .now)
-    (c .before .before .before .before .loop .at) 0 (c .before .span .given .0 .0)
-came-at c = came _ _ _ (line-there c)
-
--- where it has come to the end
-end-at : (c : tie.After-enum-told Inv-loop μ-loop) → AtEnd
-    ≡ lineAt (c .before .before .before .before .before .before .before .args .text .now) (c .before .before .before .loop .at) 0
-end-at c = sym (c .enum-told .given .1) ∙ c .before .before .line-at .ensures
-
-start-requires : tie.Need-start-requires Inv-loop μ-loop
-start-requires c κs = search needs
-
 loop-holds : tie.Need-loop-holds Inv-loop μ-loop
-loop-holds c =
-    let entry = c .before .before .before in
-    taking-first (entry .args .text .now) (entry .args .start) (c .start .ensures .1)
+loop-holds c = taking-first _ _ (c .start .ensures .1)
 
-line-at-requires : tie.Need-line-at-requires Inv-loop μ-loop
-line-at-requires c κs = search needs
-
-enum-known-span : tie.Need-enum-known-span Inv-loop μ-loop
-enum-known-span c = search needs
-
-enum-told : tie.Need-enum-told Inv-loop μ-loop
-enum-told c = search needs
-
-sub-see-bytes : tie.Need-sub-see-bytes Inv-loop μ-loop
-sub-see-bytes c = came-at (c .before) .starts
-
-part-see-bytes-start : tie.Need-part-see-bytes-start Inv-loop μ-loop
-part-see-bytes-start c = let here = came-at (c .before) in omega arith
-
-part-see-bytes-end : tie.Need-part-see-bytes-end Inv-loop μ-loop
-part-see-bytes-end c = let here = came-at (c .before) in omega arith
-
-see-bytes-requires : tie.Need-see-bytes-requires Inv-loop μ-loop
-see-bytes-requires c κs = search needs
-
-counted-requires : tie.Need-counted-requires Inv-loop μ-loop
-counted-requires c κs = search needs
-
-returns : tie.Need-returns Inv-loop μ-loop
-returns c =
-    let seen = c .before .before .before .before in
-    c .counted .ensures _
-    (taking-stops (seen .before .before .before .before .before .before .before .loop .inv) (line-there (seen .before .before .before))
-    (seen .see-bytes .ensures) (c .before .before .if1 .taken))
+-- the line that is taken, and the place after it
+taken-line : (c : tie.After-known-told Inv-loop μ-loop)
+    → let text = c .before .before .before .before .before .before .before .before .before .args .text .now in
+    let at = c .before .before .before .before .before .loop .at in
+    (lineOf (lineBytes text at) ≡ some (c .before .l .given .0 .0)) × (c .before .l .given .0 .1 .0 ≡ placeAfter text at)
+taken-line c = step-value _ _ (sym (c .before .l .given .1) ∙ c .before .before .before .line-in .ensures)
 
 loop-less : tie.Need-loop-less Inv-loop μ-loop
-loop-less c = let here = came-at (c .before .before .before .before .before) in omega arith
+loop-less c =
+    let line = c .before .before .before in
+    let test = line .before .before .before .before in
+    let next = taken-line line .1 in
+    let inside = test .loop-test .taken in
+    let text = test .before .before .before .before .before .args .text .now in
+    let further = line-here text (test .before .loop .at) inside .1 in
+    omega arith
 
 loop-again : tie.Need-loop-again Inv-loop μ-loop
 loop-again c =
-    let seen = c .before .before in
-    taking-next (seen .before .before .before .before .before .before .before .loop .inv) (line-there (seen .before .before .before))
-    (seen .see-bytes .ensures) (c .if1 .left)
+    let tested = c .before in
+    let line = tested .before .before in
+    let test = line .before .before .before .before in
+    taking-at (taking-next (test .before .loop .inv) (test .loop-test .taken) (taken-line line .0) (tested .take-tested .ensures) (c .if1 .left))
+    (taken-line line .1)
 
-counted-requires-2 : tie.Need-counted-requires-2 Inv-loop μ-loop
-counted-requires-2 c κs = search needs
+-- whichever way the loop is left, the words hold what is taken
+held : (c : tie.Left-loop Inv-loop μ-loop) → let entry = c .before .before .before .before .before in
+    HoldsWords (c .loop-test .words) (takenBefore [] (linesIn (drop (entry .args .start) (entry .args .text .now))))
+held c =
+    let going = c .before .loop .inv in
+    elim (c .loop-test .came) [
+      | inl p ↦ rw (p .1) (taking-ends going (p .0 .left))
+      | inr q ↦
+          elim q [
+            | inl p ↦
+                let line = p .1 in
+                let told = p .3 in
+                rw (p .4) (taking-wrong going (p .0 .taken) (step-wrong _ _ (sym (told .given .1) ∙ line .ensures)))
+            | inr p ↦
+                let line = p .1 in
+                let value = p .3 in
+                let tested = p .6 in
+                let test = p .7 in
+                let here = step-value _ _ (sym (value .given .1) ∙ line .ensures) in
+                rw (p .8) (taking-stops going (p .0 .taken) (here .0) (tested .ensures) (test .taken))
+          ]
+    ]
 
-returns-2 : tie.Need-returns-2 Inv-loop μ-loop
-returns-2 c =
-    c .counted2 .ensures _ (taking-ends (c .before .before .before .before .before .loop .inv) (end-at (c .before .before)))
+returns : tie.Need-returns Inv-loop μ-loop
+returns c = c .counted .ensures _ (held (c .before .before))
 
 pub before-lines-spec : {M : Type 1} → statement M
 before-lines-spec =
@@ -97,18 +83,13 @@ before-lines-spec =
     (tie.spec
     Inv-loop
     μ-loop
-    start-requires
+    (λ c κs. search needs)
     loop-holds
-    line-at-requires
-    enum-known-span
-    enum-told
-    sub-see-bytes
-    part-see-bytes-start
-    part-see-bytes-end
-    see-bytes-requires
-    counted-requires
-    returns
+    (λ c κs. search needs)
+    (λ c. search needs)
+    (λ c. search needs)
+    (λ c κs. search needs)
     loop-less
     loop-again
-    counted-requires-2
-    returns-2)
+    (λ c κs. search needs)
+    returns)

@@ -1,135 +1,98 @@
--- The lines that the reader comes to, each where the line before it says, are the lines of the text (`gone-through`): at each a fault ends
--- reading with its number, else the line is taken and the reader goes on from the next place; at the end it comes to no line more.
+-- The line at each place is the first of those left (line-here): where it is none, or fails a test, reading ends with that refusal; else it is taken
+-- and stands in the value, and reading goes on at the place after it (going-next); at the end no block may be open.
+use mathlib.Core.Option.{some}
 use mathlib.Core.Path.{_≡_, sym, ap, _∙_}
 use native.Mathlib.Omega.{arith}
-use Prim.Native.Nat.{_-_}
+use Prim.Native.Nat.{_-_, _<_}
 use lib.ListN.{length}
 use borrow.Author.Needs.{needs}
-use Rattle.text_lines.specs.declared.Step.the-variants.{Line as AtLine, End as AtEnd}
-use Rattle.text_lines.specs.Span.{lineAt}
-use Rattle.text_lines.specs.Going.{Came}
-use Rattle.text_lines.specs.GoingLaws.{came}
+use Rattle.spec_text.specs.Text.{lineOf}
+use Rattle.text_fields.specs.LineIn.{lineBytes, placeAfter}
+use Rattle.text_fields.specs.LineInLaws.{step-value, step-wrong, line-here}
 use Rattle.text_read.specs.Parse.{parsedAs, Going}
-use Rattle.text_read.specs.ParseLaws.{going-first, going-few, going-refused, going-room, going-next, going-open, going-closed}
+use Rattle.text_read.specs.ParseLaws.{going-first, going-at, going-few, going-wrong, going-fault, going-room, going-next, going-open, going-closed}
 use Rattle.text_read.proofs.read_lines.Statement.{statement}
 use Rattle.text_read.proofs.read_lines.Tie as tie
 
 abbrev Inv-loop : tie.InvT-loop
-Inv-loop text start w₀ words₀ at₀ line₀ w words at line = Going text start w words at line
+Inv-loop text start w₀ words₀ at₀ w words at = Going text start w words at
 
 abbrev μ-loop : tie.MeasureT-loop
-μ-loop text start w₀ words₀ at₀ line₀ w words at line = length text - at
-
--- where the reader has come to a line
-line-there : (c : tie.After-known-told Inv-loop μ-loop) → AtLine (c .before .span .given .0 .0)
-    ≡ lineAt (c .before .before .before .before .before .before .before .before .before .args .text .now)
-    (c .before .before .before .before .loop .at) (c .before .before .before .before .loop .line)
-line-there c = sym (c .before .span .given .1) ∙ c .before .before .before .line-at .ensures
-
--- what that line is
-came-at : (c : tie.After-known-told Inv-loop μ-loop)
-    → Came (c .before .before .before .before .before .before .before .before .before .args .text .now)
-    (c .before .before .before .before .loop .at) (c .before .before .before .before .loop .line) (c .before .span .given .0 .0)
-came-at c = came _ _ _ (line-there c)
-
--- where it has come to the end
-end-at : (c : tie.After-enum-told Inv-loop μ-loop) → AtEnd
-    ≡ lineAt (c .before .before .before .before .before .before .before .before .args .text .now)
-    (c .before .before .before .loop .at) (c .before .before .before .loop .line)
-end-at c = sym (c .enum-told .given .1) ∙ c .before .before .line-at .ensures
-
-unused-cells-requires : tie.Need-unused-cells-requires Inv-loop μ-loop
-unused-cells-requires c κs = search needs
-
-start-requires : tie.Need-start-requires Inv-loop μ-loop
-start-requires c κs = search needs
+μ-loop text start w₀ words₀ at₀ w words at = length text - at
 
 loop-holds : tie.Need-loop-holds Inv-loop μ-loop
-loop-holds c =
-    let entry = c .before .before .before .before in
-    going-first (entry .args .text .now) (entry .args .start) (c .before .before .unused-cells .ensures)
-    (c .start .ensures .1)
+loop-holds c = going-first _ _ (c .before .before .unused-cells .ensures) (c .start .ensures .1)
 
-line-at-requires : tie.Need-line-at-requires Inv-loop μ-loop
-line-at-requires c κs = search needs
-
-enum-known-span : tie.Need-enum-known-span Inv-loop μ-loop
-enum-known-span c = search needs
-
-enum-told : tie.Need-enum-told Inv-loop μ-loop
-enum-told c = search needs
-
-sub-see-bytes : tie.Need-sub-see-bytes Inv-loop μ-loop
-sub-see-bytes c = came-at (c .before) .starts
-
-part-see-bytes-start : tie.Need-part-see-bytes-start Inv-loop μ-loop
-part-see-bytes-start c = let here = came-at (c .before) in omega arith
-
-part-see-bytes-end : tie.Need-part-see-bytes-end Inv-loop μ-loop
-part-see-bytes-end c = let here = came-at (c .before) in omega arith
-
-see-bytes-requires : tie.Need-see-bytes-requires Inv-loop μ-loop
-see-bytes-requires c κs = search needs
-
-refused-requires : tie.Need-refused-requires Inv-loop μ-loop
-refused-requires c κs = search needs
+add-refused : tie.Need-add-refused Inv-loop μ-loop
+add-refused c = let few = going-few (c .before .before .before .before .loop .inv) in search (needs, few)
 
 returns : tie.Need-returns Inv-loop μ-loop
 returns c =
-    c .refused .ensures
-    ∙ ap parsedAs
-    (going-refused (c .before .before .before .before .before .before .before .before .before .loop .inv)
-    (line-there (c .before .before .before .before .before)) (c .before .before .see-bytes .ensures) (c .before .if1 .taken))
+    let told = c .before in
+    let test = told .before .before .before in
+    let wrong = step-wrong _ _ (sym (told .enum-told .given .1) ∙ told .before .before .line-in .ensures) in
+    c .refused .ensures ∙ ap parsedAs (going-wrong (test .before .loop .inv) (test .loop-test .taken) wrong)
 
-mul-l : tie.Need-mul-l Inv-loop μ-loop
-mul-l c = omega (
-  arith,
-  going-room (c .before .before .before .before .before .before .before .before .before .loop .inv)
-      (c .before .before .see-bytes .ensures) (c .before .if1 .left),
-)
+-- the line that is taken, and the place after it
+taken-line : (c : tie.After-known-told Inv-loop μ-loop)
+    → let text = c .before .before .before .before .before .before .before .before .before .before .args .text .now in
+    let at = c .before .before .before .before .before .loop .at in
+    (lineOf (lineBytes text at) ≡ some (c .before .l .given .0 .0)) × (c .before .l .given .0 .1 .0 ≡ placeAfter text at)
+taken-line c = step-value _ _ (sym (c .before .l .given .1) ∙ c .before .before .before .line-in .ensures)
 
-element-set-from-l : tie.Need-element-set-from-l Inv-loop μ-loop
-element-set-from-l c = omega (
-  arith,
-  going-room (c .before .before .before .before .before .before .before .before .before .loop .inv)
-      (c .before .before .see-bytes .ensures) (c .before .if1 .left),
-)
-
-add-w : tie.Need-add-w Inv-loop μ-loop
-add-w c = omega (
-  arith,
-  going-room (c .before .before .before .before .before .before .before .before .before .loop .inv)
-      (c .before .before .see-bytes .ensures) (c .before .if1 .left),
-)
-
-loop-less : tie.Need-loop-less Inv-loop μ-loop
-loop-less c = let here = came-at (c .before .before .before .before .before) in omega arith
-
-loop-again : tie.Need-loop-again Inv-loop μ-loop
-loop-again c =
-    going-next (c .before .before .before .before .before .before .before .before .before .loop .inv)
-    (line-there (c .before .before .before .before .before)) (c .before .before .see-bytes .ensures) (c .before .if1 .left)
-
-depth-requires : tie.Need-depth-requires Inv-loop μ-loop
-depth-requires c κs = search needs
-
-sub-refused : tie.Need-sub-refused Inv-loop μ-loop
-sub-refused c = omega (arith, going-few (c .before .before .before .before .before .before .loop .inv) .1)
-
-refused-requires-2 : tie.Need-refused-requires-2 Inv-loop μ-loop
-refused-requires-2 c κs = search needs
+add-refused-2 : tie.Need-add-refused-2 Inv-loop μ-loop
+add-refused-2 c =
+    let few = going-few (c .before .before .before .before .before .before .before .before .loop .inv) in search (needs, few)
 
 returns-2 : tie.Need-returns-2 Inv-loop μ-loop
 returns-2 c =
+    let tested = c .before .before in
+    let line = tested .before .before in
+    let test = line .before .before .before .before in
     c .refused2 .ensures
     ∙ ap parsedAs
-    (going-open (c .before .before .before .before .before .before .before .loop .inv) (end-at (c .before .before .before .before))
-    (c .before .before .depth .ensures .1) (c .before .if2 .taken))
+    (going-fault (test .before .loop .inv) (test .loop-test .taken) (taken-line line .0) (tested .take-tested .ensures) (c .before .if1 .taken))
+
+room : (c : tie.Else1 Inv-loop μ-loop) → c .before .before .before .before .before .before .before .before .loop .w .count < 1616
+room c =
+    let tested = c .before in
+    let line = tested .before .before in
+    let test = line .before .before .before .before in
+    going-room (test .before .loop .inv) (test .loop-test .taken) (taken-line line .0) (tested .take-tested .ensures) (c .if1 .left)
+
+loop-less : tie.Need-loop-less Inv-loop μ-loop
+loop-less c =
+    let line = c .before .before .before in
+    let test = line .before .before .before .before in
+    let next = taken-line line .1 in
+    let inside = test .loop-test .taken in
+    let text = test .before .before .before .before .before .before .args .text .now in
+    let further = line-here text (test .before .loop .at) inside .1 in
+    omega arith
+
+loop-again : tie.Need-loop-again Inv-loop μ-loop
+loop-again c =
+    let tested = c .before in
+    let line = tested .before .before in
+    let test = line .before .before .before .before in
+    going-at (going-next (test .before .loop .inv) (test .loop-test .taken) (taken-line line .0) (tested .take-tested .ensures) (c .if1 .left))
+    (taken-line line .1)
+
+add-refused-3 : tie.Need-add-refused-3 Inv-loop μ-loop
+add-refused-3 c = let few = going-few (c .before .before .before .before .loop .inv) in search (needs, few)
 
 returns-3 : tie.Need-returns-3 Inv-loop μ-loop
 returns-3 c =
-    going-closed (c .before .before .before .before .before .before .loop .inv) (end-at (c .before .before .before))
-    (c .before .depth .ensures .1) (c .if2 .left)
+    let depth = c .before .before in
+    let test = depth .before .before in
+    c .refused3 .ensures
+    ∙ ap parsedAs (going-open (test .before .loop .inv) (test .loop-test .left) _ (depth .depth .ensures .1) (c .before .if2 .taken))
+
+returns-4 : tie.Need-returns-4 Inv-loop μ-loop
+returns-4 c =
+    let depth = c .before in
+    let test = depth .before .before in
+    going-closed (test .before .loop .inv) (test .loop-test .left) _ (depth .depth .ensures .1) (c .if2 .left)
 
 pub read-lines-spec : {M : Type 1} → statement M
 read-lines-spec =
@@ -137,25 +100,26 @@ read-lines-spec =
     (tie.spec
     Inv-loop
     μ-loop
-    unused-cells-requires
-    start-requires
+    (λ c κs. search needs)
+    (λ c κs. search needs)
     loop-holds
-    line-at-requires
-    enum-known-span
-    enum-told
-    sub-see-bytes
-    part-see-bytes-start
-    part-see-bytes-end
-    see-bytes-requires
-    refused-requires
+    (λ c κs. search needs)
+    (λ c. search needs)
+    (λ c. search needs)
+    add-refused
+    (λ c κs. search needs)
     returns
-    mul-l
-    element-set-from-l
-    add-w
+    (λ c κs. search needs)
+    add-refused-2
+    (λ c κs. search needs)
+    returns-2
+    (λ c. omega (arith, room c))
+    (λ c. omega (arith, room c))
+    (λ c. omega (arith, room c))
     loop-less
     loop-again
-    depth-requires
-    sub-refused
-    refused-requires-2
-    returns-2
-    returns-3)
+    (λ c κs. search needs)
+    add-refused-3
+    (λ c κs. search needs)
+    returns-3
+    returns-4)

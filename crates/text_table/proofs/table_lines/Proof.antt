@@ -3,18 +3,18 @@
 use borrow.Author.Needs.{needs}
 use native.Mathlib.Omega.{arith}
 use mathlib.Core.Option.{some}
-use mathlib.Core.Path.{_≡_, refl, sym, subst, _∙_}
-use Prim.Native.Nat.{_-_, _<_}
+use mathlib.Core.Path.{_≡_, refl, sym, _∙_}
+use Prim.Native.Nat.{_-_}
 use lib.ListN.{length}
 use Rattle.spec_text.specs.Text.{lineOf}
 use Rattle.lent_words.specs.Lent.{Lent}
 use Rattle.text_fields.specs.LineIn.{lineBytes, placeAfter}
-use Rattle.text_fields.specs.LineInLaws.{step-value, step-wrong}
+use Rattle.text_fields.specs.LineInLaws.{step-value, step-wrong, line-here}
 use Rattle.text_table.specs.Tabled.{linesRead}
 use Rattle.text_table.specs.Tabled.TextTabled.{unread}
 use Rattle.text_table.specs.Taking.{Going}
-use Rattle.text_table.specs.TakingLaws.{line-here, going-first, going-at, going-few, going-long, going-wrong, going-fault, going-room}
-use Rattle.text_table.specs.TakingLaws.{going-next, going-open, going-closed, started-long}
+use Rattle.text_table.specs.TakingLaws.{going-first, going-at, going-few, going-long, going-wrong, going-fault, going-room}
+use Rattle.text_table.specs.TakingLaws.{going-next, going-open, going-closed, started-long, tested-long}
 use Rattle.text_table.proofs.table_lines.Statement.{statement}
 use Rattle.text_table.proofs.table_lines.Tie as tie
 
@@ -78,7 +78,7 @@ returns-2 c =
     let loop = c11 .before in (
       unread _ _ (going-fault (loop .loop .inv .0) (c11 .loop-test .taken) (taken-line c7 .0) (c4 .take-line .ensures) (c .before .if1 .taken))
           (c .refused2 .ensures),
-      c4 .take-line .ensures .lent ∙ loop .loop .inv .1 ∙ started-long _ (loop .before .start .ensures .0),
+      tested-long (c4 .take-line .ensures .tested) ∙ loop .loop .inv .1 ∙ started-long _ (loop .before .start .ensures .0),
       same-length-2 c,
     )
 
@@ -108,7 +108,7 @@ loop-again c =
     let c10 = c6 .before .before .before .before in (
       going-at (going-next (c10 .before .loop .inv .0) (c10 .loop-test .taken) (taken-line c6 .0) (c3 .take-line .ensures) (c .if1 .left))
           (taken-line c6 .1),
-      c3 .take-line .ensures .lent ∙ c10 .before .loop .inv .1,
+      tested-long (c3 .take-line .ensures .tested) ∙ c10 .before .loop .inv .1,
     )
 
 add-refused-3 : tie.Need-add-refused-3 Inv-loop μ-loop

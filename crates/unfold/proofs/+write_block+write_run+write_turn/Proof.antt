@@ -1,11 +1,9 @@
 -- A run lays a stretch of statements and the block after it, turn after turn (`Running`); the block takes the quotient of the number by what the run
--- after it counts, that run the remainder (running-next). It ends where the area is full, or at a line that begins neither (stretch-full,
--- stretch-past, stretch-stop). What is found in the words is what is counted (known-run). A block is its turns (`Parted`); a turn is a stretch and
--- the run after it (turn-on). The measure is three times `left`, one more for a turn, and two more for a block. The answers stand in the order of the
+-- after it counts, that run the remainder (running-next). It ends where a stretch says so (stretch-whole). What is found in the words is what is
+-- counted (known-run). A block is its turns (`Parted`); a turn is a stretch and the run after it (turn-on). The measure is three times `left`, one more for a turn, and two more for a block. The answers stand in the order of the
 -- code; `search needs` finds those that are plain.
 use Rattle.unfold.proofs.PathLaws.{known-run, end-known}
 use Rattle.unfold.proofs.LaidLaws.{lays-nothing, lays-as, lays-both, lays-inside, lays-length}
-use Rattle.unfold.proofs.WriteLineLaws.{less-lines}
 use Rattle.unfold.proofs.StretchLaws.{
   Running,
   running-start,
@@ -14,17 +12,12 @@ use Rattle.unfold.proofs.StretchLaws.{
   running-next,
   over-many,
   stretch-inside,
-  stretch-full,
-  stretch-past,
-  stretch-stop,
+  stretch-whole,
   stretch-left,
   stretch-known,
-  stretch-block,
   block-ends,
   turn-left,
-  turn-full,
-  turn-past,
-  turn-stop,
+  turn-whole,
   turn-known,
   turn-on,
 }
@@ -51,8 +44,6 @@ use Rattle.unfold.proofs.block_end.Reads as block-end-reads
 use Rattle.unfold.proofs.block_part.Reads as block-part-reads
 use Rattle.unfold.proofs.write_stretch.Reads as write-stretch-reads
 use Rattle.unfold_count.proofs.run_at.Reads as run-at-reads
-use Rattle.value_tables.proofs.code_at.Reads as code-at-reads
-use Rattle.value_tables.proofs.lines_in.Reads as lines-in-reads
 use Rattle.unfold.proofs.+write_block+write_run+write_turn.{statement}
 use Rattle.unfold.proofs.+write_block+write_run+write_turn.Tie.{close}
 
@@ -138,10 +129,6 @@ pub +write-block+write-run+write-turn-spec : {M : Type 1} → statement M
     (λ t. write-run-lts.spec (
       write-stretch-reads.Asked,
       write-stretch-reads.Learnt,
-      lines-in-reads.Asked,
-      lines-in-reads.Learnt,
-      code-at-reads.Asked,
-      code-at-reads.Learnt,
       block-end-reads.Asked,
       block-end-reads.Learnt,
       run-at-reads.Asked,
@@ -168,203 +155,114 @@ pub +write-block+write-run+write-turn-spec : {M : Type 1} → statement M
     let c3 = c .before .before .before in
     let c6 = c3 .before .before .before in
     let c10 = c6 .before .before .before .before in
-    omega (arith, codes-many (c10 .args .lines .now), c3 .write-stretch .ensures .laid .reach, c6 .loop .inv .1))
+    omega (arith, stretch-inside _ _ _ _ _ _ _ _ _ _ _ _ (c6 .loop .inv .2) _ _ (c3 .write-stretch .ensures), c10 .good .1 .1 .1 .1 .1 .1 .1 .0))
     (λ c.
     let c4 = c .before .before .before .before in
     let c7 = c4 .before .before .before in
-    let c11 = c7 .before .before .before .before in
-    omega (arith, stretch-inside _ _ _ _ _ _ _ _ _ _ _ _ (c7 .loop .inv .2) _ _ (c4 .write-stretch .ensures), c11 .good .1 .1 .1 .1 .1 .1 .1 .0))
+    over-many _ _ _ _ _ _ _ _ _ _ _ _ (c7 .loop .inv .2) _ _ (c4 .write-stretch .ensures))
+    (λ c.
+    let c4 = c .before .before .before .before in
+    let c7 = c4 .before .before .before in
+    stretch-whole _ _ _ _ _ _ _ _ _ _ _ _ (c7 .loop .inv .2) _ _ (c4 .write-stretch .ensures) (c .if1 .taken))
     (λ c.
     let c5 = c .before .before .before .before .before in
     let c8 = c5 .before .before .before in
     let c12 = c8 .before .before .before .before in
-    over-many _ _ _ _ _ _ _ _ _ _ _ _ (c8 .loop .inv .2) _ _ (c5 .write-stretch .ensures))
+    omega (arith, codes-many (c12 .args .lines .now), c5 .write-stretch .ensures .laid .reach, c8 .loop .inv .1))
     (λ c.
-    let c5 = c .before .before .before .before .before in
-    let c8 = c5 .before .before .before in
-    let c12 = c8 .before .before .before .before in
-    stretch-full _ _ _ _ _ _ _ _ _ _ _ _ (c8 .loop .inv .2) _ _ (c5 .write-stretch .ensures) (c .if1 .taken))
-    (λ c κs. search needs)
+    let c2 = c .before .before in
+    let c6 = c2 .before .before .before .before in
+    let c9 = c6 .before .before .before in
+    omega (arith, stretch-left _ _ _ _ _ _ _ _ _ _ _ _ (c9 .loop .inv .2) _ _ (c6 .write-stretch .ensures) (c2 .if1 .left)))
     (λ c.
-    let c7 = c .before .before .before .before .before .before .before in
-    let c10 = c7 .before .before .before in
-    let c14 = c10 .before .before .before .before in
-    over-many _ _ _ _ _ _ _ _ _ _ _ _ (c10 .loop .inv .2) _ _ (c7 .write-stretch .ensures))
-    (λ c.
-    let c1 = c .before in
-    let c7 = c1 .before .before .before .before .before .before in
-    let c10 = c7 .before .before .before in
-    let c14 = c10 .before .before .before .before in
-    stretch-past _ _ _ _ _ _ _ _ _ _ _ _ (c10 .loop .inv .2) _ _ (c7 .write-stretch .ensures) (omega (arith, c1 .lines-in .ensures, c .if2 .taken)))
-    (λ c κs. search needs)
-    (λ c.
-    let c9 = c .before .before .before .before .before .before .before .before .before in
-    let c12 = c9 .before .before .before in
-    let c16 = c12 .before .before .before .before in
-    over-many _ _ _ _ _ _ _ _ _ _ _ _ (c12 .loop .inv .2) _ _ (c9 .write-stretch .ensures))
-    (λ c.
-    let c1 = c .before in
-    let c2 = c1 .before in
-    let c3 = c2 .before in
-    let c9 = c3 .before .before .before .before .before .before in
-    let c12 = c9 .before .before .before in
-    let c16 = c12 .before .before .before .before in
-    let inside = less-lines _ _ _ (c3 .lines-in .ensures) (c2 .if2 .left) in
-    stretch-stop _ _ _ _ _ _ _ _ _ _ _ _ (c12 .loop .inv .2) _ _ (c9 .write-stretch .ensures) inside (omega (
-      arith,
-      c1 .code-at .ensures,
-      c .if3 .taken,
-    )))
-    (λ c.
-    let c3 = c .before .before .before in
-    let c4 = c3 .before in
-    let c10 = c4 .before .before .before .before .before .before in
-    let c13 = c10 .before .before .before in
-    let c17 = c13 .before .before .before .before in
-    let inside = less-lines _ _ _ (c4 .lines-in .ensures) (c3 .if2 .left) in
-    omega (arith, stretch-left _ _ _ _ _ _ _ _ _ _ _ _ (c13 .loop .inv .2) _ _ (c10 .write-stretch .ensures) inside))
-    (λ c.
-    let c3 = c .before .before .before in
-    let c4 = c3 .before in
-    let c10 = c4 .before .before .before .before .before .before in
-    let c13 = c10 .before .before .before in
-    let c17 = c13 .before .before .before .before in
-    let inside = less-lines _ _ _ (c4 .lines-in .ensures) (c3 .if2 .left) in
-    omega (arith, stretch-left _ _ _ _ _ _ _ _ _ _ _ _ (c13 .loop .inv .2) _ _ (c10 .write-stretch .ensures) inside))
+    let c2 = c .before .before in
+    let c6 = c2 .before .before .before .before in
+    let c9 = c6 .before .before .before in
+    omega (arith, stretch-left _ _ _ _ _ _ _ _ _ _ _ _ (c9 .loop .inv .2) _ _ (c6 .write-stretch .ensures) (c2 .if1 .left)))
     (λ c κs.
-    let c3 = c .before .before .before in
-    let c4 = c3 .before in
-    let c5 = c4 .before in
-    let c10 = c5 .before .before .before .before .before in
-    let c13 = c10 .before .before .before in
-    let c17 = c13 .before .before .before .before in
-    let inside = less-lines _ _ _ (c4 .lines-in .ensures) (c3 .if2 .left) in (
-      inside,
-      stretch-block _ _ _ _ _ _ _ _ _ _ _ _ (c13 .loop .inv .2) _ _ (c10 .write-stretch .ensures) inside (c5 .if1 .left),
-      stretch-known _ _ _ _ _ _ _ _ _ _ _ _ (c13 .loop .inv .2) _ _ (c10 .write-stretch .ensures) inside,
-    ))
+    let c2 = c .before .before in
+    let c6 = c2 .before .before .before .before in
+    let c9 = c6 .before .before .before in
+    let block = c6 .write-stretch .ensures .block (c2 .if1 .left) in
+    (block .inside, block .some, stretch-known _ _ _ _ _ _ _ _ _ _ _ _ (c9 .loop .inv .2) _ _ (c6 .write-stretch .ensures) (c2 .if1 .left)))
     (λ c κs. search needs)
     (λ c.
     let c1 = c .before in
-    let c5 = c1 .before .before .before .before in
-    let c6 = c5 .before in
-    let c12 = c6 .before .before .before .before .before .before in
-    let c15 = c12 .before .before .before in
-    let c19 = c15 .before .before .before .before in
-    let inside = less-lines _ _ _ (c6 .lines-in .ensures) (c5 .if2 .left) in
-    let known = stretch-known _ _ _ _ _ _ _ _ _ _ _ _ (c15 .loop .inv .2) _ _ (c12 .write-stretch .ensures) inside in
-    let onward = end-known _ _ _ _ known inside _ (c1 .block-end .ensures) in
+    let c4 = c1 .before .before .before in
+    let c8 = c4 .before .before .before .before in
+    let c11 = c8 .before .before .before in
+    let known = stretch-known _ _ _ _ _ _ _ _ _ _ _ _ (c11 .loop .inv .2) _ _ (c8 .write-stretch .ensures) (c4 .if1 .left) in
+    let onward = end-known _ _ _ _ known (c8 .write-stretch .ensures .block (c4 .if1 .left) .inside) _ (c1 .block-end .ensures) in
     let more = known-run _ _ _ _ onward _ (c .run-at .ensures) in
     omega (arith, more .counting .positive))
     (λ c.
-    let c12 = c .before .before .before .before .before .before .before .before .before .before .before .before in
-    let c15 = c12 .before .before .before in
-    let c19 = c15 .before .before .before .before in
-    omega (arith, stretch-inside _ _ _ _ _ _ _ _ _ _ _ _ (c15 .loop .inv .2) _ _ (c12 .write-stretch .ensures), c19 .good .1 .1 .1 .1 .1 .1 .1 .0))
+    let c8 = c .before .before .before .before .before .before .before .before in
+    let c11 = c8 .before .before .before in
+    let c15 = c11 .before .before .before .before in
+    omega (arith, stretch-inside _ _ _ _ _ _ _ _ _ _ _ _ (c11 .loop .inv .2) _ _ (c8 .write-stretch .ensures), c15 .good .1 .1 .1 .1 .1 .1 .1 .0))
     (λ c. search needs)
     (λ c. search needs)
     (λ c. search needs)
     (λ c κs.
-    let c6 = c .before .before .before .before .before .before in
-    let c7 = c6 .before in
-    let c13 = c7 .before .before .before .before .before .before in
-    let c16 = c13 .before .before .before in
-    let c20 = c16 .before .before .before .before in
-    let inside = less-lines _ _ _ (c7 .lines-in .ensures) (c6 .if2 .left) in (
-      omega (
-        arith,
-        c20 .pre .0,
-        c16 .loop .inv .0,
-        stretch-left _ _ _ _ _ _ _ _ _ _ _ _ (c16 .loop .inv .2) _ _
-            (c13 .write-stretch .ensures) inside,
-      ),
-      (
-        inside,
-        stretch-known _ _ _ _ _ _ _ _ _ _ _ _ (c16 .loop .inv .2) _ _
-            (c13 .write-stretch .ensures) inside,
-      ),
+    let c5 = c .before .before .before .before .before in
+    let c9 = c5 .before .before .before .before in
+    let c12 = c9 .before .before .before in
+    let c16 = c12 .before .before .before .before in (
+      omega (arith, c16 .pre .0, c12 .loop .inv .0, stretch-left _ _ _ _ _ _ _ _ _ _ _ _ (c12 .loop .inv .2) _ _ (c9 .write-stretch .ensures) (c5 .if1 .left)),
+      (c9 .write-stretch .ensures .block (c5 .if1 .left) .inside, stretch-known _ _ _ _ _ _ _ _ _ _ _ _ (c12 .loop .inv .2) _ _ (c9 .write-stretch .ensures) (c5 .if1 .left)),
     ))
     (λ c.
     let c2 = c .before .before in
     let c4 = c2 .before .before in
     let c5 = c4 .before in
-    let c7 = c5 .before .before in
-    let c8 = c7 .before in
-    let c9 = c8 .before in
-    let c10 = c9 .before in
-    let c11 = c10 .before in
-    let c16 = c11 .before .before .before .before .before in
-    let c19 = c16 .before .before .before in
-    let c23 = c19 .before .before .before .before in
-    let inside = less-lines _ _ _ (c10 .lines-in .ensures) (c9 .if2 .left) in
-    let known = stretch-known _ _ _ _ _ _ _ _ _ _ _ _ (c19 .loop .inv .2) _ _ (c16 .write-stretch .ensures) inside in
-    let onward = end-known _ _ _ _ known inside _ (c5 .block-end .ensures) in
+    let c8 = c5 .before .before .before in
+    let c12 = c8 .before .before .before .before in
+    let c15 = c12 .before .before .before in
+    let c19 = c15 .before .before .before .before in
+    let known = stretch-known _ _ _ _ _ _ _ _ _ _ _ _ (c15 .loop .inv .2) _ _ (c12 .write-stretch .ensures) (c8 .if1 .left) in
+    let onward = end-known _ _ _ _ known (c12 .write-stretch .ensures .block (c8 .if1 .left) .inside) _ (c5 .block-end .ensures) in
     let more = known-run _ _ _ _ onward _ (c4 .run-at .ensures) in
-    let next = running-next _ _ _ _ _ _ _ _ _ _ _ _ (c19 .loop .inv .2) _ _ (c16 .write-stretch .ensures) inside (c11 .if1 .left)
-    (omega (arith, c8 .code-at .ensures, c7 .if3 .left)) _ _ (c5 .block-end .ensures) more onward _ _ (c2 .write-block .ensures) in
-    omega (arith, next .laid .inside, c23 .good .1 .1 .1 .1 .1 .1 .1 .0))
+    let next = running-next _ _ _ _ _ _ _ _ _ _ _ _ (c15 .loop .inv .2) _ _ (c12 .write-stretch .ensures) (c8 .if1 .left) _ _ (c5 .block-end .ensures) more onward _ _ (c2 .write-block .ensures) in
+    omega (arith, next .laid .inside, c19 .good .1 .1 .1 .1 .1 .1 .1 .0))
     (λ c.
     let c4 = c .before .before .before .before in
     let c5 = c4 .before in
-    let c9 = c5 .before .before .before .before in
-    let c10 = c9 .before in
-    let c16 = c10 .before .before .before .before .before .before in
-    let c19 = c16 .before .before .before in
-    let c23 = c19 .before .before .before .before in
-    let inside = less-lines _ _ _ (c10 .lines-in .ensures) (c9 .if2 .left) in
-    let known = stretch-known _ _ _ _ _ _ _ _ _ _ _ _ (c19 .loop .inv .2) _ _ (c16 .write-stretch .ensures) inside in
-    let onward = end-known _ _ _ _ known inside _ (c5 .block-end .ensures) in
+    let c8 = c5 .before .before .before in
+    let c12 = c8 .before .before .before .before in
+    let c15 = c12 .before .before .before in
+    let known = stretch-known _ _ _ _ _ _ _ _ _ _ _ _ (c15 .loop .inv .2) _ _ (c12 .write-stretch .ensures) (c8 .if1 .left) in
+    let onward = end-known _ _ _ _ known (c12 .write-stretch .ensures .block (c8 .if1 .left) .inside) _ (c5 .block-end .ensures) in
     let more = known-run _ _ _ _ onward _ (c4 .run-at .ensures) in
     omega (arith, more .counting .positive))
     (λ c.
-    let c9 = c .before .before .before .before .before .before .before .before .before in
-    let c10 = c9 .before in
-    let c16 = c10 .before .before .before .before .before .before in
-    let c19 = c16 .before .before .before in
-    let c23 = c19 .before .before .before .before in
-    let inside = less-lines _ _ _ (c10 .lines-in .ensures) (c9 .if2 .left) in
-    omega (arith, stretch-left _ _ _ _ _ _ _ _ _ _ _ _ (c19 .loop .inv .2) _ _ (c16 .write-stretch .ensures) inside))
+    let c8 = c .before .before .before .before .before .before .before .before in
+    let c12 = c8 .before .before .before .before in
+    let c15 = c12 .before .before .before in
+    omega (arith, stretch-left _ _ _ _ _ _ _ _ _ _ _ _ (c15 .loop .inv .2) _ _ (c12 .write-stretch .ensures) (c8 .if1 .left)))
     (λ c.
     let c2 = c .before .before in
     let c4 = c2 .before .before in
     let c5 = c4 .before in
-    let c7 = c5 .before .before in
-    let c8 = c7 .before in
-    let c9 = c8 .before in
-    let c10 = c9 .before in
-    let c11 = c10 .before in
-    let c16 = c11 .before .before .before .before .before in
-    let c19 = c16 .before .before .before in
-    let c23 = c19 .before .before .before .before in
-    let inside = less-lines _ _ _ (c10 .lines-in .ensures) (c9 .if2 .left) in
-    let known = stretch-known _ _ _ _ _ _ _ _ _ _ _ _ (c19 .loop .inv .2) _ _ (c16 .write-stretch .ensures) inside in
-    let onward = end-known _ _ _ _ known inside _ (c5 .block-end .ensures) in
+    let c8 = c5 .before .before .before in
+    let c12 = c8 .before .before .before .before in
+    let c15 = c12 .before .before .before in
+    let c19 = c15 .before .before .before .before in
+    let known = stretch-known _ _ _ _ _ _ _ _ _ _ _ _ (c15 .loop .inv .2) _ _ (c12 .write-stretch .ensures) (c8 .if1 .left) in
+    let onward = end-known _ _ _ _ known (c12 .write-stretch .ensures .block (c8 .if1 .left) .inside) _ (c5 .block-end .ensures) in
     let more = known-run _ _ _ _ onward _ (c4 .run-at .ensures) in (
-      omega (arith, c19 .loop .inv .0),
-      omega (
-        arith,
-        codes-many (c23 .args .lines .now),
-        block-ends _ _ _ _ _ _ _ _ _ _ _ _ (c19 .loop .inv .2) _ _
-            (c16 .write-stretch .ensures) inside _ (c5 .block-end .ensures),
-      ),
-      running-next _ _ _ _ _ _ _ _ _ _ _ _ (c19 .loop .inv .2) _ _ (c16 .write-stretch .ensures) inside (c11 .if1 .left)
-          (omega (arith, c8 .code-at .ensures, c7 .if3 .left)) _ _ (c5 .block-end .ensures) more onward _ _ (c2 .write-block .ensures),
+      omega (arith, c15 .loop .inv .0),
+      omega (arith, codes-many (c19 .args .lines .now), block-ends _ _ _ _ _ _ _ _ _ _ _ _ (c15 .loop .inv .2) _ _ (c12 .write-stretch .ensures) (c8 .if1 .left) _ (c5 .block-end .ensures)),
+      running-next _ _ _ _ _ _ _ _ _ _ _ _ (c15 .loop .inv .2) _ _ (c12 .write-stretch .ensures) (c8 .if1 .left) _ _ (c5 .block-end .ensures) more onward _ _ (c2 .write-block .ensures),
     ))
     (λ c.
     let c1 = c .before in
-    let c5 = c1 .before .before .before .before in
     running-many _ _ _ _ _ _ _ _ _ _ _ _ (c1 .loop .inv .2))
     (λ c.
     let c1 = c .before in
-    let c5 = c1 .before .before .before .before in
     running-end _ _ _ _ _ _ _ _ _ _ _ _ (c1 .loop .inv .2) (c .loop-test .left)))
     λ t. write-turn-lts.spec (
       write-stretch-reads.Asked,
       write-stretch-reads.Learnt,
-      lines-in-reads.Asked,
-      lines-in-reads.Learnt,
-      code-at-reads.Asked,
-      code-at-reads.Learnt,
       write-run-below t,
       write-run.Post,
     )
@@ -375,47 +273,33 @@ pub +write-block+write-run+write-turn-spec : {M : Type 1} → statement M
     (λ c.
     let c3 = c .before .before .before in
     let c8 = c3 .before .before .before .before .before in
-    turn-full _ _ _ _ _ _ _ _ _ (c8 .pre .1) _ _ (c3 .write-stretch .ensures) (c .if1 .taken))
+    turn-whole _ _ _ _ _ _ _ _ _ (c8 .pre .1) _ _ (c3 .write-stretch .ensures) (c .if1 .taken))
     (λ c.
     let c3 = c .before .before .before in
     let c8 = c3 .before .before .before .before .before in
     omega (arith, codes-many (c8 .args .lines .now), c3 .write-stretch .ensures .laid .reach))
-    (λ c κs. search needs)
-    (λ c. c .before .before .before .before .before .write-stretch .ensures .laid .many)
-    (λ c.
-    let c5 = c .before .before .before .before .before in
-    let c10 = c5 .before .before .before .before .before in
-    turn-past _ _ _ _ _ _ _ _ _ (c10 .pre .1) _ _ (c5 .write-stretch .ensures) (omega (arith, c .before .lines-in .ensures, c .if2 .taken)))
-    (λ c κs. search needs)
-    (λ c. c .before .before .before .before .before .before .before .write-stretch .ensures .laid .many)
     (λ c.
     let c3 = c .before .before .before in
-    let c7 = c3 .before .before .before .before in
-    let c12 = c7 .before .before .before .before .before in
-    let inside = less-lines _ _ _ (c3 .lines-in .ensures) (c .before .before .if2 .left) in
-    turn-stop _ _ _ _ _ _ _ _ _ (c12 .pre .1) _ _ (c7 .write-stretch .ensures) inside (omega (arith, c .before .code-at .ensures, c .if3 .taken)))
-    (λ c.
-    let c7 = c .before .before .before .before .before .before .before in
-    let c12 = c7 .before .before .before .before .before in
-    omega (arith, turn-left _ _ _ _ _ _ _ (c12 .args .k) _ (c12 .pre .1) _ _ (c7 .write-stretch .ensures)))
+    let c8 = c3 .before .before .before .before .before in
+    omega (arith, turn-left _ _ _ _ _ _ _ (c8 .args .k) _ (c8 .pre .1) _ _ (c3 .write-stretch .ensures)))
     (λ c. search needs)
     (λ c. search needs)
     (λ c. search needs)
     (λ c. search needs)
     (λ c κs.
-    let c8 = c .before .before .before .before .before .before .before .before in
-    let c13 = c8 .before .before .before .before .before in
-    (search needs, turn-known _ _ _ _ _ _ _ (c13 .args .k) _ (c13 .pre .1) _ _ (c8 .write-stretch .ensures)))
+    let c4 = c .before .before .before .before in
+    let c9 = c4 .before .before .before .before .before in
+    (search needs, turn-known _ _ _ _ _ _ _ (c9 .args .k) _ (c9 .pre .1) _ _ (c4 .write-stretch .ensures)))
     (λ c.
-    let c11 = c .before .before .before .before .before .before .before .before .before .before .before in
-    let c16 = c11 .before .before .before .before .before in
-    let all = turn-on _ _ _ _ _ _ _ _ _ (c16 .pre .1) _ _ (c11 .write-stretch .ensures) _ _ (c .before .before .write-run .ensures) in
-    omega (arith, all .inside, c16 .good .1 .1 .1 .1 .1 .1 .1 .0))
+    let c7 = c .before .before .before .before .before .before .before in
+    let c12 = c7 .before .before .before .before .before in
+    let all = turn-on _ _ _ _ _ _ _ _ _ (c12 .pre .1) _ _ (c7 .write-stretch .ensures) _ _ (c .before .before .write-run .ensures) in
+    omega (arith, all .inside, c12 .good .1 .1 .1 .1 .1 .1 .1 .0))
     (λ c.
-    let c11 = c .before .before .before .before .before .before .before .before .before .before .before in
-    let c16 = c11 .before .before .before .before .before in
-    lays-length _ _ _ _ (turn-on _ _ _ _ _ _ _ _ _ (c16 .pre .1) _ _ (c11 .write-stretch .ensures) _ _ (c .before .before .write-run .ensures)))
+    let c7 = c .before .before .before .before .before .before .before in
+    let c12 = c7 .before .before .before .before .before in
+    lays-length _ _ _ _ (turn-on _ _ _ _ _ _ _ _ _ (c12 .pre .1) _ _ (c7 .write-stretch .ensures) _ _ (c .before .before .write-run .ensures)))
     (λ c.
-    let c11 = c .before .before .before .before .before .before .before .before .before .before .before in
-    let c16 = c11 .before .before .before .before .before in
-    turn-on _ _ _ _ _ _ _ _ _ (c16 .pre .1) _ _ (c11 .write-stretch .ensures) _ _ (c .before .before .write-run .ensures))
+    let c7 = c .before .before .before .before .before .before .before in
+    let c12 = c7 .before .before .before .before .before in
+    turn-on _ _ _ _ _ _ _ _ _ (c12 .pre .1) _ _ (c7 .write-stretch .ensures) _ _ (c .before .before .write-run .ensures))

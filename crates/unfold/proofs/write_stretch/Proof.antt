@@ -1,5 +1,5 @@
 -- Before each turn the m lines passed are statements and their words are laid (`Stretching`); a statement more is one word more (stretch-next). It
--- ends at the first line that is none or where the area does.
+-- ends at the first line that is none (stretched-past, stretched-at) or where the area does (stretched-full).
 use borrow.Author.Needs.{needs}
 use native.Mathlib.Omega.{arith}
 use mathlib.Core.Path.{sym, _∙_}
@@ -9,7 +9,7 @@ use Rattle.value_tables.specs.Lines.{tableCodes}
 use Rattle.value_tables.specs.TableLaws.{codes-many}
 use Rattle.unfold.specs.LineWords.{wordsBy, marksBy}
 use Rattle.unfold.specs.Laid.{Stretching}
-use Rattle.unfold.proofs.StretchLaws.{stretch-none, stretch-next}
+use Rattle.unfold.proofs.StretchLaws.{stretch-none, stretch-next, stretched-full, stretched-past, stretched-at}
 use Rattle.unfold.proofs.write_stretch.Statement.{statement}
 use Rattle.unfold.proofs.write_stretch.Tie as tie
 
@@ -30,26 +30,17 @@ same-length : tie.Need-same-length Inv-loop μ-loop
 same-length c = c .before .before .loop .inv .many
 
 returns : tie.Need-returns Inv-loop μ-loop
-returns c =
-    record {
-      laid = c .before .before .loop .inv;
-      ends = λ room inside zero. absurd (omega (
-        arith,
-        c .before .before .before .lines-in .ensures,
-        c .if1 .taken,
-        inside,
-      ));
-    }
+returns c = stretched-past _ _ _ _ _ _ _ _ _ (c .before .before .loop .inv) (omega (arith, c .before .before .before .lines-in .ensures, c .if1 .taken))
 
 same-length-2 : tie.Need-same-length-2 Inv-loop μ-loop
 same-length-2 c = c .before .before .before .before .loop .inv .many
 
 returns-2 : tie.Need-returns-2 Inv-loop μ-loop
-returns-2 c = record {
-  laid = c .before .before .before .before .loop .inv;
-  ends = λ room inside zero. c .if2 .taken
-      (c .before .code-at .ensures ∙ zero);
-}
+returns-2 c =
+    let c2 = c .before .before in
+    let c4 = c2 .before .before in
+    stretched-at _ _ _ _ _ _ _ _ _ (c4 .loop .inv) (omega (arith, c4 .before .lines-in .ensures, c2 .if1 .left)) _ (c .before .code-at .ensures)
+    (c .if2 .taken)
 
 place-word-requires : tie.Need-place-word-requires Inv-loop μ-loop
 place-word-requires c κs = omega (arith, c .before .before .before .before .before .lines-in .ensures, c .before .before .if1 .left)
@@ -74,8 +65,7 @@ same-length-3 : tie.Need-same-length-3 Inv-loop μ-loop
 same-length-3 c = c .before .loop .inv .many
 
 returns-3 : tie.Need-returns-3 Inv-loop μ-loop
-returns-3 c =
-    record { laid = c .before .loop .inv; ends = λ room inside zero. absurd (omega (arith, c .loop-test .left, c .before .loop .inv .many, room)) }
+returns-3 c = stretched-full _ _ _ _ _ _ _ _ _ (c .before .loop .inv) (c .loop-test .left)
 
 pub write-stretch-spec : {M : Type 1} → statement M
 write-stretch-spec =

@@ -3,7 +3,6 @@
 use Rattle.value_given.specs.DecideLaws.{step-unfit, step-fault, step-taken}
 use Rattle.value_length.specs.Size.{sizeSaid}
 use mathlib.Core.Path.{sym, ap, _∙_}
-use lib.ListN.{take}
 use borrow.Author.Needs.{needs}
 use Rattle.value_given.proofs.step.Statement.{statement}
 use Rattle.value_given.proofs.step.Tie as tie
@@ -21,23 +20,19 @@ returns c = step-unfit _ _ (sym (c .before .before .line-size .ensures) ∙ ap s
 enum-known-found : tie.Need-enum-known-found
 enum-known-found c = search needs
 
-check-requires : tie.Need-check-requires
-check-requires c κs = search needs
+take-tested-requires : tie.Need-take-tested-requires
+take-tested-requires c κs = search needs
 
 returns-2 : tie.Need-returns-2
-returns-2 c = step-fault _ _ _ (c .if1 .taken) (c .before .check .ensures .1)
-
-take-requires : tie.Need-take-requires
-take-requires c κs = search needs
+returns-2 c = step-fault (c .before .take-tested .ensures) (c .if1 .taken)
 
 returns-3 : tie.Need-returns-3
 unfolding sizeSaid
 returns-3 c =
-    let checked = c .before .before .before in
-    let found = checked .before .before .before in
+    let tested = c .before in
+    let found = tested .before .before .before in
     let sized = found .before .before in
-    step-taken _ _ _ _ _ (sym (sized .line-size .ensures) ∙ ap sizeSaid (found .found .given .1)) (c .before .before .if1 .left)
-    (checked .check .ensures .1) (c .take .ensures .1)
+    step-taken _ (sym (sized .line-size .ensures) ∙ ap sizeSaid (found .found .given .1)) (tested .take-tested .ensures) (c .if1 .left)
 
 pub step-spec : {M : Type 1} → statement M
 step-spec =
@@ -47,7 +42,6 @@ step-spec =
     enum-told
     returns
     enum-known-found
-    check-requires
+    take-tested-requires
     returns-2
-    take-requires
     returns-3)

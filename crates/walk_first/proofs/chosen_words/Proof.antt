@@ -2,7 +2,7 @@
 use Rattle.walk_first.specs.FirstSteps.{chosenWord, chosenWords}
 use Rattle.walk_reach.specs.Layers.{filled}
 use Rattle.walk_reach.specs.FilledLaws.{filled-turn}
-use Rattle.walk_reach.specs.NodeWordLaws.{last-turn}
+use Rattle.walk_nodes.specs.NodeWordLaws.{last-turn}
 use borrow.Author.Needs.{needs}
 use native.Mathlib.Omega.{arith}
 use mathlib.Core.Path.{_≡_, refl}

@@ -6,7 +6,7 @@ use borrow.Author.Needs.{needs}
 use Rattle.pick_laws.specs.Completing.{leastBelow}
 use Rattle.walk_lead.specs.LeadLaws.{place-past, place-turn}
 use Rattle.walk_lead.specs.Leads.{leavesTo, earliest}
-use Rattle.walk_reach.specs.NodeWordLaws.{last-turn}
+use Rattle.walk_nodes.specs.NodeWordLaws.{last-turn}
 use Rattle.walk_lead.proofs.first_place.Statement.{statement}
 use Rattle.walk_lead.proofs.first_place.Tie as tie
 

@@ -3,8 +3,9 @@ use native.Mathlib.Omega.{arith}
 use mathlib.Core.Path.{_≡_, refl}
 use Prim.Native.Nat.{_-_, _≤_}
 use borrow.Author.Needs.{needs}
-use Rattle.walk_reach.specs.Layers.{listBelow, layer}
-use Rattle.walk_reach.specs.NodeWordLaws.{list-turn, last-turn}
+use Rattle.walk_nodes.specs.Nodes.{listBelow}
+use Rattle.walk_reach.specs.Layers.{layer}
+use Rattle.walk_nodes.specs.NodeWordLaws.{list-turn, last-turn}
 use Rattle.walk_lead.specs.Leads.{layersAt}
 use Rattle.walk_lead.proofs.layers_at.Statement.{statement}
 use Rattle.walk_lead.proofs.layers_at.Tie as tie

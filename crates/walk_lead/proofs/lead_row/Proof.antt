@@ -5,7 +5,7 @@ use mathlib.Core.Path.{_≡_}
 use Prim.Native.Nat.{_-_, _≤_}
 use borrow.Author.Needs.{needs}
 use Rattle.walk_lead.specs.LeadLaws.{rowBelow, lead-first, lead-turn, lead-end, turns-at, early-at}
-use Rattle.walk_reach.specs.Layers.{rowsIn}
+use Rattle.walk_nodes.specs.Nodes.{rowsIn}
 use Rattle.walk_lead.proofs.lead_row.Statement.{statement}
 use Rattle.walk_lead.proofs.lead_row.Tie as tie
 

@@ -4,8 +4,8 @@ use native.Mathlib.Omega.{arith}
 use mathlib.Core.Path.{_≡_, refl}
 use Prim.Native.Nat.{_-_, _≤_}
 use borrow.Author.Needs.{needs}
-use Rattle.walk_reach.specs.Layers.{wordBelow}
-use Rattle.walk_reach.specs.NodeWordLaws.{word-turn, last-turn}
+use Rattle.walk_nodes.specs.Nodes.{wordBelow}
+use Rattle.walk_nodes.specs.NodeWordLaws.{word-turn, last-turn}
 use Rattle.walk_lead.specs.LeadLaws.{through-past}
 use Rattle.walk_lead.specs.Leads.{leadsAlong, leadsThrough}
 use Rattle.walk_lead.proofs.leads_through.Statement.{statement}

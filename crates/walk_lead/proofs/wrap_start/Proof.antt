@@ -6,7 +6,7 @@ use Prim.Native.Nat.{_-_, _≤_}
 use borrow.Author.Needs.{needs}
 use Rattle.walk_lead.specs.LeadLaws.{wrap-none, wrap-sought, turns-of}
 use Rattle.walk_lead.specs.Leads.{wrapsAmong}
-use Rattle.walk_reach.specs.Layers.{rowsIn}
+use Rattle.walk_nodes.specs.Nodes.{rowsIn}
 use Rattle.walk_reach.specs.Search.{firstFrom}
 use Rattle.walk_reach.specs.SearchLaws.{search-start, search-stop, search-turn, search-end}
 use Rattle.walk_lead.proofs.wrap_start.Statement.{statement}

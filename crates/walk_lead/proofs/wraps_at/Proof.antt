@@ -7,7 +7,7 @@ use borrow.Author.Needs.{needs}
 use mathlib.Core.Bool.{false}
 use Rattle.walk_lead.specs.LeadLaws.{wraps-none, wraps-first, wraps-found, wraps-turn, wraps-end}
 use Rattle.walk_lead.specs.Leads.{wrapsAmong}
-use Rattle.walk_reach.specs.Layers.{rowsIn}
+use Rattle.walk_nodes.specs.Nodes.{rowsIn}
 use Rattle.walk_lead.proofs.wraps_at.Statement.{statement}
 use Rattle.walk_lead.proofs.wraps_at.Tie as tie
 

@@ -3,7 +3,7 @@
 use Rattle.walk_need.specs.NeedTurns.{leaving-past, leaving-none, leaving-turn}
 use Rattle.pick_laws.specs.Completing.{leastBelow}
 use Rattle.walk_need.specs.Needs.{leavesFor, firstLeaving}
-use Rattle.walk_reach.specs.NodeWordLaws.{last-turn}
+use Rattle.walk_nodes.specs.NodeWordLaws.{last-turn}
 use borrow.Author.Needs.{needs}
 use native.Mathlib.Omega.{arith}
 use mathlib.Core.Path.{_≡_, refl}

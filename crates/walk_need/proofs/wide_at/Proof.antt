@@ -1,5 +1,5 @@
 -- Within the table its word is taken (wide-inside), past it 0 (wide-past).
-use Rattle.walk_reach.specs.NodeWordLaws.{wide-inside, wide-past}
+use Rattle.walk_reach.specs.FilledLaws.{wide-inside, wide-past}
 use Prim.Native.Nat.{_-_}
 use borrow.Author.Needs.{needs}
 use Rattle.walk_need.proofs.wide_at.Statement.{statement}

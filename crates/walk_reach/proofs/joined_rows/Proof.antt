@@ -3,8 +3,9 @@ use native.Mathlib.Omega.{arith}
 use mathlib.Core.Path.{_≡_, refl}
 use Prim.Native.Nat.{_-_, _≤_}
 use borrow.Author.Needs.{needs}
-use Rattle.walk_reach.specs.Layers.{joinedRow, rowsIn, rowsFilled, listBelow}
-use Rattle.walk_reach.specs.NodeWordLaws.{list-turn, last-turn}
+use Rattle.walk_reach.specs.Layers.{joinedRow, rowsFilled}
+use Rattle.walk_nodes.specs.Nodes.{rowsIn, listBelow}
+use Rattle.walk_nodes.specs.NodeWordLaws.{list-turn, last-turn}
 use Rattle.walk_reach.proofs.joined_rows.Statement.{statement}
 use Rattle.walk_reach.proofs.joined_rows.Tie as tie
 

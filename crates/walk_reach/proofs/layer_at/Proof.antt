@@ -4,7 +4,7 @@ use mathlib.Core.Path.{_≡_}
 use Prim.Native.Nat.{_-_, _≤_}
 use borrow.Author.Needs.{needs}
 use Rattle.walk_reach.specs.Layers.{layer}
-use Rattle.walk_reach.specs.NodeWordLaws.{last-turn}
+use Rattle.walk_nodes.specs.NodeWordLaws.{last-turn}
 use Rattle.walk_reach.specs.LayerLaws.{layer-turn, layer-still}
 use Rattle.walk_reach.proofs.layer_at.Statement.{statement}
 use Rattle.walk_reach.proofs.layer_at.Tie as tie

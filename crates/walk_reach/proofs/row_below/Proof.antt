@@ -3,8 +3,9 @@ use native.Mathlib.Omega.{arith}
 use mathlib.Core.Path.{_≡_, refl}
 use Prim.Native.Nat.{_-_, _≤_}
 use borrow.Author.Needs.{needs}
-use Rattle.walk_reach.specs.Layers.{wordBelow, joinedBit}
-use Rattle.walk_reach.specs.NodeWordLaws.{word-turn, last-turn}
+use Rattle.walk_nodes.specs.Nodes.{wordBelow}
+use Rattle.walk_reach.specs.Layers.{joinedBit}
+use Rattle.walk_nodes.specs.NodeWordLaws.{with-one, word-turn, last-turn}
 use Rattle.walk_reach.proofs.row_below.Statement.{statement}
 use Rattle.walk_reach.proofs.row_below.Tie as tie
 
@@ -31,7 +32,7 @@ shared-slice-read-with-node : tie.Need-shared-slice-read-with-node Inv-loop μ-l
 shared-slice-read-with-node c = search needs
 
 with-node-requires : tie.Need-with-node-requires Inv-loop μ-loop
-with-node-requires c κs = λ e. omega arith
+with-node-requires c κs = search needs
 
 add-v : tie.Need-add-v Inv-loop μ-loop
 add-v c = search needs
@@ -40,7 +41,9 @@ loop-less : tie.Need-loop-less Inv-loop μ-loop
 loop-less c = search needs
 
 loop-again : tie.Need-loop-again Inv-loop μ-loop
-loop-again c = (omega arith, word-turn _ _ (c .before .before .before .loop .inv .1) refl (c .with-node .ensures))
+loop-again c =
+    let h = c .before .before .loop-test .taken in
+    (omega arith, word-turn _ _ (c .before .before .before .loop .inv .1) refl (with-one _ _ _ (omega arith) (c .with-node .ensures)))
 
 returns : tie.Need-returns Inv-loop μ-loop
 returns c = last-turn (wordBelow _) _ _ (c .before .loop .inv .1) (c .before .loop .inv .0) (c .loop-test .left)

@@ -1,7 +1,7 @@
 -- After r turns the words are those of r steps (open-start, open-turn).
 use Rattle.walk_ways.specs.TurnLaws.{open-start, open-turn}
 use Rattle.walk_ways.specs.Ways.{exactWord, waysTo, opening}
-use Rattle.walk_reach.specs.NodeWordLaws.{last-turn}
+use Rattle.walk_nodes.specs.NodeWordLaws.{last-turn}
 use borrow.Author.Needs.{needs}
 use native.Mathlib.Omega.{arith}
 use mathlib.Core.Path.{_≡_}

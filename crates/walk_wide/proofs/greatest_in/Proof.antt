@@ -1,7 +1,7 @@
 -- After y turns it is the greatest of the first y words that stand at one of the nodes (greatest-turn); after 64, or past the last of the nodes
 -- (greatest-past), of all.
 use Rattle.pick_laws.specs.Completing.{greatestBelow}
-use Rattle.walk_reach.specs.NodeWordLaws.{last-turn}
+use Rattle.walk_nodes.specs.NodeWordLaws.{last-turn}
 use Rattle.walk_wide.specs.Wide.{wordFor, greatestIn}
 use Rattle.walk_wide.specs.WideLaws.{greatest-turn, greatest-past, word-for}
 use borrow.Author.Needs.{needs}

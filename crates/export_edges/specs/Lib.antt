@@ -1,0 +1,2 @@
+pub mod EdgesTold
+pub mod ToldLaws

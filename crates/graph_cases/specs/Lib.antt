@@ -1,0 +1,2 @@
+pub mod GraphCases
+pub mod EdgeCases

@@ -1,0 +1,9 @@
+pub mod ScheduleCases
+pub mod RuleTables
+pub mod SerialCases
+pub mod SerialTest
+pub mod Interleaved
+pub mod AllKinds
+pub mod Unserialisable
+pub mod Phantom
+pub mod RuleMachines
