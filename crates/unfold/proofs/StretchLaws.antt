@@ -193,7 +193,8 @@ module _ (codes words marks counts : List ℕ) where
 
         pub block-ends : (next : ℕ) → next ≡ itemAt (countAt left codes) codes line .end → next ≤ length codes
         block-ends next e =
-            let end = item-onward codes line (at-block .inside) (countAt left codes) (count-onward codes left) .inside (omega (arith, at-block .inside)) in
+            let end = item-onward codes line (at-block .inside) (countAt left codes) (count-onward codes left) .inside (omega
+            (arith, at-block .inside)) in
             omega (arith, e)
 
         module _ (next : ℕ) (more : Counted) (e : next ≡ itemAt (countAt left codes) codes line .end)

@@ -374,7 +374,8 @@ module _ {M : Type 1} (𝓤 : URA M) (H : Heap 𝓤) (A : Atoms 𝓤) (W : Given
           move ! (23 ∷ 24 ∷ []) $ free1 ! $ move ! (21 ∷ 22 ∷ []) $ free1 ! $ move ! (19 ∷ 20 ∷ []) $ free1 ! $ move ! (17 ∷ 18 ∷ []) $
           free1 ! $ move ! (15 ∷ 16 ∷ []) $ free1 ! $ move ! (13 ∷ 14 ∷ []) $ free1 ! $
           move ! (11 ∷ 12 ∷ []) $ free1 ! $ move ! (9 ∷ 10 ∷ []) $ free1 ! $ move ! (7 ∷ 8 ∷ []) $ free1 ! $ free0 ! $
-          keep ! (5 ∷ 1 ∷ 6 ∷ 2 ∷ []) $ by ! (exits n (zs .1 .0) (is .1) same (edges-settled text read-as zero-number settled (few-word r (put-few settled) word)))))))))))))
+          keep ! (5 ∷ 1 ∷ 6 ∷ 2 ∷ []) $ by ! (exits n (zs .1 .0) (is .1) same (edges-settled text read-as zero-number settled (few-word r
+          (put-few settled) word)))))))))))))
 
       -- the test of the number, and what follows it
       tested : (known-refusal : Triple 𝓤 (C #export_word·refusal-word) (Refusal 𝓤 H A mem run)) → Sq W Read-on (runs C Λ En parts.t-3 (atRet En Post))

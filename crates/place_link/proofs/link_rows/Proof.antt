@@ -25,32 +25,43 @@ returns-2 c = (not-many (c .before .before .row-count .ensures) (c .if2 .taken),
 loop-holds : tie.Need-loop-holds Inv-loop μ-loop
 loop-holds c =
     linking-start (c .before .before .before .before .before .before .if1 .left)
-    (chains-made (c .before .before .before .before .before .before .before .row-count .ensures) (c .before .before .before .before .before .if2 .left) (c .before .before .chain-rows .ensures))
+    (chains-made (c .before .before .before .before .before .before .before .row-count .ensures)
+    (c .before .before .before .before .before .if2 .left) (c .before .before .chain-rows .ensures))
 
 row-link-requires : tie.Need-row-link-requires Inv-loop μ-loop
 row-link-requires c κs = linking-ready (c .before .before .before .before .loop .inv) (c .before .before .before .loop-test .taken)
 
 mul-table : tie.Need-mul-table Inv-loop μ-loop
-mul-table c = let h = linking-ready (c .before .before .before .before .before .loop .inv) (c .before .before .before .before .loop-test .taken) .few in record { fits = omega arith }
+mul-table c = let h = linking-ready (c .before .before .before .before .before .loop .inv)
+    (c .before .before .before .before .loop-test .taken) .few in record { fits = omega arith }
 
 add-table : tie.Need-add-table Inv-loop μ-loop
-add-table c = let h = linking-ready (c .before .before .before .before .before .loop .inv) (c .before .before .before .before .loop-test .taken) .few in record { fits = omega arith }
+add-table c = let h = linking-ready (c .before .before .before .before .before .loop .inv)
+    (c .before .before .before .before .loop-test .taken) .few in record { fits = omega arith }
 
 mul-table-2 : tie.Need-mul-table-2 Inv-loop μ-loop
-mul-table-2 c = let h = linking-ready (c .before .before .before .before .before .loop .inv) (c .before .before .before .before .loop-test .taken) .few in record { fits = omega arith }
+mul-table-2 c = let h = linking-ready (c .before .before .before .before .before .loop .inv)
+    (c .before .before .before .before .loop-test .taken) .few in record { fits = omega arith }
 
 slice-write-table : tie.Need-slice-write-table Inv-loop μ-loop
-slice-write-table c = let h = linking-ready (c .before .before .before .before .before .loop .inv) (c .before .before .before .before .loop-test .taken) .whole in omega arith
+slice-write-table c = let h = linking-ready (c .before .before .before .before .before .loop .inv)
+    (c .before .before .before .before .loop-test .taken) .whole in omega arith
 
 add-j : tie.Need-add-j Inv-loop μ-loop
-add-j c = let h = linking-ready (c .before .before .before .before .before .loop .inv) (c .before .before .before .before .loop-test .taken) .few in record { fits = omega arith }
+add-j c = let h = linking-ready (c .before .before .before .before .before .loop .inv)
+    (c .before .before .before .before .loop-test .taken) .few in record { fits = omega arith }
 
 loop-again : tie.Need-loop-again Inv-loop μ-loop
-loop-again c = linking-more (c .before .before .before .before .before .loop .inv) (c .before .before .before .before .loop-test .taken) _ (c .row-link .ensures)
+loop-again c = linking-more (c .before .before .before .before .before .loop .inv) (c .before .before .before .before .loop-test .taken) _
+    (c .row-link .ensures)
 
 returns-3 : tie.Need-returns-3 Inv-loop μ-loop
 unfolding Lent
-returns-3 c = let size = c .before .before .before .before .chain-rows .ensures .size in (linking-end size (c .loop-test .left) (c .before .loop .inv), size)
+returns-3 c = let size = c .before .before .before .before .chain-rows .ensures .size in (
+  linking-end size (c .loop-test .left)
+      (c .before .loop .inv),
+  size,
+)
 
 pub link-rows-spec : {M : Type 1} → statement M
 link-rows-spec =

@@ -10,7 +10,17 @@ use Rattle.spec_text.specs.Text.{lineOf}
 use Rattle.text_fields.specs.LineIn.{lineBytes, placeAfter}
 use Rattle.text_fields.specs.LineInLaws.{step-value, step-wrong, line-here}
 use Rattle.text_read.specs.Parse.{parsedAs, Going}
-use Rattle.text_read.specs.ParseLaws.{going-first, going-at, going-few, going-wrong, going-fault, going-room, going-next, going-open, going-closed}
+use Rattle.text_read.specs.ParseLaws.{
+  going-first,
+  going-at,
+  going-few,
+  going-wrong,
+  going-fault,
+  going-room,
+  going-next,
+  going-open,
+  going-closed,
+}
 use Rattle.text_read.proofs.read_lines.Statement.{statement}
 use Rattle.text_read.proofs.read_lines.Tie as tie
 

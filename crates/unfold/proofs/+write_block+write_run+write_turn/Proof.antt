@@ -1,6 +1,7 @@
 -- A run lays a stretch of statements and the block after it, turn after turn (`Running`); the block takes the quotient of the number by what the run
 -- after it counts, that run the remainder (running-next). It ends where a stretch says so (stretch-whole). What is found in the words is what is
--- counted (known-run). A block is its turns (`Parted`); a turn is a stretch and the run after it (turn-on). The measure is three times `left`, one more for a turn, and two more for a block. The answers stand in the order of the
+-- counted (known-run). A block is its turns (`Parted`); a turn is a stretch and the run after it (turn-on). The measure is three times `left`, one
+-- more for a turn, and two more for a block. The answers stand in the order of the
 -- code; `search needs` finds those that are plain.
 use Rattle.unfold.proofs.PathLaws.{known-run, end-known}
 use Rattle.unfold.proofs.LaidLaws.{lays-nothing, lays-as, lays-both, lays-inside, lays-length}
@@ -208,8 +209,18 @@ pub +write-block+write-run+write-turn-spec : {M : Type 1} → statement M
     let c9 = c5 .before .before .before .before in
     let c12 = c9 .before .before .before in
     let c16 = c12 .before .before .before .before in (
-      omega (arith, c16 .pre .0, c12 .loop .inv .0, stretch-left _ _ _ _ _ _ _ _ _ _ _ _ (c12 .loop .inv .2) _ _ (c9 .write-stretch .ensures) (c5 .if1 .left)),
-      (c9 .write-stretch .ensures .block (c5 .if1 .left) .inside, stretch-known _ _ _ _ _ _ _ _ _ _ _ _ (c12 .loop .inv .2) _ _ (c9 .write-stretch .ensures) (c5 .if1 .left)),
+      omega (
+        arith,
+        c16 .pre .0,
+        c12 .loop .inv .0,
+        stretch-left _ _ _ _ _ _ _ _ _ _ _ _ (c12 .loop .inv .2) _ _ (c9 .write-stretch .ensures)
+            (c5 .if1 .left),
+      ),
+      (
+        c9 .write-stretch .ensures .block (c5 .if1 .left) .inside,
+        stretch-known _ _ _ _ _ _ _ _ _ _ _ _ (c12 .loop .inv .2) _ _
+            (c9 .write-stretch .ensures) (c5 .if1 .left),
+      ),
     ))
     (λ c.
     let c2 = c .before .before in
@@ -222,7 +233,8 @@ pub +write-block+write-run+write-turn-spec : {M : Type 1} → statement M
     let known = stretch-known _ _ _ _ _ _ _ _ _ _ _ _ (c15 .loop .inv .2) _ _ (c12 .write-stretch .ensures) (c8 .if1 .left) in
     let onward = end-known _ _ _ _ known (c12 .write-stretch .ensures .block (c8 .if1 .left) .inside) _ (c5 .block-end .ensures) in
     let more = known-run _ _ _ _ onward _ (c4 .run-at .ensures) in
-    let next = running-next _ _ _ _ _ _ _ _ _ _ _ _ (c15 .loop .inv .2) _ _ (c12 .write-stretch .ensures) (c8 .if1 .left) _ _ (c5 .block-end .ensures) more onward _ _ (c2 .write-block .ensures) in
+    let next = running-next _ _ _ _ _ _ _ _ _ _ _ _ (c15 .loop .inv .2) _ _ (c12 .write-stretch .ensures) (c8 .if1 .left) _ _
+    (c5 .block-end .ensures) more onward _ _ (c2 .write-block .ensures) in
     omega (arith, next .laid .inside, c19 .good .1 .1 .1 .1 .1 .1 .1 .0))
     (λ c.
     let c4 = c .before .before .before .before in
@@ -251,8 +263,14 @@ pub +write-block+write-run+write-turn-spec : {M : Type 1} → statement M
     let onward = end-known _ _ _ _ known (c12 .write-stretch .ensures .block (c8 .if1 .left) .inside) _ (c5 .block-end .ensures) in
     let more = known-run _ _ _ _ onward _ (c4 .run-at .ensures) in (
       omega (arith, c15 .loop .inv .0),
-      omega (arith, codes-many (c19 .args .lines .now), block-ends _ _ _ _ _ _ _ _ _ _ _ _ (c15 .loop .inv .2) _ _ (c12 .write-stretch .ensures) (c8 .if1 .left) _ (c5 .block-end .ensures)),
-      running-next _ _ _ _ _ _ _ _ _ _ _ _ (c15 .loop .inv .2) _ _ (c12 .write-stretch .ensures) (c8 .if1 .left) _ _ (c5 .block-end .ensures) more onward _ _ (c2 .write-block .ensures),
+      omega (
+        arith,
+        codes-many (c19 .args .lines .now),
+        block-ends _ _ _ _ _ _ _ _ _ _ _ _ (c15 .loop .inv .2) _ _ (c12 .write-stretch .ensures)
+            (c8 .if1 .left) _ (c5 .block-end .ensures),
+      ),
+      running-next _ _ _ _ _ _ _ _ _ _ _ _ (c15 .loop .inv .2) _ _ (c12 .write-stretch .ensures) (c8 .if1 .left) _ _
+          (c5 .block-end .ensures) more onward _ _ (c2 .write-block .ensures),
     ))
     (λ c.
     let c1 = c .before in

@@ -30,7 +30,8 @@ write-all-requires c κs =
 
 same-length-2 : tie.Need-same-length-2
 same-length-2 c =
-    let c18 = c .before .before .before .before .before .before .before .before .before .before .before .before .before .before .before .before .before
+    let c18 = c .before .before .before .before .before .before .before .before .before .before .before .before .before .before .before .before
+    .before
     .before in
     measured-many _ _ (c18 .before .before .before .before .before .before .before .before .pre .0) _ _ (c18 .measure .ensures)
 

@@ -30,7 +30,8 @@ same-length : tie.Need-same-length Inv-loop μ-loop
 same-length c = c .before .before .loop .inv .many
 
 returns : tie.Need-returns Inv-loop μ-loop
-returns c = stretched-past _ _ _ _ _ _ _ _ _ (c .before .before .loop .inv) (omega (arith, c .before .before .before .lines-in .ensures, c .if1 .taken))
+returns c = stretched-past _ _ _ _ _ _ _ _ _ (c .before .before .loop .inv) (omega
+    (arith, c .before .before .before .lines-in .ensures, c .if1 .taken))
 
 same-length-2 : tie.Need-same-length-2 Inv-loop μ-loop
 same-length-2 c = c .before .before .before .before .loop .inv .many
