@@ -1,4 +1,4 @@
--- Laws of edges by their numbers, and of edges put one after the other.
+-- Laws of edges put one after the other.
 use mathlib.Core.Path.{_≡_, refl, sym, ap, subst, _∙_}
 use mathlib.Core.Bool.{Bool, true, false, cond}
 use mathlib.Core.Logic.{inr}

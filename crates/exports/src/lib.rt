@@ -28,7 +28,7 @@ pub extern "C" fn stage_read(text: &[u8]) -> u32
 }
 
 // How many unfoldings there are, and where the last one's statements end; or the refusal.
-pub fn unfold_word(u: Unfolded) -> u32
+fn unfold_word(u: Unfolded) -> u32
     ensures { λ r. ⌜ r ≡ unfoldWord u ⌝ }
 {
     if u.refusal != 0 {

@@ -1,4 +1,4 @@
--- The answer is never mistaken; and what it is for a refused and for an accepted text.
+-- What the answer is for a refused and for an accepted text.
 use mathlib.Core.Bool.{false}
 use mathlib.Core.List.{List, [], _++_, flatMap}
 use mathlib.Core.Path.{_≡_, refl, sym, ap, subst, _∙_}

@@ -1,4 +1,4 @@
--- What testing and taking a line answers. Believed by callers of `take_tested`.
+-- What testing and taking a line answers, over the words that hold the lines taken.
 use mathlib.Core.List.{List, [], _∷_, _++_}
 use mathlib.Core.Path.{_≡_}
 use Prim.Native.Nat.{ℕ}

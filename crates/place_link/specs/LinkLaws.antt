@@ -1,4 +1,4 @@
--- What linking leaves as it was: every row, and so every edge.
+-- How rows are linked step by step, and what linking leaves as it was: every row, and so every edge.
 use mathlib.Core.Bool.{Bool, true, false, cond, _&&_}
 use mathlib.Core.List.{List}
 use mathlib.Core.Path.{_≡_, refl, sym, ap, ap₂, subst, _∙_}

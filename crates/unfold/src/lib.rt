@@ -107,8 +107,8 @@ fn mark_by(lines: &[u64], ids: bool, at: usize) -> u32
     mark_at(lines, at)
 }
 
-// Lays the words of the statements from a line on over an area, up to the first line that is none, or to the area's end; answers how many, and
-// what is seen after them: each one's mark is.
+// Lays the words of the statements from a line on over an area, up to the first line that is none, or to the area's end; answers how many,
+// what is seen after them (each one's mark is), and whether the run ends there.
 fn write_stretch(lines: &[u64], ids: bool, seen: u32, at: usize, out: &mut [u64]) -> Stretch
     ensures { λ r. ⌜ Stretched (tableCodes (now (lines .entry))) (wordsBy ids (now (lines .entry))) (marksBy ids (now (lines .entry))) seen at
         (now (out .entry)) r (now (out .exit)) ⌝ }

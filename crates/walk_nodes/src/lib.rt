@@ -40,7 +40,7 @@ pub fn node_word(u: usize) -> u64
     0
 }
 
-// The nodes of a word, and node k too where the test passed.
+// The nodes of a word, and node k too where the test passed and k is one of the 64.
 pub fn with_node(word: u64, test: bool, k: usize) -> u64
     ensures { λ r. ⌜ r ≡ cond test (bitOr word (nodeWord k)) word ⌝ }
 {
