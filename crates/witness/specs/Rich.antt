@@ -1,7 +1,8 @@
 -- A schedule with every lawful thing that a robust workload can show, of a workload that is robust only because of its links: orders, their
 -- lines, and articles. It has nested loops turned more than twice, an empty transaction, an insert that its own transaction reads, updates
 -- and deletes, tuples that one transaction inserts and others update, read and delete, deletes in plenty, and predicate statements on three tuples.
--- Parents of kinds is, ks and kd stand before their children within a turn. A pd stands in no robust workload: see `AllKinds` in crate schedule_cases.
+-- Parents of kinds is, ks and kd stand before their children within a turn. A pd stands in no robust workload: see `AllKinds` of
+-- schedule_cases.
 use mathlib.Core.Bool.{Bool, true, cond, not, _&&_, _||_}
 use mathlib.Core.List.{List, [], _∷_, map}
 use mathlib.Core.Option.{some}
