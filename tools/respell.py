@@ -111,6 +111,15 @@ class Table:
             found.update(WORD.findall(items or ""))
         return found
 
+    def heads(self, code):
+        """The names by which a file calls a module of the kit."""
+        found = set()
+        for path, alias in re.findall(r"\buse ([^\s;{]+)(?: as ([^\s;]+))?(?=[;\n]|$)", code):
+            steps = path.strip(".").split(".")
+            if not (steps[0] == "Rattle" and len(steps) > 1 and steps[1] in self.crates):
+                found.add(alias or steps[-1])
+        return found
+
     def antt(self, path, text, proof):
         code = COMMENT.sub("", text)
         theirs = self.theirs(code)
@@ -118,10 +127,12 @@ class Table:
         fell = {snake(w) for w in WORD.findall(code) if is_camel(w)}
         low = self.low & (here | self.ours(code) | fell)
 
+        heads = self.heads(code)
+
         def one(m):
             w = m[0]
             behind = text[m.start() - 1 : m.start()] == "."
-            if w in theirs:
+            if w in theirs or behind and WORD.findall(text[max(0, m.start() - 40) : m.start()])[-1] in heads:
                 return w
             if w in low and text[m.end() : m.end() + 1] != "." and not (proof and behind):
                 return w + "_lem"

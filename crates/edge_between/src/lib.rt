@@ -1,4 +1,5 @@
 // The edges of a table of places that go from some nodes to others, counted: what a picture and an explanation tell of two nodes or of a program.
+#![tactic(auto)]
 
 ghost use Rattle.std.specs.Prelude.{◌≡◌, ◌≤◌};
 ghost use Rattle.place_row.specs.RowTable.{row_count};

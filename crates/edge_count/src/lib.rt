@@ -1,5 +1,6 @@
 // The edges of the summary graph, counted row by row in a table of places: eight words to a row. Which letters hold between two rows is told by the
 // codes of their kinds (Req 04).
+#![tactic(auto)]
 
 ghost use Rattle.std.specs.Prelude.{◌≡◌, ◌+◌, ◌*◌, ◌<◌, leb, length};
 ghost use Rattle.edge_count.specs.Slots.{table_edges, table_counts, pair_counts, counts_below, CountedTo};

@@ -1,5 +1,6 @@
 // The first edge from some slot on in a table of places: each pair of rows has two slots, the forward edge's and the back edge's. Which letters hold
 // between two rows is told by the code of their kinds (Req 04).
+#![tactic(auto)]
 
 ghost use Rattle.std.specs.Prelude.{◌≡◌, ◌<◌};
 ghost use Rattle.edge_find.specs.Search.{shared_by, nothing_to, step_in, step_at, is_there, edge_from, Looked};

@@ -1,5 +1,6 @@
 // What rules E2, E3 and W ask of a kind of statement, as one table, and a kind as a number in a row. Code over places and edges asks a kind nothing
 // else, but for the letters between two kinds (kind_table), so that a new kind of statement is a line here and a row and a column there.
+#![tactic(auto)]
 
 ghost use Rattle.std.specs.Prelude.{◌≡◌};
 ghost use Rattle.spec_base.specs.Basic.{meets};

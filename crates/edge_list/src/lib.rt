@@ -1,4 +1,5 @@
 // The edges of any workload value: counted, told one by one, or put into the caller's list.
+#![tactic(auto)]
 
 ghost use Rattle.std.specs.Prelude.{◌≡◌};
 ghost use Rattle.edge_list.specs.EdgesSettled.{CountsSettled, EdgeSettled, PutSettled};

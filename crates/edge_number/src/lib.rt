@@ -1,4 +1,5 @@
 // Edges asked for by their numbers.
+#![tactic(auto)]
 
 ghost use Rattle.std.specs.Prelude.{◌≡◌, length};
 ghost use Rattle.std.proofs.Math.ListN.{get_elem?};

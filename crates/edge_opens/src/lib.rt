@@ -1,4 +1,5 @@
 // W4 over words (edge_word): how far a forward edge opens, and whether a back edge after it makes the pair dangerous.
+#![tactic(auto)]
 
 ghost use Rattle.std.specs.Prelude.{◌≡◌, ◌≤◌};
 ghost use Rattle.pick_laws.specs.Pick.{dangerous_picks};

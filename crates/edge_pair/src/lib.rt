@@ -1,6 +1,7 @@
 // Whether edges stand between two rows of one relation in a table of places, by a few words of each: what hangs on one row alone is worked out once
 // for all rows that it meets, so that a pair takes no look at its kinds (specs/PairWords). That the words tell what the rules say is in
 // specs/PairLaws.
+#![tactic(auto)]
 
 ghost use Rattle.std.specs.Prelude.{cond, ◌≡◌};
 ghost use Rattle.spec_base.specs.Basic.{meets};

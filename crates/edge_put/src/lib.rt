@@ -1,4 +1,5 @@
 // The edges of a table, one after the other, put into the caller's list.
+#![tactic(auto)]
 
 ghost use Rattle.std.specs.Prelude.{◌≡◌, ◌+◌, ◌*◌, ◌≤◌, ◌<◌, length};
 ghost use Rattle.kind_table.specs.Codes.{code_of};

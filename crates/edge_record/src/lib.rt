@@ -1,4 +1,5 @@
 // An edge as the code and its callers hold it; which edge of the rules it stands for is in specs/.
+#![tactic(auto)]
 
 // An edge: node and place left, node and place entered, how many attributes its sets share and the lowest of them, flow and letter.
 // Numbers only, so that a caller in another language can own a list of edges: flow is b'f' or b'b', letter b'A' to b'E'.

@@ -1,6 +1,7 @@
 // The letter of the edge between two rows of a table of places, and whether one stands, by a code of `kind_table` (Req 04): what it says is
 // impossible or certain is decided without a look at the sets. Any code will do; where it is that of the rows' kinds, what is told is so
 // (`forward-told`, `back-told` and `letter-told` of specs/LetterLaws).
+#![tactic(auto)]
 
 ghost use Rattle.std.specs.Prelude.{◌&&◌, ◌||◌, ◌≡◌};
 ghost use Rattle.spec_base.specs.Basic.{meets};

@@ -1,5 +1,6 @@
 // The word of an edge between two of 64 nodes, as the two tables of the search hold it, and the edge that it stands for (specs/Coding). The word of
 // no edge is 0. Of two edges between the same nodes the one with the greater word makes a dangerous pair wherever the other does.
+#![tactic(auto)]
 
 ghost use Rattle.std.specs.Prelude.{cond, ◌≡◌};
 ghost use Rattle.edge_word.specs.Coding.{forward_word, back_word, forward_edge, back_edge};

@@ -1,6 +1,7 @@
 // Tells the facts behind a report: of a refused text what was taken before the fault, of the others the programs, unfoldings and edges, and for
 // danger the first walk step by step. It reads a text on standard input and prints a line for each fact; `./judge --explain` puts them into words and
 // `./judge --picture` into a drawing. What is told is computed by functions with their own promises; this program asks them and prints.
+#![tactic(auto)]
 use edge_find::{edge_from, shared_by};
 use edge_list::EdgeAnswer;
 use edge_record::Edge;

@@ -1,4 +1,5 @@
 // The number that answers for edges which are put: how many they are, or a refusal.
+#![tactic(auto)]
 
 ghost use Rattle.std.specs.Prelude.{◌≡◌};
 ghost use Rattle.edge_put.specs.Put.{put_said};

@@ -1,5 +1,6 @@
 // The one word that answers an export, and what its bits mean: bit 31 tells a refusal, whose number and line follow; else the upper and the lower
 // half hold two numbers, or the word is a count of edges, with bit 30 for danger.
+#![tactic(auto)]
 
 ghost use Rattle.std.specs.Prelude.{◌≡◌};
 ghost use Rattle.verdict_told.specs.Told.{told};

@@ -1,5 +1,6 @@
 // What is made of a text, as exports: reading, unfolding and the verdict, for timing beside plain Rust, and the edges, put into the caller's list.
 // Each is one call from the bytes on, and one number answers it: bit 31 tells a refusal, and then its number and its line follow.
+#![tactic(auto)]
 
 ghost use Rattle.std.specs.Prelude.{◌≡◌};
 ghost use Rattle.spec_text.specs.Reading.{read};

@@ -1,6 +1,7 @@
 // What is made of a text, as exports that work in words which the caller lends: for who judges many texts, and for timing beside plain Rust. The
 // exports of crate exports ask for no such words. Each is one call from the bytes on, and one number answers it: bit 31 tells a refusal, and then its
 // number and its line follow.
+#![tactic(auto)]
 
 ghost use Rattle.std.specs.Prelude.{◌≡◌, ◌≤◌, length, take};
 ghost use Rattle.spec_text.specs.Reading.{read};

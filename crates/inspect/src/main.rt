@@ -1,6 +1,7 @@
 // Shows what the parts make of workload texts: what is read, the unfoldings, the edges, the report, and what lent areas hold afterwards. Arguments
 // are words and file names in order: `--read`, `--unfold`, `--edges`, `--report` and `--areas` say what is printed of the files after them; at
 // `--input` standard input is answered, as the program `verdict` answers it.
+#![tactic(auto)]
 
 ghost use Rattle.io.specs.Counts.{IsPrefixLen};
 ghost use Rattle.edge_list.specs.EdgesSettled.{PutSettled};

@@ -1,5 +1,6 @@
 // Whether each letter can hold between two kinds of statement, worked out from the rules: from which sets a kind has, which of them may be empty and
 // which are the whole relation (Req 05). The constant table has no part in it.
+#![tactic(auto)]
 
 ghost use Rattle.std.specs.Prelude.{cond, ◌≡◌};
 ghost use Rattle.spec_graph.specs.Edge.{R, W, T, inserts, deletes, has_tests, Letter};

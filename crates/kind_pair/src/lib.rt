@@ -1,4 +1,5 @@
 // The code of two kinds (kind_table) where it is the only one that is looked up: taken out of words that hold four.
+#![tactic(auto)]
 
 ghost use Rattle.std.specs.Prelude.{cond, ◌≡◌, leb};
 ghost use Rattle.kind_table.specs.Codes.{code_of, codes_from};

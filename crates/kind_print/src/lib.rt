@@ -1,4 +1,5 @@
 // The table of kinds as bytes: a line of names, then a line for each two kinds (Req 05).
+#![tactic(auto)]
 
 ghost use Rattle.std.specs.Prelude.{◌≡◌, ◌+◌, ◌*◌, ◌<◌, length};
 ghost use Rattle.std.proofs.Math.Seq.{paste};

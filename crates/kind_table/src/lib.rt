@@ -1,4 +1,5 @@
 // Which letters can stand between two kinds of statement: a constant table of eight kinds against eight (Req 04).
+#![tactic(auto)]
 
 ghost use Rattle.std.specs.Prelude.{◌≡◌, get_or};
 ghost use Rattle.edge_kinds.specs.Kinds.{kind_number};

@@ -3,6 +3,7 @@
 //
 // Proved: whatever `show` is called with is the table. Seen in these lines, and by the gate's run: that it is called, once, that it writes what it
 // is given, and that nothing else writes to standard output. What becomes of what C's write is handed, no contract says.
+#![tactic(auto)]
 ghost use Rattle.spec_kinds.specs.Table.{KindTable};
 
 use libc::{STDERR_FILENO, STDOUT_FILENO};

@@ -28,12 +28,12 @@ module _ {A : Type 0} where
       go rest (inr e) = let t = rest e in (t.0, Memᴰ.tail t.1, t.2)
 
   -- an element that passes is enough for `any`
-  pub any_of : (p : A → Bool) {l : List A} {x : A} → Memᴰ x l → p x ≡ true → any p l ≡ true
+  pub any_of : (p : A → Bool) {x : A} {l : List A} → Memᴰ x l → p x ≡ true → any p l ≡ true
   any_of p (Memᴰ.head {x = y} {xs = l} e) h = or_left (any p l) (ap p (sym e) ∙ h)
   any_of p (Memᴰ.tail {x = y} {xs = l} m) h = or_right (p y) (any_of p m h)
 
   -- where `any` fails, each element fails
-  pub any_false : (p : A → Bool) {l : List A} {x : A} → any p l ≡ false → Memᴰ x l → p x ≡ false
+  pub any_false : (p : A → Bool) {x : A} {l : List A} → any p l ≡ false → Memᴰ x l → p x ≡ false
   any_false p h (Memᴰ.head {x = y} {xs = l} e) = ap p e ∙ (or_false (p y) (any p l) h).0
   any_false p h (Memᴰ.tail {x = y} {xs = l} m) = any_false p (or_false (p y) (any p l) h).1 m
 
@@ -43,7 +43,7 @@ module _ {A : Type 0} where
   any_none p (y ∷ l) f = or_of (f y (Memᴰ.head refl)) (any_none p l (λ x m. f x (Memᴰ.tail m)))
 
   -- where `all` passes, each element passes
-  pub all_true : (p : A → Bool) {l : List A} {x : A} → all p l ≡ true → Memᴰ x l → p x ≡ true
+  pub all_true : (p : A → Bool) {x : A} {l : List A} → all p l ≡ true → Memᴰ x l → p x ≡ true
   all_true p h (Memᴰ.head {x = y} {xs = l} e) = ap p e ∙ (and_true (p y) (all p l) h).0
   all_true p h (Memᴰ.tail {x = y} {xs = l} m) = all_true p (and_true (p y) (all p l) h).1 m
 
@@ -63,7 +63,7 @@ module _ {A : Type 0} where
       go rest (inr e) = let t = rest e in (t.0, Memᴰ.tail t.1, t.2)
 
   -- an element that fails is enough for `all` to fail
-  pub all_broken : (p : A → Bool) {l : List A} {x : A} → Memᴰ x l → p x ≡ false → all p l ≡ false
+  pub all_broken : (p : A → Bool) {x : A} {l : List A} → Memᴰ x l → p x ≡ false → all p l ≡ false
   all_broken p (Memᴰ.head {x = y} {xs = l} e) h = and_left (all p l) (ap p (sym e) ∙ h)
   all_broken p (Memᴰ.tail {x = y} {xs = l} m) h = and_right (p y) (all_broken p m h)
 
@@ -115,7 +115,7 @@ module _ {A : Type 0} where
       go rest false e n = let t = rest n in (Memᴰ.tail t.0, t.1)
 
   -- an element that passes is kept
-  pub member_keep : (p : A → Bool) {l : List A} {x : A} → Memᴰ x l → p x ≡ true → Memᴰ x (keep p l)
+  pub member_keep : (p : A → Bool) {x : A} {l : List A} → Memᴰ x l → p x ≡ true → Memᴰ x (keep p l)
   member_keep p {x} (Memᴰ.head {x = y} {xs = l} e) h = go (p y) (ap p (sym e) ∙ h)
     where
       go : (b : Bool) → b ≡ true → Memᴰ x (cond b (y ∷ keep p l) (keep p l))
@@ -213,7 +213,7 @@ module _ {A : Type 0} where
       go rest false e q = let t = rest q in (Memᴰ.tail t.0, t.1)
 
   -- where no first is found, each element fails
-  pub first_none : (p : A → Bool) {l : List A} {x : A} → first p l ≡ none → Memᴰ x l → p x ≡ false
+  pub first_none : (p : A → Bool) {x : A} {l : List A} → first p l ≡ none → Memᴰ x l → p x ≡ false
   first_none p {x} h (Memᴰ.head {x = y} {xs = l} e) = go (p y) refl h
     where
       go : (b : Bool) → p y ≡ b → cond b (some y) (first p l) ≡ none → p x ≡ false
@@ -312,7 +312,7 @@ module _ {A : Type 0} where
       go rest false n = Memᴰ.tail (rest n)
 
   -- an element that passes is left
-  pub member_from : (p : A → Bool) {l : List A} {x : A} → Memᴰ x l → p x ≡ true → Memᴰ x (from p l)
+  pub member_from : (p : A → Bool) {x : A} {l : List A} → Memᴰ x l → p x ≡ true → Memᴰ x (from p l)
   member_from p {x} (Memᴰ.head {x = y} {xs = l} e) h = go (p y) (ap p (sym e) ∙ h)
     where
       go : (b : Bool) → b ≡ true → Memᴰ x (cond b (y ∷ l) (from p l))
@@ -331,7 +331,7 @@ module _ {A : Type 0} where
     where
       go : (first p l ≡ some x → (r : List A) × (from p l ≡ x ∷ r))
           → (b : Bool) → cond b (some y) (first p l) ≡ some x → (r : List A) × (cond b (y ∷ l) (from p l) ≡ x ∷ r)
-      go rest true e = (l, ap {B = List A} (λ z. z ∷ l) (Option.some_injective y x e))
+      go rest true e = (l, ap {B = List A} (λ z. z ∷ l) (Option.some-injective y x e))
       go rest false e = rest e
 
   -- and what is left is headed by the first that passes
@@ -356,11 +356,11 @@ module _ {A : Type 0} where
   -- what stands at a position is an element
   pub get_elem?_member : (l : List A) (i : ℕ) {x : A} → get_elem? l i ≡ some x → Memᴰ x l
   get_elem?_member [] i {x} h = absurd (none-ne-some x h)
-  get_elem?_member (y ∷ l) zero {x} h = Memᴰ.head (sym (Option.some_injective y x h))
+  get_elem?_member (y ∷ l) zero {x} h = Memᴰ.head (sym (Option.some-injective y x h))
   get_elem?_member (y ∷ l) (suc i) h = Memᴰ.tail (get_elem?_member l i h)
 
   -- an element stands at some position
-  pub member_get_elem? : {l : List A} {x : A} → Memᴰ x l → (i : ℕ) × (get_elem? l i ≡ some x)
+  pub member_get_elem? : {x : A} {l : List A} → Memᴰ x l → (i : ℕ) × (get_elem? l i ≡ some x)
   member_get_elem? (Memᴰ.head e) = (zero, ap {B = Option A} some (sym e))
   member_get_elem? (Memᴰ.tail m) = let t = member_get_elem? m in (suc t.0, t.1)
 
@@ -384,7 +384,7 @@ module _ {A : Type 0} where
 
   -- equal found values are equal
   pub some_injective : {x y : A} → ◌≡◌ {A = Option A} (some x) (some y) → x ≡ y
-  some_injective {x} {y} h = Option.some_injective x y h
+  some_injective {x} {y} h = Option.some-injective x y h
 
   -- one position holds one element
   pub get_elem?_same : (l : List A) (i : ℕ) {x y : A} → get_elem? l i ≡ some x → get_elem? l i ≡ some y → x ≡ y
@@ -410,7 +410,7 @@ module _ {A : Type 0} where
   pub get_elem?_split : (l : List A) (i : ℕ) {x : A} → get_elem? l i ≡ some x
       → (front : List A) × (back : List A) × (l ≡ front ++ (x ∷ back)) × (length front ≡ i)
   get_elem?_split [] i {x} h = absurd (none-ne-some x h)
-  get_elem?_split (y ∷ l) zero {x} h = ([], l, ap {B = List A} (λ z. z ∷ l) (Option.some_injective y x h), refl)
+  get_elem?_split (y ∷ l) zero {x} h = ([], l, ap {B = List A} (λ z. z ∷ l) (Option.some-injective y x h), refl)
   get_elem?_split (y ∷ l) (suc i) h =
       let t = get_elem?_split l i h in (y ∷ t.0, t.1, ap {B = List A} (λ s. y ∷ s) t.2, ap suc t.3)
 
@@ -445,7 +445,7 @@ module _ {A : Type 0} where
   drop_member (suc n) (y ∷ l) m = Memᴰ.tail (drop_member n l m)
 
   -- the list splits at an element
-  pub member_split : {l : List A} {x : A} → Memᴰ x l → (front : List A) × (back : List A) × (l ≡ front ++ (x ∷ back))
+  pub member_split : {x : A} {l : List A} → Memᴰ x l → (front : List A) × (back : List A) × (l ≡ front ++ (x ∷ back))
   member_split (Memᴰ.head {xs = l} e) = ([], l, ap {B = List A} (λ z. z ∷ l) (sym e))
   member_split (Memᴰ.tail {x = y} m) = let t = member_split m in (y ∷ t.0, t.1, ap {B = List A} (λ s. y ∷ s) t.2)
 
@@ -471,7 +471,7 @@ module _ {A B : Type 0} where
   pub get_elem?_of_map : (f : A → B) (l : List A) (i : ℕ) {y : B} → get_elem? (map f l) i ≡ some y
       → (x : A) × (get_elem? l i ≡ some x) × (f x ≡ y)
   get_elem?_of_map f [] i {y} h = absurd (none-ne-some y h)
-  get_elem?_of_map f (x ∷ l) zero {y} h = (x, refl, Option.some_injective (f x) y h)
+  get_elem?_of_map f (x ∷ l) zero {y} h = (x, refl, Option.some-injective (f x) y h)
   get_elem?_of_map f (x ∷ l) (suc i) h = get_elem?_of_map f l i h
 
   -- a member of a mapped list is the image of a member
@@ -639,7 +639,7 @@ module _ {A : Type 0} where
   reverse_aux_right (y ∷ l) m = reverse_aux_right l (Memᴰ.tail m)
 
   -- and has its own
-  reverse_aux_left : {l : List A} {x : A} → Memᴰ x l → (r : List A) → Memᴰ x (reverse_aux l r)
+  reverse_aux_left : {x : A} {l : List A} → Memᴰ x l → (r : List A) → Memᴰ x (reverse_aux l r)
   reverse_aux_left (Memᴰ.head {x = y} {xs = l} e) r = reverse_aux_right l (Memᴰ.head e)
   reverse_aux_left (Memᴰ.tail {x = y} {xs = l} m) r = reverse_aux_left m (y ∷ r)
 
@@ -681,7 +681,7 @@ module _ {A B : Type 0} where
       go rest (inr n) = let t = rest n in (t.0, Memᴰ.tail t.1, t.2)
 
   -- a member of one of the lists is a member of them joined
-  pub member_flat_map : (f : A → List B) {l : List A} {x : A} {y : B} → Memᴰ x l → Memᴰ y (f x) → Memᴰ y (flat_map f l)
+  pub member_flat_map : (f : A → List B) {x : A} {l : List A} {y : B} → Memᴰ x l → Memᴰ y (f x) → Memᴰ y (flat_map f l)
   unfolding flat_map
   member_flat_map f {y} (Memᴰ.head {x = z} {xs = l} e) n =
       Memᴰ.append_left (flat_map f l) (subst (λ (s : List B). Memᴰ y s) (ap f e) n)

@@ -46,7 +46,7 @@ bounded_true lines h =
 
 -- a test of lines and one more
 pub any_last : (p : Line → Bool) (before : List Line) (l : Line) → any p (before ++ (l ∷ [])) ≡ any p before || p l
-any_last p before l = any_append p before (l ∷ []) ∙ ap (λ b. any p before || b) (B.or_false (p l))
+any_last p before l = any_append p before (l ∷ []) ∙ ap (λ b. any p before || b) (B.or-false (p l))
 
 -- a `pr` further back begins the program at hand
 program_later : (x : Line) (lines : List Line) → any is_program lines ≡ true → program (x ∷ lines) ≡ program lines
@@ -78,7 +78,7 @@ program_joins (x ∷ before) l h a = go (decide (any is_program before)) (λ e. 
         let found : any is_program (before ++ (l ∷ [])) ≡ true = any_last is_program before l ∙ or_left (is_program l) e in
         rw (program_later x (before ++ (l ∷ [])) found, program_later x before e) (next e)
     go (inr e) next =
-        let here : is_program x ≡ true = sym (B.or_false (is_program x)) ∙ (rw e at a) in
+        let here : is_program x ≡ true = sym (B.or-false (is_program x)) ∙ (rw e at a) in
         let missing : any is_program (before ++ (l ∷ [])) ≡ false = any_last is_program before l ∙ or_of e h in
         rw (program_here x (before ++ (l ∷ [])) missing, program_here x before e, here)
 

@@ -479,7 +479,7 @@ numbered_from_append n [] l = go (is_statement l) (rw (add-zero n))
   where
     go : (b : Bool) {c : Bool} → eqb l.id n ≡ c
         → (elim b as (λ x. Bool) [ true ↦ eqb l.id n && true | false ↦ true ]) ≡ (not b || c)
-    go true e = B.and_true (eqb l.id n) ∙ e
+    go true e = B.and-true (eqb l.id n) ∙ e
     go false e = refl
 numbered_from_append n (x ∷ lines) l = go (is_statement x) (numbered_from_append (suc n) lines l) (numbered_from_append n lines l)
   where

@@ -1,1 +1,2 @@
 // Laws of accepted texts, for the proofs of other crates.
+#![tactic(auto)]

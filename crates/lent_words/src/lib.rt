@@ -1,1 +1,2 @@
 // What is said of words that a caller lends to work in.
+#![tactic(auto)]

@@ -1,4 +1,5 @@
 // Whether the sets of a statement lie within its relation's and are what its kind asks (T9), by the facts of its kind (line_kinds).
+#![tactic(auto)]
 
 ghost use Rattle.std.specs.Prelude.{◌≡◌};
 ghost use Rattle.spec_text.specs.Reading.{kind_sets, sets_allowed};

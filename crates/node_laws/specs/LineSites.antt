@@ -276,8 +276,8 @@ module _ (test : StatementKind → Bool) where
           omega arith,
           sym (
               first l.id
-              ∙ ap₂ ◌||◌ (ap (λ (b : Bool). test k && b) (eq-eqb l.id l.id refl) ∙ B.and_true (test k)) (again.0 l.id (omega arith))
-              ∙ B.or_false (test k)
+              ∙ ap₂ ◌||◌ (ap (λ (b : Bool). test k && b) (eq-eqb l.id l.id refl) ∙ B.and-true (test k)) (again.0 l.id (omega arith))
+              ∙ B.or-false (test k)
               ),
         )
 

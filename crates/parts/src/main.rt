@@ -1,5 +1,6 @@
 // Shows that a part of a workload is the value of the text that has those programs alone. Arguments come in pairs: `--of` and a file say of which
 // whole the parts after it are; a group, as a decimal number, and a file ask whether the part that the group makes is the file's value.
+#![tactic(auto)]
 
 use check::same;
 use libc::STDOUT_FILENO;

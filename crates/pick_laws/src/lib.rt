@@ -1,4 +1,5 @@
 // The types of the search for a dangerous walk; its laws are in specs/.
+#![tactic(auto)]
 
 // The words that tell a step of a walk: node, place left, place entered, flow.
 pub const STEP_WORDS: usize = 4;

@@ -1,4 +1,5 @@
 // Rows fetched from a table of places: eight words to a row.
+#![tactic(auto)]
 
 ghost use Rattle.std.specs.Prelude.{◌≡◌, ◌+◌, ◌*◌, ◌≤◌, ◌<◌, length, get_or};
 ghost use Rattle.place_row.specs.RowTable.{row_at, row_count};

@@ -1,4 +1,5 @@
 // Which keys shield a place, by the links in the table of lines.
+#![tactic(auto)]
 
 ghost use Rattle.std.specs.Prelude.{◌≡◌, ◌-◌, ◌/◌, ◌<◌, length};
 ghost use Rattle.place_keys.specs.LineKeys.{key_at, place_keys};

@@ -1,1 +1,2 @@
 // Laws alone: the table of a workload's places.
+#![tactic(auto)]

@@ -1,4 +1,5 @@
 // Rows linked by relation: the next row and the first on a row's chain stand in the word of its kind.
+#![tactic(auto)]
 
 ghost use Rattle.std.specs.Prelude.{◌≡◌, length};
 ghost use Rattle.lent_words.specs.Lent.{Lent};

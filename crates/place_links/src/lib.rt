@@ -1,4 +1,5 @@
 // Where the links of a program begin in the table of lines, and what its statements are marked with.
+#![tactic(auto)]
 
 ghost use Rattle.std.specs.Prelude.{◌≡◌, ◌-◌, ◌/◌, length};
 ghost use Rattle.place_links.specs.LineLinks.{links_in};

@@ -1,4 +1,5 @@
 // Chains of the rows of a table of places by relation: who goes along a chain hardly ever meets rows of two relations.
+#![tactic(auto)]
 
 ghost use Rattle.std.specs.Prelude.{◌≡◌, set};
 ghost use Rattle.place_next.specs.Chains.{Chained};

@@ -1,4 +1,5 @@
 // How many programs the table of lines has, and where the lines of each begin.
+#![tactic(auto)]
 
 ghost use Rattle.std.specs.Prelude.{◌≡◌, ◌/◌, ◌≤◌, ◌<◌, length};
 ghost use Rattle.place_programs.specs.LinePrograms.{begun_line, begun_in};

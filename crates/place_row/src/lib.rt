@@ -1,4 +1,5 @@
 // A row of a table of places: what the edges need to know of one place of a node.
+#![tactic(auto)]
 
 use spec_text::StatementKind;
 

@@ -1,4 +1,5 @@
 // The table of the places of a workload: one row of eight words for each place of each node.
+#![tactic(auto)]
 
 ghost use Rattle.std.specs.Prelude.{◌≡◌, ◌+◌, ◌*◌, ◌≤◌, length, get_or};
 ghost use Rattle.word_rows.specs.Put.{put_at};

@@ -1,4 +1,5 @@
 // The rows of all places of a text, in lent words: what its edges and its verdict are made from.
+#![tactic(auto)]
 
 ghost use Rattle.std.specs.Prelude.{◌≡◌, ◌≤◌, length, take};
 ghost use Rattle.spec_text.specs.Reading.{read};

@@ -1,1 +1,2 @@
 // Laws alone: the number and the line of a refused text.
+#![tactic(auto)]

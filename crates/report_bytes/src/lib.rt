@@ -1,4 +1,5 @@
 // The bytes that a report chooses by a number: a digit, and the letter of a flow.
+#![tactic(auto)]
 
 ghost use Rattle.std.specs.Prelude.{◌≡◌, ◌%◌};
 ghost use Rattle.spec_text.specs.Text.{digit};

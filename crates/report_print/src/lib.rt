@@ -1,4 +1,5 @@
 // The bytes of the three reports: a refusal, robust, and danger with its walk.
+#![tactic(auto)]
 
 ghost use Rattle.std.specs.Prelude.{◌≡◌, [], ◌∷◌, ◌+◌, ◌*◌, ◌≤◌, ◌<◌, min, length};
 ghost use Rattle.spec_text.specs.Text.{space, newline};

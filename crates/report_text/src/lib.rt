@@ -1,4 +1,5 @@
 // The report of any text.
+#![tactic(auto)]
 
 ghost use Rattle.report_text.specs.Reported.{Reported};
 

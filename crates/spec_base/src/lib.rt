@@ -1,1 +1,2 @@
 // Lists and sets, for definitions and laws: everything is in specs/.
+#![tactic(auto)]

@@ -1,1 +1,2 @@
 // Which turns and arms an execution takes: everything is in specs/.
+#![tactic(auto)]

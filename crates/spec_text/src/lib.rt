@@ -1,4 +1,5 @@
 // The workload value: what a text is read into, as the values of its lines. Believed.
+#![tactic(auto)]
 
 // The eight kinds of statement; Kl is Req 03's.
 #[derive(Drop)]

@@ -1,4 +1,5 @@
 // Standard input into a lent area, and how reading it ended.
+#![tactic(auto)]
 pub mod reads;
 
 ghost use Rattle.std.specs.Prelude.{length};

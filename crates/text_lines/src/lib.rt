@@ -1,4 +1,5 @@
 // A line of a text, and a reader that remembers the place and the line number (text_fields reads by it).
+#![tactic(auto)]
 
 // Reads a text line after line: the text, the place of the next line, and its number.
 #[derive(Drop)]

@@ -1,4 +1,5 @@
 // Reads one digit.
+#![tactic(auto)]
 ghost use Rattle.std.specs.Prelude.{◌≡◌};
 ghost use Rattle.text_number.specs.Digits.{hexadecimal};
 

@@ -1,4 +1,5 @@
 // The tests of a whole text, before its lines: its length, its bytes, its last byte, its names line.
+#![tactic(auto)]
 ghost use Rattle.std.specs.Prelude.{◌≡◌, ◌≤◌, ◌<◌, length};
 ghost use Rattle.spec_base.specs.Basic.{all};
 ghost use Rattle.spec_text.specs.Text.{same};

@@ -1,5 +1,6 @@
 // The unfoldings of a workload, written into a lent area: as statement ids, or as words that tell each place's line and what is seen there.
 // They are read off a table of lines; how many unfoldings the run at each line has is counted once, from the last line to the first.
+#![tactic(auto)]
 
 ghost use Rattle.std.specs.Prelude.{◌≡◌, ◌+◌, ◌-◌, ◌≤◌, ◌<◌, length, get_or};
 ghost use Rattle.unfold_laws.specs.Codes.{item_at, count_at};

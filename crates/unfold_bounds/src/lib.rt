@@ -1,4 +1,5 @@
 // Where a block's lines end, and which counts of unfoldings are refused.
+#![tactic(auto)]
 
 ghost use Rattle.std.specs.Prelude.{◌≡◌};
 ghost use Rattle.unfold_laws.specs.Codes.{after};

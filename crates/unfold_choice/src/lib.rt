@@ -1,4 +1,5 @@
 // The choices of a node of a workload: which turns of each loop and which arm of each branch its unfolding takes.
+#![tactic(auto)]
 
 ghost use Rattle.std.specs.Prelude.{[], ◌≡◌, ◌≤◌, ◌<◌, length};
 ghost use Rattle.unfold_laws.specs.Codes.{count_at};

@@ -1,4 +1,5 @@
 // What a run of lines counts: its unfoldings, the statements in them, and where it ends.
+#![tactic(auto)]
 
 ghost use Rattle.std.specs.Prelude.{◌≡◌, ◌+◌, ◌≤◌, ◌<◌, length};
 ghost use Rattle.unfold_laws.specs.Cap.{plus, times};

@@ -1,4 +1,5 @@
 // The types, codes and constants of unfoldings; their laws are in specs/.
+#![tactic(auto)]
 
 // A run or a block of lines: its unfoldings, the statements in them, and the line after it.
 #[derive(Drop)]

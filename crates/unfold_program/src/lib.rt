@@ -1,4 +1,5 @@
 // One program of a workload: where its `pr` stands, how many unfoldings it has, and how many statements stand in them.
+#![tactic(auto)]
 
 ghost use Rattle.std.specs.Prelude.{◌≡◌, ◌≤◌, ◌<◌, length};
 ghost use Rattle.unfold_laws.specs.Pieces.{line_programs};

@@ -1,4 +1,5 @@
 // The lines of a workload value as words, eight to a line: one line put into a table of lines, and the table of a whole value.
+#![tactic(auto)]
 
 ghost use Rattle.std.specs.Prelude.{◌≡◌, ◌*◌, length, take};
 ghost use Rattle.spec_text.specs.Value.{lines_of};

@@ -1,4 +1,5 @@
 // What the words of lines, eight to a line, tell line by line.
+#![tactic(auto)]
 
 ghost use Rattle.std.specs.Prelude.{◌≡◌, length, get_or};
 ghost use Rattle.value_tables.specs.Lines.{code_by, table_codes, table_ids, table_marks};

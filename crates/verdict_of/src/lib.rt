@@ -1,4 +1,5 @@
 // The verdict on a workload value and on a text: robust or danger with its counts, and the first dangerous walk in the lent area; or a refusal.
+#![tactic(auto)]
 
 ghost use Rattle.std.specs.Prelude.{◌≡◌, ◌*◌, ◌≤◌, length, take};
 ghost use Rattle.spec_text.specs.Reading.{read};

@@ -1,4 +1,5 @@
 // What a verdict tells: robust or danger with its counts, or a refusal; and which of them it is for what the search for a walk found.
+#![tactic(auto)]
 
 ghost use Rattle.std.specs.Prelude.{◌≡◌};
 ghost use Rattle.spec_report.specs.State.{counted};

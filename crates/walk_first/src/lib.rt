@@ -4,6 +4,7 @@
 // How many steps it has is told by the shortest way back from where a dangerous pair leads (walk_return), where it starts by which nodes are on such
 // a walk (walk_ways, walk_lead). Then the least step that can be completed is taken again and again (walk_ways, walk_wide, walk_need, walk_limit,
 // walk_step).
+#![tactic(auto)]
 
 ghost use Rattle.std.specs.Prelude.{Bool, cond, ◌≡◌, ℕ, ◌+◌, ◌*◌, ◌≤◌, ◌<◌, min, max, length};
 ghost use Rattle.lent_words.specs.Lent.{Lent};

@@ -2,6 +2,7 @@
 // and pair of nodes (edge_word); `rows` has for each node the nodes to which a forward edge goes from it (walk_reach). A set of nodes is a word.
 //
 // A dangerous pair is a forward edge from u to v and a back edge from v to w after it (W4); it leads from u to w.
+#![tactic(auto)]
 
 ghost use Rattle.std.specs.Prelude.{◌≡◌, ◌≤◌, ◌<◌, min};
 ghost use Rattle.walk_nodes.specs.Nodes.{with_node, rows_in};

@@ -1,6 +1,7 @@
 // Which back steps count at a node in the search for the first walk: for each node entered, below which place a step into it must leave
 // (pick_laws/Demands). `ways` has for each number of steps the nodes from which exactly so many forward steps end the walk (walk_ways), `wide` how
 // far the last of so many steps can open (walk_wide).
+#![tactic(auto)]
 
 ghost use Rattle.std.specs.Prelude.{◌≡◌, ◌<◌, min, length};
 ghost use Rattle.walk_reach.specs.Layers.{Written};

@@ -1,6 +1,7 @@
 // Which forward steps count at a node in the search for the first walk: for each node entered, how far a step into it must open (pick_laws/Demands).
 // `ways` has for each number of steps the nodes from which exactly so many forward steps end the walk, `opened` those from which so many steps still
 // lead through a dangerous pair (walk_ways), `wide` how far the last of so many steps can open (walk_wide).
+#![tactic(auto)]
 
 ghost use Rattle.std.specs.Prelude.{cond, ◌≡◌, ◌<◌, ◌≤◌, min, length};
 ghost use Rattle.spec_base.specs.Basic.{has};

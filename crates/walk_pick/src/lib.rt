@@ -1,4 +1,5 @@
 // One pass over a table of places: its edges counted, and for each pair of nodes the edge that stands for all.
+#![tactic(auto)]
 
 ghost use Rattle.std.specs.Prelude.{◌≡◌, true, cond, not, eqb, ◌+◌, ◌*◌, ◌%◌, ◌≤◌, ◌<◌, min, length, get_or};
 ghost use Rattle.edge_word.specs.Coding.{forward_word, back_word};

@@ -1,5 +1,6 @@
 // Which of 64 nodes reach which along forward edges, from a table that holds a word for each pair of nodes (edge_word). A set of nodes is a word. A
 // table need only be as long as the rows of its nodes, and a list of rows too: what is past the end counts as 0.
+#![tactic(auto)]
 
 ghost use Rattle.std.specs.Prelude.{cond, ◌≡◌, ◌+◌, ◌*◌, ◌≤◌, ◌<◌, ltb, length};
 ghost use Rattle.walk_nodes.specs.Nodes.{word_below};

@@ -1,4 +1,5 @@
 // Why two steps of a walk, the second of them back, are dangerous: which of the three reasons of W4 hold.
+#![tactic(auto)]
 
 ghost use Rattle.std.specs.Prelude.{◌≡◌};
 ghost use Rattle.spec_graph.specs.Graph.{Graph};

@@ -1,5 +1,6 @@
 // How soon a way leads back to a node from one of the nodes to which dangerous pairs lead from it. `rows` has for each node the nodes to which a
 // forward edge goes from it (walk_reach), `leads` those to which a dangerous pair of edges leads from it (walk_lead). A set of nodes is a word.
+#![tactic(auto)]
 
 ghost use Rattle.std.specs.Prelude.{◌≡◌, ◌≤◌, min};
 ghost use Rattle.walk_return.specs.Returns.{first_meeting, shortest_return};

@@ -1,5 +1,6 @@
 // The least step out of a node that counts, over a table of places. A step is an edge as one word, ordered by the place left, the place entered, the
 // flow (forward before back) and the node entered: so the lesser word is the lesser step.
+#![tactic(auto)]
 
 ghost use Rattle.std.specs.Prelude.{◌≡◌, ◌≤◌, ◌<◌, min, get_or};
 ghost use Rattle.walk_step.specs.LeastStep.{has_word, opens_to, forward_counts, back_counts, counted_step, whole_needs, pair_step, least_step};

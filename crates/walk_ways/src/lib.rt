@@ -1,5 +1,6 @@
 // Ways of an exact number of forward steps among 64 nodes, and where a dangerous walk of so many steps can start. A set of nodes is a word; `rows`
 // has for each node the nodes to which a forward edge goes from it (walk_reach), `leads` those to which a dangerous pair of edges leads from it.
+#![tactic(auto)]
 
 ghost use Rattle.std.specs.Prelude.{◌≡◌, ◌≤◌, ◌<◌, min};
 ghost use Rattle.walk_ways.specs.Ways.{ways_to, next_opening, opening, openings, starts_at, first_start};

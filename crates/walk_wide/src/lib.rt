@@ -1,5 +1,6 @@
 // How far the last of so many forward steps to a node can open, among 64 nodes. `rows` has for each node the nodes to which a forward edge goes from
 // it (walk_reach), as a word.
+#![tactic(auto)]
 
 ghost use Rattle.std.specs.Prelude.{cond, ◌≡◌, ◌+◌, ◌*◌, ◌≤◌, ◌<◌, min, max, length};
 ghost use Rattle.walk_nodes.specs.Nodes.{rows_in};

@@ -1,4 +1,5 @@
 // A word of a list of words, whatever its place; words set to 0; a bit of a word.
+#![tactic(auto)]
 
 ghost use Rattle.std.specs.Prelude.{◌≡◌, get_or};
 ghost use Rattle.spec_base.specs.Basic.{has};

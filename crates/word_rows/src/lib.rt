@@ -1,4 +1,5 @@
 // Rows of eight words in an area.
+#![tactic(auto)]
 
 ghost use Rattle.std.specs.Prelude.{[], ◌∷◌, ◌≡◌};
 ghost use Rattle.word_rows.specs.Put.{row_put};
