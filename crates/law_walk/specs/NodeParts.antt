@@ -176,7 +176,7 @@ chosen_member (c ∷ chosen) zero h = Memᴰ.head refl
 chosen_member (c ∷ chosen) (suc k) h = Memᴰ.tail (chosen_member chosen k (omega arith))
 
 -- and each of the chosen is that of a chosen node
-pub chosen_found : {chosen : List ℕ} {n : ℕ} → Memᴰ n chosen → (k : ℕ) × (k < length chosen) × (chosen_number chosen k ≡ n)
+pub chosen_found : {n : ℕ} {chosen : List ℕ} → Memᴰ n chosen → (k : ℕ) × (k < length chosen) × (chosen_number chosen k ≡ n)
 chosen_found (Memᴰ.head e) = (0, omega arith, sym e)
 chosen_found (Memᴰ.tail i) = let t = chosen_found i in (suc t.0, suc-le-suc t.1, t.2)
 

@@ -296,7 +296,7 @@ unfoldable pub danger_test : Graph → Bool
 danger_test g = any (λ w. any (λ v. any (closes_at g w v) (numbers (g.places v))) (numbers g.size)) (numbers g.size)
 
 -- dropping a member makes a list shorter
-keep_shorter : {A : Type 0} (p : A → Bool) {l : List A} {x : A} → Memᴰ x l → p x ≡ false → length (keep p l) < length l
+keep_shorter : {A : Type 0} (p : A → Bool) {x : A} {l : List A} → Memᴰ x l → p x ≡ false → length (keep p l) < length l
 keep_shorter p (Memᴰ.head {x = y} {xs = l} e) h = rw (keep_no p y l (ap p (sym e) ∙ h)) (suc-le-suc (length_keep p l))
 keep_shorter {A} p (Memᴰ.tail {x = y} {xs = l} m) h = go (keep_shorter p m h) (p y)
   where

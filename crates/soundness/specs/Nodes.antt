@@ -21,23 +21,23 @@ pub record NodeOf (nodes : List Node) (p : Program) (u : Execution p.body) : Typ
 abbrev node_for : ℕ → (p : Program) → Execution p.body → Node
 node_for number p u = record { program = number; links = p.links; places = occurrences u 0 }
 
-member_nodes : (number : ℕ) (programs : List Program) (p : Program) → Memᴰ p programs → (u : Execution p.body)
+member_nodes : (p : Program) (number : ℕ) (programs : List Program) → Memᴰ p programs → (u : Execution p.body)
     → Memᴰ u (unfoldings p.body) → (k : ℕ) × Memᴰ (node_for k p u) (nodes_from number programs)
 unfolding nodes_of_program nodes_from
-member_nodes number programs p (Memᴰ.head {x} {xs} e) =
+member_nodes p number programs (Memᴰ.head {x} {xs} e) =
     subst
     (λ (p : Program). (u : Execution p.body) → Memᴰ u (unfoldings p.body)
     → (k : ℕ) × Memᴰ (node_for k p u) (nodes_from number (x ∷ xs)))
     (sym e) (λ u m. (number, Memᴰ.append_left (nodes_from (suc number) xs) (Memᴰ.map (λ u. node_for number x u) m)))
-member_nodes number programs p (Memᴰ.tail {x} {xs} m) =
+member_nodes p number programs (Memᴰ.tail {x} {xs} m) =
     λ u v.
-    let r = member_nodes (suc number) xs p m u v in
+    let r = member_nodes p (suc number) xs m u v in
     (r.0, Memᴰ.append_right (nodes_of_program number x) r.1)
 
 pub node_of : (lines : List Line) (p : Program) → Memᴰ p (programs_of lines) → (u : Execution p.body)
     → Memᴰ u (unfoldings p.body) → NodeOf (nodes_of lines) p u
 unfolding nodes_of
 node_of lines p m u v =
-    let r = member_nodes 0 (programs_of lines) p m u v in
+    let r = member_nodes p 0 (programs_of lines) m u v in
     let k = member_get_elem? r.1 in
     record { number = k.0; node = node_for r.0 p u; at = k.1; links = refl; places = refl }

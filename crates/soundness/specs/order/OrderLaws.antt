@@ -18,7 +18,7 @@ abbrev Member : ℕ → List ℕ → Type 0
 Member i l = 0 < count (eqb i) l
 
 -- what stands in the list is counted
-member_counted : {l : List ℕ} {i : ℕ} → Memᴰ i l → Member i l
+member_counted : {i : ℕ} {l : List ℕ} → Memᴰ i l → Member i l
 member_counted {i} (Memᴰ.head {x = y} {xs = l} e) = rw (eq-eqb i y e) (omega arith)
 member_counted {i} (Memᴰ.tail {x = y} {xs = l} m) = omega (arith, member_counted m)
 
