@@ -10,7 +10,7 @@ use kind_table::{code_to, codes_from};
 use place_fetch::{row_at, row_count};
 
 // How many edges there are, and how many of them are back edges.
-#[derive(Drop)]
+#[derive(Clone, Copy)]
 pub struct Counts {
     pub edges: usize,
     pub back: usize,

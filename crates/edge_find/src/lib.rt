@@ -12,7 +12,7 @@ use place_fetch::{row_at, row_count};
 use place_row::{ROW_SLOTS, ROW_WORDS, Row, SLOTS};
 
 // The first edge from some slot on, and its slot; where there is none, the number of slots.
-#[derive(Drop)]
+#[derive(Clone, Copy)]
 pub struct EdgeStep {
     pub slot: usize,
     pub found: Found,

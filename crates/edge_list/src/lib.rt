@@ -14,14 +14,14 @@ use place_table::{Rows, fill_rows};
 use spec_text::Workload;
 
 // How many edges there are, and how many of them are back edges; or the number of the refusal.
-#[derive(Drop)]
+#[derive(Clone, Copy)]
 pub enum EdgeCounts {
     Counted { edges: u64, back: u64 },
     Refused(u8),
 }
 
 // The edge asked for, or that there is none; or the number of the refusal.
-#[derive(Drop)]
+#[derive(Clone, Copy)]
 pub enum EdgeAnswer {
     There(Edge),
     Absent,
@@ -29,7 +29,7 @@ pub enum EdgeAnswer {
 }
 
 // A workload's table: the number of the refusal, or 0; the words of the table that count.
-#[derive(Drop)]
+#[derive(Clone, Copy)]
 struct Prepared {
     refusal: u8,
     words: usize,

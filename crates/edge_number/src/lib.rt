@@ -12,7 +12,7 @@ use edge_find::edge_from;
 use edge_record::{Edge, Found};
 
 // An edge and its slot.
-#[derive(Drop)]
+#[derive(Clone, Copy)]
 struct Next {
     slot: usize,
     edge: Edge,

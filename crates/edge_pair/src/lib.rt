@@ -13,7 +13,7 @@ use spec_text::StatementKind;
 // What a row says as one that an edge leaves. `sure`: the kinds with which some letter is certain; `writes` makes an edge where it meets what the row
 // entered writes, `updates` where it meets what that row reads or tests. For back edges: the kinds with which E is certain and what E asks of the
 // writes; for a select that no key shields the same of D.
-#[derive(Drop)]
+#[derive(Clone, Copy)]
 pub struct Left {
     pub sure: u64,
     pub writes: u64,
@@ -27,7 +27,7 @@ pub struct Left {
 
 // What a row says as one that an edge enters: its kind as a bit, what it writes, what it reads or tests (where some kind asks for them), and the keys
 // that shield it there.
-#[derive(Drop)]
+#[derive(Clone, Copy)]
 pub struct Entered {
     pub bit: u64,
     pub writes: u64,

@@ -20,14 +20,14 @@ use place_link::{FIRST, NEXT, NEXTS, rows_linked};
 use place_row::{KEYS, KIND, PLACE, READS, RELATION, ROW_WORDS, Row, TESTS, WRITES};
 
 // What becomes of edges that are put: all of them are, so many; or the number of the refusal, and none is.
-#[derive(Drop)]
+#[derive(Clone, Copy)]
 pub enum Put {
     All(usize),
     Refused(u8),
 }
 
 // The words of a row, the kind by its number: all of one size, so that keeping them costs no copying of what lies between.
-#[derive(Drop)]
+#[derive(Clone, Copy)]
 struct Words {
     node: u64,
     place: u64,
@@ -42,7 +42,7 @@ struct Words {
 // A place in the order of a table's edges: row i of n with its words, and the rows from j on are still to be looked at as those that an edge from
 // it enters. Where `back` is not 0 it is the letter of the back edge to row j, which comes next. Where `linked` is not 0 the rows are linked, and
 // those of other chains are passed over.
-#[derive(Drop)]
+#[derive(Clone, Copy)]
 struct Cursor {
     n: usize,
     i: usize,
@@ -53,7 +53,7 @@ struct Cursor {
 }
 
 // The edge that comes next, if one is there, and the place after it; else a place before which no edge comes.
-#[derive(Drop)]
+#[derive(Clone, Copy)]
 struct Step {
     there: bool,
     edge: Edge,

@@ -4,7 +4,7 @@
 // An edge: node and place left, node and place entered, how many attributes its sets share and the lowest of them, flow and letter.
 // Numbers only, so that a caller in another language can own a list of edges: flow is b'f' or b'b', letter b'A' to b'E'.
 #[repr(C)]
-#[derive(Drop)]
+#[derive(Clone, Copy)]
 pub struct Edge {
     pub node: u64,
     pub leaves: u64,
@@ -17,7 +17,7 @@ pub struct Edge {
 }
 
 // The edge asked for, or that there is none.
-#[derive(Drop)]
+#[derive(Clone, Copy)]
 pub enum Found {
     There(Edge),
     Absent,

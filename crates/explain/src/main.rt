@@ -229,7 +229,7 @@ fn tell_edges(table: &[u64], nodes: u64) {
 // ---- the walk
 
 // A step of the walk: the node left, the place left, the node and place entered, and the flow, 0 for forward.
-#[derive(Drop)]
+#[derive(Clone, Copy)]
 struct Going {
     node: u64,
     leaves: u64,

@@ -228,7 +228,7 @@ fn show_report(text: &[u8]) {
 // ---- lent areas
 
 // What became of the edges, and the area afterwards.
-#[derive(Drop)]
+#[derive(Clone, Copy)]
 struct Eight {
     put: Put,
     area: [Edge; 8],

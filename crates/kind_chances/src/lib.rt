@@ -18,7 +18,7 @@ use spec_kinds::Chance;
 use spec_text::StatementKind;
 
 // The chances of the five letters between two kinds.
-#[derive(Drop)]
+#[derive(Clone, Copy)]
 pub struct Entry {
     pub a: Chance,
     pub b: Chance,

@@ -27,7 +27,7 @@ fn packed_word(a: u32, b: u32, c: u32, d: u32) -> u64
 }
 
 // The codes of a row in two words.
-#[derive(Drop)]
+#[derive(Clone, Copy)]
 struct Halves {
     first: u64,
     last: u64,

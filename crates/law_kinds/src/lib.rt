@@ -2,7 +2,7 @@
 #![tactic(auto)]
 
 // What the rules say of a set of a kind: the kind lacks it; it is any set within the relation's; such a set, but not empty; the relation's own.
-#[derive(Drop)]
+#[derive(Clone, Copy)]
 pub enum SetClass {
     Lacking,
     Any,

@@ -1,5 +1,6 @@
 // The words in which reading keeps what it needs of the lines taken so far.
 #![tactic(auto)]
+
 ghost use Rattle.std.specs.Prelude.{◌≡◌, ◌≤◌, length};
 ghost use Rattle.line_state.specs.StateSteps.{cell_of};
 ghost use Rattle.line_state.specs.StateWords.{array_in, started_in};

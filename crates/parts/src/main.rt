@@ -149,7 +149,7 @@ fn read_file(path: &[u8]) -> Parsed {
 }
 
 // A group, or that a word is none.
-#[derive(Drop)]
+#[derive(Clone, Copy)]
 enum Group {
     Word(u16),
     Wrong,

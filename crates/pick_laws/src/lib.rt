@@ -6,7 +6,7 @@ pub const STEP_WORDS: usize = 4;
 
 // An edge that stands for all edges of its flow from one node to another: the place left, the place entered, and whether the place left is loose
 // (W4: it is of kind ks, ps, pu or pd).
-#[derive(Drop)]
+#[derive(Clone, Copy)]
 pub struct Pick {
     pub leaves: u64,
     pub enters: u64,
@@ -14,7 +14,7 @@ pub struct Pick {
 }
 
 // What the search for a walk answers: the area is too short for 65 steps, there is no walk, or one of so many steps is shown.
-#[derive(Drop)]
+#[derive(Clone, Copy)]
 pub enum WalkFound {
     NoRoom,
     NoWalk,
@@ -23,7 +23,7 @@ pub enum WalkFound {
 
 // How far the search for the first walk has come: no step is taken yet; the last step is forward and is dangerous with back steps that leave at a
 // place below a number; the dangerous pair is there; or the walk began with a back step that left a place.
-#[derive(Drop)]
+#[derive(Clone, Copy)]
 pub enum Going {
     Starting,
     Opening(u64),

@@ -8,7 +8,7 @@ use value_tables::{LI, LINE_WORDS, MARK, PR};
 use word_list::word_at;
 
 // Where the links of a program begin, and the marks of its statements: the bits of those that shield.
-#[derive(Drop)]
+#[derive(Clone, Copy)]
 pub struct Links {
     pub first: usize,
     pub marks: u64,

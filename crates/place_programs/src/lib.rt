@@ -8,7 +8,7 @@ use value_tables::{LINE_WORDS, PR};
 use word_list::word_at;
 
 // The programs so far, and the line after the `pr` of each.
-#[derive(Drop)]
+#[derive(Clone, Copy)]
 pub struct Begun {
     pub programs: usize,
     pub firsts: [u64; 16],

@@ -21,7 +21,7 @@ use word_list::word_at;
 use word_rows::put_row;
 
 // The answer: the number of the refusal, or how many programs, nodes and places there are.
-#[derive(Drop)]
+#[derive(Clone, Copy)]
 pub enum Rows {
     Refused(u8),
     Filled {

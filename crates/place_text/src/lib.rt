@@ -13,7 +13,7 @@ use value_tables::{LINE_TABLE, LINE_WORDS};
 
 // What a text gives: the number and the line of its refusal; or number 0, how many programs and nodes it has, and how many words the rows of its
 // places take.
-#[derive(Drop)]
+#[derive(Clone, Copy)]
 pub struct TextRows {
     pub number: u8,
     pub line: u64,

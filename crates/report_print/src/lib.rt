@@ -19,7 +19,7 @@ use word_list::word_at;
 pub const REPORT_BYTES: usize = 8192;
 
 // A report: how many bytes it has, and the bytes with zeros after them.
-#[derive(Drop)]
+#[derive(Clone, Copy)]
 pub struct Printed {
     pub length: usize,
     pub bytes: [u8; REPORT_BYTES],

@@ -2,7 +2,7 @@
 #![tactic(auto)]
 
 // The letter holds for no sets; for all; exactly where its two sets meet, which some do and others do not. What each means: specs/Meaning.
-#[derive(Drop)]
+#[derive(Clone, Copy)]
 pub enum Chance {
     Impossible,
     Certain,

@@ -18,7 +18,7 @@ const BACK: u64 = 64;
 pub const NO_STEP: u64 = 134217728;
 
 // A step out of a node: the place left, the place entered, whether it is a back edge, and the node entered.
-#[derive(Drop)]
+#[derive(Clone, Copy)]
 pub struct Taken {
     pub leaves: u64,
     pub enters: u64,

@@ -11,7 +11,7 @@ use text_whole::Whole;
 
 // How much was taken: the lines, and of them the relations, keys and programs; of the program at hand, the lines after the last pr, the
 // statements, the statements and flow, the links and the open blocks.
-#[derive(Drop)]
+#[derive(Clone, Copy)]
 pub struct Before {
     pub lines: u64,
     pub relations: u64,

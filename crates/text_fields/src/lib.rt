@@ -11,20 +11,20 @@ use spec_text::{Line, LineKind, StatementKind};
 use text_lines::Reader;
 
 // The line at a place of a text and the place after it, or that there is none.
-#[derive(Drop)]
+#[derive(Clone, Copy)]
 pub enum LineStep {
     Value(Line, usize),
     Wrong,
 }
 
 // A field's value and where the field ends.
-#[derive(Drop)]
+#[derive(Clone, Copy)]
 enum FieldStep {
     Value(u64, usize),
     Wrong,
 }
 
-#[derive(Drop)]
+#[derive(Clone, Copy)]
 enum KindRead {
     Kind(LineKind),
     Wrong,

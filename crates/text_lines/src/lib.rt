@@ -2,7 +2,7 @@
 #![tactic(auto)]
 
 // Reads a text line after line: the text, the place of the next line, and its number.
-#[derive(Drop)]
+#[derive(Clone, Copy)]
 pub struct Reader<'a> {
     pub text: &'a [u8],
     pub place: usize,
@@ -10,7 +10,7 @@ pub struct Reader<'a> {
 }
 
 // A line of a text: where it starts and ends, the next place, and the number of the line after, which begins there.
-#[derive(Drop)]
+#[derive(Clone, Copy)]
 pub struct Span {
     pub start: usize,
     pub end: usize,

@@ -13,7 +13,7 @@ use text_whole::Whole;
 use value_unused::unused_cells;
 
 // What a text gives: number 0 and its workload value, or a refusal's number and line with a value that no text gives (`no_workload`).
-#[derive(Drop)]
+#[derive(Clone, Copy)]
 pub struct Parsed {
     pub work: Workload,
     pub number: u8,

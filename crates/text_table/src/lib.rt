@@ -14,7 +14,7 @@ use value_lines::put_line;
 use value_tables::LINE_TABLE;
 
 // What a text gives: number 0 and how many lines it has, or a refusal's number and line.
-#[derive(Drop)]
+#[derive(Clone, Copy)]
 pub struct TextTable {
     pub number: u8,
     pub line: u64,

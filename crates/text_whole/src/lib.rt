@@ -1,5 +1,6 @@
 // The tests of a whole text, before its lines: its length, its bytes, its last byte, its names line.
 #![tactic(auto)]
+
 ghost use Rattle.std.specs.Prelude.{◌≡◌, ◌≤◌, ◌<◌, length};
 ghost use Rattle.spec_base.specs.Basic.{all};
 ghost use Rattle.spec_text.specs.Text.{same};
@@ -7,7 +8,7 @@ ghost use Rattle.spec_text.specs.Reading.{is_allowed, other_byte, ends_line};
 ghost use Rattle.text_whole.specs.Whole.{whole_of, line_or, line_after_byte, begins_named};
 
 // What the tests of the whole text give: a refusal's number and line, or the place after the names line.
-#[derive(Drop)]
+#[derive(Clone, Copy)]
 pub enum Whole {
     Refused(u8, u64),
     Lines(usize),

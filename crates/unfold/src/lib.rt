@@ -31,7 +31,7 @@ use value_tables::{LINE_WORDS, code_at, id_at, lines_in, mark_at};
 const FEW_LINES: usize = 48;
 
 // The unfoldings of a workload: the number of the refusal, or 0 and how many there are, with each one's program, start and length.
-#[derive(Drop)]
+#[derive(Clone, Copy)]
 pub struct Unfolded {
     pub refusal: u8,
     pub count: u64,
@@ -41,14 +41,14 @@ pub struct Unfolded {
 }
 
 // The number of the refusal, or 0, and how many unfoldings there are, where the caller lends the cells that tell of each.
-#[derive(Drop)]
+#[derive(Clone, Copy)]
 pub struct Told {
     pub refusal: u8,
     pub count: u64,
 }
 
 // The number of the refusal, or 0, how many unfoldings there are, and the last one's start and length: of none, those of row 63.
-#[derive(Drop)]
+#[derive(Clone, Copy)]
 pub struct LastTold {
     pub refusal: u8,
     pub count: u64,
@@ -57,7 +57,7 @@ pub struct LastTold {
 }
 
 // What is laid of a stretch of statements: how many words, what is seen after them, and whether the run ends there, or the area, or a block is next.
-#[derive(Drop)]
+#[derive(Clone, Copy)]
 struct Stretch {
     many: usize,
     sees: u32,
@@ -65,7 +65,7 @@ struct Stretch {
 }
 
 // A block's part in an unfolding: so many turns of the run at a line, the first by its number, the second by its.
-#[derive(Drop)]
+#[derive(Clone, Copy)]
 struct Part {
     turns: u8,
     at: usize,
@@ -74,7 +74,7 @@ struct Part {
 }
 
 // What is written so far: how many unfoldings, and how many places they take.
-#[derive(Drop)]
+#[derive(Clone, Copy)]
 struct Used {
     count: usize,
     used: usize,

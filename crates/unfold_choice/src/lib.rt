@@ -28,7 +28,7 @@ pub const CHOICES: usize = 64;
 
 // The choices of a node: the number of the refusal, or 0 and whether there is such a node; its program, which unfolding of that program it is, how
 // many choices it makes, and a word for each.
-#[derive(Drop)]
+#[derive(Clone, Copy)]
 pub struct Choices {
     pub refusal: u8,
     pub found: bool,
@@ -39,14 +39,14 @@ pub struct Choices {
 }
 
 // The words so far.
-#[derive(Drop)]
+#[derive(Clone, Copy)]
 struct ChoiceTable {
     count: usize,
     words: [u64; CHOICES],
 }
 
 // A node among the programs: the `pr` line of its program, the program's number, and which unfolding of the program it is.
-#[derive(Drop)]
+#[derive(Clone, Copy)]
 struct NodePlace {
     found: bool,
     line: usize,

@@ -16,7 +16,7 @@ use value_tables::{LINE_WORDS, code_at, lines_in};
 
 // What is told of a program: the number of the refusal, or 0 and whether there is a program with this number; the number of its `pr` line,
 // its unfoldings and the statements in them, each stopped at 513.
-#[derive(Drop)]
+#[derive(Clone, Copy)]
 pub struct ProgramUnfoldings {
     pub refusal: u8,
     pub found: bool,

@@ -9,7 +9,7 @@ use line_kinds::line_facts;
 use spec_text::Line;
 
 // The bytes that a line is written with, or that a value does not fit its field.
-#[derive(Drop)]
+#[derive(Clone, Copy)]
 pub enum LineSize {
     Bytes(u64),
     Unfit,

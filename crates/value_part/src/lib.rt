@@ -10,7 +10,7 @@ ghost use Rattle.value_part.specs.PartSteps.{numbered_as, gone_on};
 use spec_text::{Line, LineKind, Workload};
 
 // What a value and a group give: number 0 and the part's value, or 21 and the value itself, which no text gives.
-#[derive(Drop)]
+#[derive(Clone, Copy)]
 pub struct Part {
     pub work: Workload,
     pub number: u8,
@@ -18,7 +18,7 @@ pub struct Part {
 
 // How far the lines of the whole have been gone through: how many programs were passed, how many of them were chosen, and whether the lines at
 // hand are kept.
-#[derive(Drop)]
+#[derive(Clone, Copy)]
 struct Gone {
     passed: u64,
     chosen: u8,

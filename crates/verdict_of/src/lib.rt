@@ -105,7 +105,7 @@ pub fn verdict_of(w: Workload, area: &mut [u64]) -> Verdict
 }
 
 // The verdict on a text, or the number and the line of its refusal.
-#[derive(Drop)]
+#[derive(Clone, Copy)]
 pub enum TextVerdict {
     Unread(u8, u64),
     Judged(Verdict),

@@ -9,7 +9,7 @@ ghost use Rattle.verdict_told.specs.Found.{told_for};
 use pick_laws::WalkFound;
 
 // What a verdict counts: programs, nodes, edges of both flows, and the back edges among them.
-#[derive(Drop)]
+#[derive(Clone, Copy)]
 pub struct Totals {
     pub programs: u64,
     pub nodes: u64,
@@ -18,7 +18,7 @@ pub struct Totals {
 }
 
 // The answer: a word with its counts, and for danger how many steps the shown walk has; or the number of a refusal.
-#[derive(Drop)]
+#[derive(Clone, Copy)]
 pub enum Verdict {
     Robust(Totals),
     Danger(Totals, u64),

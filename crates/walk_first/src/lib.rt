@@ -91,7 +91,7 @@ fn going_after(going: Going, back: bool, opens: u64, leaves: u64) -> Going
 }
 
 // How far the writing of the walk has come: the node that is left next, and the phase.
-#[derive(Drop)]
+#[derive(Clone, Copy)]
 struct Spot {
     node: usize,
     going: Going,

@@ -27,7 +27,7 @@ use word_rows::put_row;
 
 // What a run of rows gives: the next row on its chain, the marks of the last edges that enter it, 0 where there is none, and how many forward
 // and back edges there are.
-#[derive(Drop)]
+#[derive(Clone, Copy)]
 struct Run {
     next: usize,
     forward: u64,
@@ -38,7 +38,7 @@ struct Run {
 
 // How far the pass along a run has come: where the words of the next row stand, where those of the last one that an edge enters do, and how many
 // edges there are.
-#[derive(Drop)]
+#[derive(Clone, Copy)]
 struct Stretch {
     at: usize,
     last: usize,

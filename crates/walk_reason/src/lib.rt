@@ -11,7 +11,7 @@ use spec_text::StatementKind;
 
 // Whether the pair is dangerous, and the reasons: the first edge is back; the second leaves at an earlier place than the first enters; the first
 // leaves a statement of kind ks, ps, pu or pd.
-#[derive(Drop)]
+#[derive(Clone, Copy)]
 pub struct Reasons {
     pub dangerous: bool,
     pub back: bool,
