@@ -1,5 +1,6 @@
 // Reads one value line of a workload text, where it stands.
 #![tactic(auto)]
+
 ghost use Rattle.std.specs.Prelude.{◌≡◌, [], ◌∷◌, true, false, cond, not, eqb, ◌+◌, ◌≤◌, ◌<◌, length, drop};
 ghost use Rattle.spec_text.specs.Text.{kind_of, newline, space};
 ghost use Rattle.text_fields.specs.FieldStep.{kind_answer, Read, ReadLine, Reach, Decimal};

@@ -1,5 +1,6 @@
 // The cells of a workload value that no line uses.
 #![tactic(auto)]
+
 ghost use Rattle.std.specs.Prelude.{◌≡◌, drop};
 ghost use Rattle.spec_base.specs.Basic.{all};
 ghost use Rattle.value_cells.specs.Cells.{is_empty};

@@ -1,5 +1,6 @@
 // What a line takes up in a text, from its values alone.
 #![tactic(auto)]
+
 ghost use Rattle.std.specs.Prelude.{◌≡◌, ◌≤◌, length};
 ghost use Rattle.spec_text.specs.Text.{digits_of};
 ghost use Rattle.law_text.specs.TextLaws.{line_fits};

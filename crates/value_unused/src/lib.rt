@@ -1,5 +1,6 @@
 // A value that holds no line: what reading and making a part begin with, and what a refused text is read into.
 #![tactic(auto)]
+
 ghost use Rattle.std.specs.Prelude.{◌≡◌};
 ghost use Rattle.value_unused.specs.Unused.{unused_cells};
 

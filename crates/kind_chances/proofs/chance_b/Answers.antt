@@ -1,0 +1,11 @@
+-- What is asked of the kinds and of their sets gives the chance of B (b-told).
+use borrow.Author.Rules.{rules}
+use Rattle.kind_chances.specs.EntryLaws.{b_told}
+use Rattle.kind_chances.proofs.chance_b.Goals as goal
+
+pub returns : goal.returns
+returns c =
+    let c3 = c in
+    let given = c3.args in
+    b_told given.k given.l c.met.ensures c3.deletes.ensures
+    c3.writes_of.ensures c.Reads-of.ensures c.unless.ensures

@@ -1,0 +1,11 @@
+-- What is asked of the kinds and of their sets gives the chance of D (d-told).
+use borrow.Author.Rules.{rules}
+use Rattle.kind_chances.specs.EntryLaws.{d_told}
+use Rattle.kind_chances.proofs.chance_d.Goals as goal
+
+pub returns : goal.returns
+returns c =
+    let c3 = c in
+    let given = c3.args in
+    d_told given.k given.l c.met.ensures c3.inserts.ensures
+    c3.Reads-of.ensures c.writes_of.ensures c.unless.ensures

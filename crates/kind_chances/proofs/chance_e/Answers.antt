@@ -1,0 +1,7 @@
+-- It is C the other way round (e-told).
+use borrow.Author.Rules.{rules}
+use Rattle.kind_chances.specs.EntryLaws.{e_told}
+use Rattle.kind_chances.proofs.chance_e.Goals as goal
+
+pub returns : goal.returns
+returns c = let given = c.args in e_told given.k given.l c.chance_c.result c.chance_c.ensures

@@ -1,0 +1,20 @@
+-- Each value is held to whether the kind has its field, by the facts that `line_facts` gives, and so a line fits (facts-fit).
+use Rattle.value_length.specs.LineSizeLaws.{facts_fit}
+use native.Mathlib.Omega.{arith}
+use borrow.Author.Rules.{rules}
+use Rattle.value_length.proofs.value_fits.Reads as value-fits-reads
+use Rattle.line_kinds.proofs.line_facts.Reads as line-facts-reads
+use Rattle.value_length.proofs.line_fits.Goals as goal
+
+pub returns : goal.returns
+returns c = rw (
+  c.value_fits-tests.ensures,
+  c.value_fits-writes.ensures,
+  c.value_fits-reads.ensures,
+  c.value_fits-to.ensures,
+  c.value_fits-rel.ensures,
+  c.value_fits-id.ensures,
+  c.line_facts-facts.ensures,
+)
+    (facts_fit c.before.before.before.before.before.before.before.before.before.before.args.l
+    (record { id = omega arith; rel = omega arith; to = omega arith; reads = omega arith; writes = omega arith; tests = omega arith }))
