@@ -16,7 +16,7 @@ SEARCHES = {"search rules", "omega arith", "search(rules)", "tt"}
 
 
 def norm(label):
-    return label.replace("_", "-")
+    return label.replace("_", "-").lower()
 
 
 class Function:
@@ -95,7 +95,9 @@ class File:
                 cur = None if comment else cur
             else:
                 m = re.match(r"(?:(?:abbrev|unfoldable|pub|mutual) )*([^\s:]+)", l)
-                if l[0] != " ":
+                if l[0] in ")]}" and cur is not None:
+                    cur["lines"].append(l)
+                elif l[0] != " ":
                     word = m[1]
                     if cur is not None and cur["name"] == word or l.startswith("unfolding ") and cur:
                         cur["lines"].append(l)
@@ -155,14 +157,20 @@ class File:
                         fields = got
                     else:
                         self.said.append(f"no step {fields[0]} at {place}")
-            fields = [fields[0]] + [FIELD.get(f, f) for f in fields[1:]]
+            fields = [FIELD.get(f, f) if i or kind == "step" else f for i, f in enumerate(fields)]
             return root + "." + ".".join(fields)
 
         out, pos = [], 0
         # aliases are learnt in the order of the text
-        pattern = re.compile(r"(?<![\w.'-])([A-Za-z_α-ω][\w'₀-₉-]*)((?:\.[\w'?◌+-]+)+)")
+        pattern = re.compile(r"(?<![\w.'-])([A-Za-z_α-ω][\w'₀-₉-]*)((?:\.[\w'?◌+-]+)+)|\blet ([\w'₀-₉-]+) = ([\w'₀-₉-]+)(?=\s+in\b)")
         for m in pattern.finditer(text):
             out.append(text[pos : m.start()])
+            if m[3]:
+                if m[4] in roots:
+                    roots[m[3]] = roots[m[4]]
+                out.append(m[0])
+                pos = m.end()
+                continue
             new = one(m)
             out.append(new)
             pos = m.end()
@@ -174,7 +182,11 @@ class File:
                 else:
                     roots[a[1]] = ("step", None)
         out.append(text[pos:])
-        return "".join(out)
+        text = "".join(out)
+        # a test of 'not x' now says what x is
+        said = r"([\w'.-]*if-not-[\w'-]*\.(?:true|false))"
+        text = re.sub(r"\(not[-_](?:true|false) \S+ " + said + r"\)", r"\1", text)
+        return re.sub(r"(?<![\w-])not[-_](?:true|false) \S+ " + said, r"\1", text)
 
     def invariant(self, d, which):
         text = "\n".join(d["lines"])
@@ -205,12 +217,48 @@ class File:
         label = f"{kind}-{new}"
         return f"abbrev pub {label} : goal.{label}\n{label} l ={body}"
 
+    def by_place(self, text):
+        """A declaration's parameters that stand at a place of the code: each with where its type stands in the text, and its name."""
+        found = []
+        eq = re.search(r"(?m)^\S+((?: (?:\{[^}]*\}|[^\s=]+))*) =", text[1:])
+        for m in re.finditer(r"\(([\w'₀-₉ -]+) : (tie\.[\w-]+(?: (?:invariant|decreases)-loop[\w-]*)*|[A-Z]\w*)\)", text):
+            if self.place_of(m[2]) or m[2] in self.types:
+                for n in m[1].split():
+                    found.append((m.start(2), m.end(2), n, self.place_of(m[2])))
+        m = re.search(r"^(?:abbrev |pub )*\S+ : (tie\.[\w-]+(?: (?:invariant|decreases)-loop[\w-]*)*|[A-Z]\w*)\s*→", text)
+        if m and (self.place_of(m[1])):
+            names = re.search(r"(?m)^" + re.escape(re.match(r"(?:abbrev |pub )*(\S+)", text)[1]) + r" ([\w'₀-₉-]+)", text)
+            if names:
+                found.insert(0, (m.start(1), m.end(1), names[1], self.place_of(m[1])))
+        return found
+
     def run(self):
         invs, ans = [], []
         base = f"Rattle.{self.crate}.proofs.{self.name}"
-        named = {}
+        hops, answers, helpers = set(), [], []
         for d in self.decls:
             text = "\n".join(d["lines"])
+            m = re.match(r"abbrev (\S+) : Type 0\n\1 = (tie\.[\w-]+(?: (?:invariant|decreases)-loop[\w-]*)*)$", text.strip())
+            if m and self.place_of(m[2]):
+                self.types[m[1]] = self.place_of(m[2])
+                d["name"] = None
+                continue
+            m = re.match(r"(?:abbrev )?(\S+) : [^\n]*→[^\n]*\n\1 (\S+) = (.*)$", text.strip(), re.S)
+            if m and re.fullmatch(r"(?:(?:" + "|".join(map(re.escape, hops)) + r") |\(|\))*" + re.escape(m[2]) + r"(?:\.before|\))*" if hops else re.escape(m[2]) + r"(?:\.before)*", m[3].strip()):
+                hops.add(m[1])
+                d["name"] = None
+
+        def unhop(text):
+            for h in sorted(hops, key=len, reverse=True):
+                for _ in range(6):
+                    text = re.sub(r"\((?<![\w-])" + re.escape(h) + r" ([\w'₀-₉-]+(?:\.before)*)\)", r"\1", text)
+                text = re.sub(r"(?<![\w.-])" + re.escape(h) + r" (?=[\w(])", "", text)
+            return text
+
+        for d in self.decls:
+            if d["name"] is None:
+                continue
+            text = unhop("\n".join(d["lines"]))
             if re.match(r"(?:invariant|decreases)-loop", d["name"]):
                 got = self.invariant(d, d["name"])
                 if got:
@@ -220,56 +268,85 @@ class File:
                 continue
             if re.search(r"_spec$|-spec$", d["name"]) and "tie.close" in text:
                 continue
-            m = re.search(r":\s*tie\.Need-(" + LABEL + r")", text)
-            if m and re.match(re.escape(d["name"]) + r"\s*:\s*tie\.Need-", text):
+            m = re.match(re.escape(d["name"]) + r"\s*:\s*tie\.Need-(" + LABEL + r")", text)
+            if m:
                 got = self.fn.need(m[1])
                 body = text[m.end():]
                 eq = re.search(r"(?m)^" + re.escape(d["name"]) + r"((?: [^\s=]+)*) =", body)
                 plain = " ".join(body[eq.end():].split()) if eq else ""
-                if plain in SEARCHES:
+                if plain in SEARCHES and not re.search(r"(?m)^unfolding ", body[: eq.start() + 1]):
                     continue
                 if not got:
                     if norm(m[1]) not in self.fn.settled:
                         self.said.append(f"no goal for {m[1]}")
                     continue
                 new, place = got
-                args = [a for a in eq[1].split()] if eq else ["c"]
-                root = "c"
-                if root not in args and args:
-                    root = args[0]
+                newplace = dict(self.fn.d["asked_at"] and [(n[1], a[1]) for n, a in zip(self.fn.d["needs"], self.fn.d["asked_at"])])[new]
+                args = eq[1].split() if eq else ["c"]
+                root = "c" if "c" in args or not args else args[0]
                 body2 = self.paths(body[eq.end():], {root: ("place", place)})
                 unf = "".join(u + "\n" for u in re.findall(r"(?m)^unfolding .*$", body[: eq.start()]))
                 args = [a for a in args if a != "κs"]
-                ans.append("\n".join(d["comment"] + [f"pub {new} : goal.{new}", f"{unf}{new} {' '.join(args)} ={body2}"]))
-                named[d["name"]] = new
+                answers.append([d, newplace, f"pub {new} : goal.{new}\n{unf}{new} {' '.join(args)} ={body2}", d["name"], new])
                 continue
-            # a helper
-            m = re.match(r"abbrev (\S+) : Type 0\n\1 = (tie\..*)", text)
-            if m:
-                p = self.place_of(m[2])
-                if p:
-                    self.types[m[1]] = p
-            roots = {}
-            sig_end = text.find("=")
-            for b in re.finditer(r"\(([\w'₀-₉ -]+) : ([^()]*(?:\([^()]*\))?[^()]*)\)", text):
-                p = self.place_of(b[2])
-                if p:
-                    for n in b[1].split():
-                        roots[n] = ("place", p)
-            first = re.search(re.escape(d["name"]) + r" : (tie\." + LABEL + r"|\w+)[^\n]*→", text)
-            eq = re.search(r"(?m)^" + re.escape(d["name"]) + r" ([\w'₀-₉-]+)", text[len(d["name"]):])
-            if first and eq:
-                p = self.place_of(first[1])
-                if p:
-                    roots[eq[1]] = ("place", p)
-            new = self.paths(text, roots)
+            found = self.by_place(text)
+            new = self.paths(text, {n: ("place", p) for _, _, n, p in found})
+            helpers.append([d, new, bool(found)])
 
-            def typ(m):
-                i = self.fn.places.get(norm(m[1]))
-                return "goal." + (self.fn.d["places_by_name"][i] if i is not None else m[1])
+        # where each helper is called from
+        at = {h[0]["name"]: [] for h in helpers}
 
-            new = re.sub(r"tie\.(" + LABEL + r")((?: invariant-loop\S*| decreases-loop\S*)*)", typ, new)
-            ans.append("\n".join(d["comment"] + [new]))
+        def calls(text, name):
+            return re.search(r"(?<![\w.'-])" + re.escape(name) + r"(?![\w'-])", text)
+
+        def note(name, place):
+            if place not in at[name]:
+                at[name].append(place)
+                for h in helpers:
+                    if h[0]["name"] != name and any(calls(text_of[name], h[0]["name"]) for _ in [0]):
+                        note(h[0]["name"], place)
+
+        text_of = {h[0]["name"]: h[1][len(h[0]["name"]):] for h in helpers}
+        for a in answers:
+            for h in helpers:
+                if calls(a[2], h[0]["name"]):
+                    note(h[0]["name"], a[1])
+        placed = {h[0]["name"]: h[2] for h in helpers}
+
+        def variant(name, place):
+            k = at[name].index(place)
+            return name if k == 0 or not placed[name] else f"{name}_{k + 1}"
+
+        def respell(text, place, me=None):
+            for h in helpers:
+                n = h[0]["name"]
+                if placed[n] and place in at[n] and variant(n, place) != n:
+                    text = re.sub(r"(?<![\w.'-])" + re.escape(n) + r"(?![\w'-])", variant(n, place), text)
+            return text
+
+        order = {id(d): i for i, d in enumerate(self.decls)}
+        out = []
+        for d, text, has in helpers:
+            n = d["name"]
+            if not at[n]:
+                continue
+            places = at[n] if has else at[n][:1]
+            for k, q in enumerate(places):
+                new = text
+                if has:
+                    for s, e, _, _ in sorted(self.by_place(text), reverse=True):
+                        new = new[:s] + "goal." + q + new[e:]
+                new = respell(new, q)
+                out.append((order[id(d)], "\n".join((d["comment"] if k == 0 else []) + [new])))
+        for d, place, text, old, new in answers:
+            text = respell(text, place)
+            head, body = text.split(" =", 1)
+            for _, _, _, o, n in answers:
+                if o != n and o != old:
+                    body = re.sub(r"(?<![\w.'-])" + re.escape(o) + r" (?=c\b)", n + " ", body)
+            text = head + " =" + body
+            out.append((order[id(d)], "\n".join(d["comment"] + [text])))
+        ans = [x for _, x in sorted(out, key=lambda it: it[0])]
         uses = [u for u in self.uses if not re.search(r"\.Statement\.\{statement\}|\.Tie as tie|\.Reads as reads|\.Lts as lts", u)]
         return invs, ans, uses, base
 

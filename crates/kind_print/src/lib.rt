@@ -1,7 +1,7 @@
 // The table of kinds as bytes: a line of names, then a line for each two kinds (Req 05).
 #![tactic(auto)]
 
-ghost use Rattle.std.specs.Prelude.{◌≡◌, ◌+◌, ◌*◌, ◌<◌, length};
+ghost use Rattle.std.specs.Prelude.{◌≡◌, ◌+◌, ◌*◌, ◌<◌, ◌≤◌, ◌++◌, length, take, drop};
 ghost use Rattle.std.proofs.Math.Seq.{paste};
 ghost use Rattle.spec_text.specs.Text.{word_of, digit};
 ghost use Rattle.spec_text.specs.declared.LineKind.TheVariants.{St};
@@ -82,13 +82,21 @@ fn line_at(i: usize) -> [u8; LINE_BYTES]
     ]
 }
 
+// Copies bytes to the front of an area.
+fn put_front(bytes: &[u8], out: &mut [u8])
+    requires { length bytes.now ≤ length out.old }
+    ensures { out.new ≡ take (length bytes.now) bytes.now ++ drop (length bytes.now) out.old }
+{
+    out[..bytes.len()].copy_from_slice(bytes);
+}
+
 // Writes line i of the table to its place.
 fn put_line(out: &mut [u8], i: usize)
     requires { (1042 ≡ length out.old) × (i < 64) }
     ensures { out.new ≡ paste out.old (18 + i * 16) (line_at i) 16 }
 {
     let line = line_at(i);
-    bytes::copy(&line, &mut out[NAMES_BYTES + i * LINE_BYTES..]);
+    put_front(&line, &mut out[NAMES_BYTES + i * LINE_BYTES..]);
 }
 
 // Writes the table into an area of its length.
@@ -96,7 +104,7 @@ fn fill(out: &mut [u8])
     requires { 1042 ≡ length out.old }
     ensures { KindTable out.new }
 {
-    bytes::copy(b"from to a b c d e\n", out);
+    put_front(b"from to a b c d e\n", out);
     let mut i: usize = 0;
     while i < LINES {
         put_line(out, i);

@@ -1,5 +1,6 @@
 // The tests of a line over the state that words keep. They are joined by `&` and `|`, which branch nowhere.
 #![tactic(auto)]
+
 ghost use Rattle.std.specs.Prelude.{◌≡◌, true, not, ◌&&◌, ◌-◌, eqb, ltb, get_or};
 ghost use Rattle.spec_text.specs.declared.Line.{Line as LineValue};
 ghost use Rattle.spec_text.specs.declared.LineKind.TheVariants.{Rl as Relation, Fk as Key, Pr as Program, St as Statement, Lo as Loop};

@@ -1,5 +1,6 @@
 // R8: whether a link fits the statements and the keys that words keep.
 #![tactic(auto)]
+
 ghost use Rattle.std.specs.Prelude.{◌≡◌, eqb};
 ghost use Rattle.spec_base.specs.Basic.{within};
 ghost use Rattle.line_state.specs.StateSteps.{cell_of, blocks_within_of, link_fits_of};

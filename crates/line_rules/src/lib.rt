@@ -1,6 +1,7 @@
 // What reading keeps of the lines taken so far, in 424 lent words: no line yet, and a line tested and taken. The tests are those of line_check, and
 // taking is that of line_take; there the contracts speak of the words, here also of the lines taken (`HoldsWords`).
 #![tactic(auto)]
+
 ghost use Rattle.std.specs.Prelude.{◌≡◌, List, [], eqb};
 ghost use Rattle.spec_text.specs.declared.Line.{Line as LineValue};
 ghost use Rattle.spec_text.specs.Reading.{none_open};

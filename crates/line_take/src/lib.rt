@@ -1,6 +1,7 @@
 // The state that words keep, after a line. A place in an array is taken within its 32 cells and a count within 65536, so that no store needs a
 // test; where the words hold lines, neither changes anything.
 #![tactic(auto)]
+
 ghost use Rattle.std.specs.Prelude.{◌≡◌, cond, ◌-◌};
 ghost use Rattle.spec_text.specs.Reading.{can_be_parent};
 ghost use Rattle.line_state.specs.StateSteps.{mark_of, pushed_of, popped_of, second_of, take_as};

@@ -5,7 +5,7 @@ use spec_text::StatementKind;
 
 // Node and place count from 0. In the row of a place the sets that the kind lacks hold 0. Bit f of
 // `keys` is set where key f shields the place as one that an edge leaves, bit 32 + f where it shields the place as one that an edge enters.
-#[derive(Drop)]
+#[derive(Clone, Copy)]
 pub struct Row {
     pub node: u64,
     pub place: u64,

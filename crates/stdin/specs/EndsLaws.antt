@@ -4,10 +4,9 @@ use Rattle.std.proofs.Common.{sym, ap, ◌∙◌, arith, ltb-true, SFits, of_z, 
 use Rattle.std.specs.Int.Signed.{lt_z}
 use Rattle.std.specs.Int.{w64}
 use Rattle.std.proofs.lemmas.Int.{to_z-of_z}
-use Rattle.libc.specs.Io.{Moved}
 use Rattle.io.specs.Counts.{clamp_len}
 use Rattle.stdin.specs.declared.reads.Received.{Received}
-use Rattle.stdin.specs.Reads.{nothing_read, read_once, ReadMore}
+use Rattle.stdin.specs.Reads.{Moved, nothing_read, read_once, ReadMore}
 use Rattle.stdin.specs.Ends.{Negative}
 use Rattle.stdin.specs.ReadsLaws.{more_read}
 

@@ -1,9 +1,13 @@
 -- What the reads of the input are counted as. Believed.
-use Rattle.std.specs.Prelude.{cond, List, ◌≡◌, ℕ, ◌+◌, ◌-◌, ◌<◌, ltb, ℤ, pos, length, take}
-use Rattle.libc.specs.Io.{Moved}
+use Rattle.std.specs.Prelude.{cond, List, ◌≡◌, ℕ, ◌+◌, ◌-◌, ◌<◌, ltb, ◌≤◌, ℤ, pos, negsuc, length, take}
 use Rattle.io.specs.Counts.{clamp_len}
 use Rattle.stdin.specs.declared.reads.Received.{Received}
 use Rattle.stdin.specs.declared.reads.Once.{Once}
+
+-- what a read that is lent room for n bytes may answer: -1, or how many bytes it brought, at most n
+abbrev pub Moved : ℕ → ℤ → Type 0
+Moved n (pos k) = k ≤ n
+Moved n (negsuc k) = k ≡ 0
 
 -- before any read there are no bytes, and none was lent room
 abbrev pub nothing_read : Received

@@ -1,11 +1,10 @@
 -- One read more, as the code makes it.
 use Rattle.std.specs.Prelude.{Bool, true, false, cond, List, ◌≡◌, refl, ℕ, ◌+◌, ◌-◌, ◌≤◌, ◌<◌, ltb, ℤ, pos, negsuc, length, take}
 use Rattle.std.proofs.Common.{sym, ap, subst, ◌∙◌, arith, lt-ltb, le-ltb}
-use Rattle.libc.specs.Io.{Moved}
 use Rattle.io.specs.Counts.{clamp_len}
 use Rattle.stdin.specs.declared.reads.Received.{Received}
 use Rattle.stdin.specs.declared.reads.Once.{Once}
-use Rattle.stdin.specs.Reads.{Brought, read_once, ReadMore}
+use Rattle.stdin.specs.Reads.{Moved, Brought, read_once, ReadMore}
 
 -- no room, no read
 pub no_more : (t : Received) (bytes : List ℕ) → length bytes ≤ t.count → ReadMore t bytes bytes t

@@ -1,14 +1,16 @@
 // Standard input into a lent area, and how reading it ended.
 #![tactic(auto)]
+
 pub mod reads;
 
 ghost use Rattle.std.specs.Prelude.{length};
 ghost use Rattle.stdin.specs.Ends.{Ends};
 
 pub use reads::Received;
+use std::io::Stdin;
 
 // How reading ended, each time with the reads that were made: the input ended; the area is full; a read failed.
-#[derive(Drop)]
+#[derive(Clone, Copy)]
 pub enum Input {
     Ended(Received),
     Full(Received),
@@ -18,12 +20,12 @@ pub enum Input {
 // Reads into an area until the input ends, the area is full or a read fails, and tells these three apart: a text that is cut off at
 // a line's end is a text too. A read that brings fewer bytes than it was lent room for is none of the three. What the area holds is the
 // system's choice: C's contract leaves every byte that it is lent free, so no promise on them could tell this function from a wrong one.
-pub fn read_input(area: &mut [u8]) -> Input
+pub fn read_input(stdin: Stdin, area: &mut [u8]) -> Input
     ensures { Ends (length area.new) result }
 {
     let mut received = Received::nothing();
     while received.count() < area.len() {
-        received = received.more(area);
+        received = received.more(stdin, area);
         let last = received.last();
         if last < 0 {
             return Input::Failed(received);

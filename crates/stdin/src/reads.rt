@@ -5,10 +5,10 @@
 ghost use Rattle.std.specs.Prelude.{◌≡◌, length};
 ghost use Rattle.stdin.specs.Reads.{nothing_read, Brought, ReadMore};
 
-use libc::STDIN_FILENO;
+use std::io::{Read, Stdin};
 
 // What was read so far: how many bytes, what the last read answered, and for how many bytes it was lent room.
-#[derive(Drop)]
+#[derive(Clone, Copy)]
 pub struct Received {
     count: usize,
     last: isize,
@@ -16,20 +16,25 @@ pub struct Received {
 }
 
 // What one read answered, and how many bytes it brought.
-#[derive(Drop)]
+#[derive(Clone, Copy)]
 struct Once {
     answer: isize,
     count: usize,
 }
 
 // One read into the whole of an area.
-fn read_once(area: &mut [u8]) -> Once
+fn read_once(mut stdin: Stdin, area: &mut [u8]) -> Once
     ensures { Brought (length area.old) result }
 {
-    let answer = libc::read(STDIN_FILENO, area);
-    Once {
-        answer,
-        count: io::count(answer, area),
+    match stdin.read(area) {
+        Ok(count) => Once {
+            answer: count as isize,
+            count,
+        },
+        Err(_) => Once {
+            answer: -1,
+            count: 0,
+        },
     }
 }
 
@@ -58,7 +63,7 @@ impl Received {
     }
 
     // One read more, into the rest of the area after the bytes that are there; none where there is no rest.
-    pub fn more(self, area: &mut [u8]) -> Received
+    pub fn more(self, stdin: Stdin, area: &mut [u8]) -> Received
         ensures { ReadMore self area.old area.new result }
     {
         let n = self.count;
@@ -66,7 +71,7 @@ impl Received {
             return self;
         }
         let room = area.len() - n;
-        let one = read_once(&mut area[n..]);
+        let one = read_once(stdin, &mut area[n..]);
         Received {
             count: n + one.count,
             last: one.answer,

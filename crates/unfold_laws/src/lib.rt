@@ -2,7 +2,7 @@
 #![tactic(auto)]
 
 // A run or a block of lines: its unfoldings, the statements in them, and the line after it.
-#[derive(Drop)]
+#[derive(Clone, Copy)]
 pub struct Counted {
     pub count: u64,
     pub statements: u64,
@@ -17,7 +17,7 @@ pub const STATEMENTS: u64 = 512;
 pub const STOP: u64 = 513;
 
 // The unfoldings of the programs so far, and the statements in them.
-#[derive(Drop)]
+#[derive(Clone, Copy)]
 pub struct UnfoldingTotals {
     pub count: u64,
     pub statements: u64,

@@ -5,12 +5,11 @@ use Prim.Native.Nat.{ℕ, ◌+◌, ◌*◌, ◌≤◌, ◌<◌}
 use native.Mathlib.Decide.{dec_lt}
 use native.Mathlib.Numerals.{add-one}
 use native.Mathlib.Omega.{arith}
-use lib.ListN.{length, get_or, take, replicate, get_or-eq_default, get_or-replicate, length-replicate, length-map}
+use lib.ListN.{length, get_or, take, replicate, get_or-eq_default, get_or-replicate, length-replicate}
 use lib.Seq.{take-suc, take_all}
 use borrow.Author.Tests.{lt-ltb}
 use Rattle.spec_text.specs.declared.Line.{Line}
 use Rattle.spec_text.specs.declared.Workload.{Workload}
-use Rattle.spec_text.specs.contracts.Workload.{the_type}
 use Rattle.spec_text.specs.Value.{lines_of}
 use Rattle.line_kinds.specs.Kinds.{line_facts, has_reads, has_writes, has_tests}
 use Rattle.word_rows.specs.Put.{row_put, put_at_length, put_at_take, put_at_rest}
@@ -57,10 +56,6 @@ line_next lines area i d inside cells most after put h zeros =
           ∙ ap (λ (n : ℕ). line_table (take n lines)) (sym (add-one i)),
       λ j l. ap (λ (t : List ℕ). get_or t j 0) there ∙ put_at_rest area (i * 8) words (omega arith) j (omega arith) ∙ zeros j (omega arith),
     )
-
--- a value has as many cells as its form in memory, which is known by its type
-pub cells_known : (w : Workload) → length (the_type.to w).1.0 ≡ 1616 → length w.lines ≡ 1616
-cells_known w h = sym (length-map w.lines _) ∙ h
 
 -- all lines, where their count or the cells end
 module _ (w : Workload) (words : List ℕ) (i : ℕ) (cells : length words ≡ 12928) (h : take (i * 8) words ≡ line_table (take i w.lines)) where

@@ -8,4 +8,4 @@ returns c =
     let c3 = c in
     let given = c3.args in
     b_told given.k given.l c.met.ensures c3.deletes.ensures
-    c3.writes_of.ensures c.Reads-of.ensures c.unless.ensures
+    c3.writes_of.ensures c.reads_of.ensures c.unless.ensures

@@ -8,4 +8,4 @@ returns c =
     let c3 = c in
     let given = c3.args in
     d_told given.k given.l c.met.ensures c3.inserts.ensures
-    c3.Reads-of.ensures c.writes_of.ensures c.unless.ensures
+    c3.reads_of.ensures c.writes_of.ensures c.unless.ensures

@@ -12,9 +12,6 @@ use Prim.Native.Nat.{ℕ, ◌+◌, ◌-◌, ◌/◌, ◌≤◌}
 use lib.ListN.{length}
 use Rattle.place_programs.proofs.programs_in.Goals as goal
 
-abbrev begun : ℕ → List ℕ → Begun
-begun programs firsts = record { programs = programs; firsts = firsts }
-
 pub loop-i-init : goal.loop-i-init
 unfolding begun_before
 loop-i-init c = (search rules, refl)

@@ -12,6 +12,9 @@ use Prim.Native.Nat.{ℕ, ◌+◌, ◌-◌, ◌/◌, ◌≤◌}
 use lib.ListN.{length}
 use Rattle.place_programs.proofs.programs_in.Given as goal
 
+abbrev begun : ℕ → List ℕ → Begun
+begun programs firsts = record { programs = programs; firsts = firsts }
+
 abbrev pub invariant-loop-i : goal.invariant-loop-i
 invariant-loop-i l = (l.i ≤ length l.lines / 8) × (begun l.programs l.firsts ≡ begun_before l.lines l.i)
 

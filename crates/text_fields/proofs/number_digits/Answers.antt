@@ -8,11 +8,20 @@ use Rattle.text_fields.specs.RunLaws.{at_end, number_zero, number_one, number_tw
 use Rattle.text_fields.proofs.number_digits.Goals as goal
 
 -- the digits stand within the text
-first : (c : goal.Else-a-ge10) → let args = c.args in args.at < length args.text.now
+first : (c : goal.Then-a-eq0) → let args = c.args in args.at < length args.text.now
 first c = (c.decimal_at-a.ensures.digit c.if-a-ge10.false).0
+
+first_2 : (c : goal.Else-a-eq0) → let args = c.args in args.at < length args.text.now
+first_2 c = (c.decimal_at-a.ensures.digit c.if-a-ge10.false).0
+
+first_3 : (c : goal.Then-b-ge10) → let args = c.args in args.at < length args.text.now
+first_3 c = (c.decimal_at-a.ensures.digit c.if-a-ge10.false).0
 
 second : (c : goal.Else-b-ge10) → let args = c.args in args.at + 1 < length args.text.now
 second c = (c.decimal_at-b.ensures.digit c.if-b-ge10.false).0
+
+second_2 : (c : goal.Then-c-ge10) → let args = c.args in args.at + 1 < length args.text.now
+second_2 c = (c.decimal_at-b.ensures.digit c.if-b-ge10.false).0
 
 third : (c : goal.Else-c-ge10)
     → let args = c.args in args.at + 2 < length args.text.now
@@ -36,13 +45,13 @@ returns-then-a-eq0 c =
     }
 
 pub overflow_add-at-2 : goal.overflow_add-at-2
-overflow_add-at-2 c = omega (arith, first c)
+overflow_add-at-2 c = omega (arith, first_2 c)
 
 pub overflow_add-at-then-b-ge10 : goal.overflow_add-at-then-b-ge10
-overflow_add-at-then-b-ge10 c = omega (arith, first c)
+overflow_add-at-then-b-ge10 c = omega (arith, first_3 c)
 
 pub ended-requires-then-b-ge10 : goal.ended-requires-then-b-ge10
-ended-requires-then-b-ge10 c = omega (arith, first c)
+ended-requires-then-b-ge10 c = omega (arith, first_3 c)
 
 pub returns-then-b-ge10 : goal.returns-then-b-ge10
 returns-then-b-ge10 c =
@@ -60,10 +69,10 @@ pub overflow_add-at-3 : goal.overflow_add-at-3
 overflow_add-at-3 c = omega (arith, second c)
 
 pub overflow_add-at-then-c-ge10 : goal.overflow_add-at-then-c-ge10
-overflow_add-at-then-c-ge10 c = omega (arith, second c)
+overflow_add-at-then-c-ge10 c = omega (arith, second_2 c)
 
 pub ended-requires-then-c-ge10 : goal.ended-requires-then-c-ge10
-ended-requires-then-c-ge10 c = omega (arith, second c)
+ended-requires-then-c-ge10 c = omega (arith, second_2 c)
 
 pub returns-then-c-ge10 : goal.returns-then-c-ge10
 returns-then-c-ge10 c =

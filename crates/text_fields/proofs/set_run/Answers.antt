@@ -18,23 +18,29 @@ loop-i-init c =
     let all_left : args.at + 15 - args.at ≡ 15 = omega arith in
     (omega arith, omega arith, rw none_read (omega arith), rw all_left)
 
--- a turn of the loop, and the byte that it reads
-abbrev Turn : Type 0
-Turn = goal.After-shared_slice_known-in-loop-i-1
-
-abbrev byte : Turn → ℕ
+abbrev byte : goal.Then-b → ℕ
 byte t = get_or t.args.text.now t.loop-i.i 0
 
+abbrev byte_2 : goal.Then-b-2 → ℕ
+byte_2 t = get_or t.args.text.now t.loop-i.i 0
+
 -- a digit more keeps the value below the next power of 16, which a word holds
-grown : (t : Turn) (d : ℕ) → d < 16 → let loop = t.loop-i in let at = t.args.at in
+grown : (t : goal.Then-b) (d : ℕ) → d < 16 → let loop = t.loop-i in let at = t.args.at in
     (loop.value * 16 + d < 16 ^ (loop.i - at + 1 + 1)) × (16 ^ (loop.i - at + 1 + 1) ≤ 2 ^ 64)
 grown t d less =
     let loop = t.loop-i in
     let there = t.requires.0 in
-    (next_power 16 loop.value _ d (omega arith) loop.inv.2 less, power_fits _ (omega arith))
+    (next_power 16 loop.value _ d (omega arith) loop.invariant.2 less, power_fits _ (omega arith))
+
+grown_2 : (t : goal.Then-b-2) (d : ℕ) → d < 16 → let loop = t.loop-i in let at = t.args.at in
+    (loop.value * 16 + d < 16 ^ (loop.i - at + 1 + 1)) × (16 ^ (loop.i - at + 1 + 1) ≤ 2 ^ 64)
+grown_2 t d less =
+    let loop = t.loop-i in
+    let there = t.requires.0 in
+    (next_power 16 loop.value _ d (omega arith) loop.invariant.2 less, power_fits _ (omega arith))
 
 -- and what is left to read gives the answer still
-again : (t : Turn) (d : ℕ) → d < 16 → hexadecimal (byte t) ≡ d → let loop = t.loop-i in
+again : (t : goal.Then-b) (d : ℕ) → d < 16 → hexadecimal (byte t) ≡ d → let loop = t.loop-i in
     let args = t.args in
     (args.at ≤ loop.i + 1) × (loop.i + 1 ≤ args.limit) × (loop.value * 16 + d < 16 ^ (loop.i + 1 - args.at + 1))
     × (digits_run args.last 16 15 args.first (drop args.at args.text.now)
@@ -50,11 +56,30 @@ again t d less digit =
       omega arith,
       omega arith,
       rw one_more (grown t d less).0,
-      loop.inv.3 ∙ rw (← digit) (run_digit args.text.now loop.i args.last 16 _ _ loop.value left inside (rw digit less)),
+      loop.invariant.3 ∙ rw (← digit) (run_digit args.text.now loop.i args.last 16 _ _ loop.value left inside (rw digit less)),
+    )
+
+again_2 : (t : goal.Then-b-2) (d : ℕ) → d < 16 → hexadecimal (byte_2 t) ≡ d → let loop = t.loop-i in
+    let args = t.args in
+    (args.at ≤ loop.i + 1) × (loop.i + 1 ≤ args.limit) × (loop.value * 16 + d < 16 ^ (loop.i + 1 - args.at + 1))
+    × (digits_run args.last 16 15 args.first (drop args.at args.text.now)
+    ≡ digits_run args.last 16 (args.at + 15 - (loop.i + 1)) (loop.value * 16 + d) (drop (loop.i + 1) args.text.now))
+again_2 t d less digit =
+    let loop = t.loop-i in
+    let start = t in
+    let args = start.args in
+    let there = start.requires.0 in
+    let one_more : loop.i + 1 - args.at + 1 ≡ loop.i - args.at + 1 + 1 = omega arith in
+    let left : args.at + 15 - loop.i ≡ suc (args.at + 15 - (loop.i + 1)) = omega arith in
+    let inside : loop.i < length args.text.now = omega arith in (
+      omega arith,
+      omega arith,
+      rw one_more (grown_2 t d less).0,
+      loop.invariant.3 ∙ rw (← digit) (run_digit args.text.now loop.i args.last 16 _ _ loop.value left inside (rw digit less)),
     )
 
 -- a decimal digit
-decimal-here : (c : goal.Then-b
+decimal-here : (c : goal.Then-b)
     → (0x30 ≤ byte c) × (byte c ≤ 0x39) × (hexadecimal (byte c) ≡ byte c - 0x30)
 decimal-here c = decimal_is (byte c) c.if-b.true
 
@@ -74,13 +99,13 @@ pub loop-i-preserved-then-b : goal.loop-i-preserved-then-b
 loop-i-preserved-then-b c = let digit = decimal-here c in again c (byte c - 0x30) (omega arith) digit.2
 
 -- a letter
-letter-here : (c : goal.Then-b-2
-    → (0x61 ≤ byte c) × (byte c ≤ 0x66)
-    × (hexadecimal (byte c) ≡ byte c - 0x57)
-letter-here c = letter_is (byte c) c.if-b-2.true
+letter-here : (c : goal.Then-b-2)
+    → (0x61 ≤ byte_2 c) × (byte_2 c ≤ 0x66)
+    × (hexadecimal (byte_2 c) ≡ byte_2 c - 0x57)
+letter-here c = letter_is (byte_2 c) c.if-b-2.true
 
 pub overflow_mul-value-then-b-2 : goal.overflow_mul-value-then-b-2
-overflow_mul-value-then-b-2 c = let digit = letter-here c in let kept = grown c (byte c - 0x57) (omega arith) in omega arith
+overflow_mul-value-then-b-2 c = let digit = letter-here c in let kept = grown_2 c (byte_2 c - 0x57) (omega arith) in omega arith
 
 pub overflow_sub-value-then-b-2 : goal.overflow_sub-value-then-b-2
 overflow_sub-value-then-b-2 c = let digit = letter-here c in omega arith
@@ -89,10 +114,10 @@ pub overflow_cast-value-then-b-2 : goal.overflow_cast-value-then-b-2
 overflow_cast-value-then-b-2 c = let digit = letter-here c in search rules
 
 pub overflow_add-value-then-b-2 : goal.overflow_add-value-then-b-2
-overflow_add-value-then-b-2 c = let digit = letter-here c in let kept = grown c (byte c - 0x57) (omega arith) in omega arith
+overflow_add-value-then-b-2 c = let digit = letter-here c in let kept = grown_2 c (byte_2 c - 0x57) (omega arith) in omega arith
 
 pub loop-i-preserved : goal.loop-i-preserved
-loop-i-preserved c = let digit = letter-here c in again c (byte c - 0x57) (omega arith) digit.2
+loop-i-preserved c = let digit = letter-here c in again_2 c (byte_2 c - 0x57) (omega arith) digit.2
 
 pub returns-in-loop-i : goal.returns-in-loop-i
 returns-in-loop-i c =

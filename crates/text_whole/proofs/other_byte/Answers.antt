@@ -19,14 +19,14 @@ loop-i-init c = (refl, omega arith, omega arith)
 pub returns-then-not-allowed : goal.returns-then-not-allowed
 unfolding line_or
 returns-then-not-allowed c =
-    let other = sym c.allowed.ensures ∙ not-true _ c.if-not-allowed.true in
+    let other = sym c.allowed.ensures ∙ c.if-not-allowed.true in
     ap line_or (sym (other_byte_here c.loop-i.line
     c.args.text.now c.loop-i.i
     c.loop-i-test.true other) ∙ c.loop-i.invariant.0)
 
 pub loop-i-preserved : goal.loop-i-preserved
 loop-i-preserved c =
-    let good = sym c.allowed.ensures ∙ not-false _ c.if-not-allowed.false in
+    let good = sym c.allowed.ensures ∙ c.if-not-allowed.false in
     let bound = line_after_byte_le c.loop-i.line
     (get_or c.args.text.now
     c.loop-i.i 0) in (

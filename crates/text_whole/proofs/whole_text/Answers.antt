@@ -11,11 +11,20 @@ use Rattle.text_whole.specs.WholeLaws.{other_byte_none, other_byte_some}
 use Rattle.text_whole.proofs.whole_text.Goals as goal
 
 -- what the tests of the bytes have shown
-no_other : (c : goal.Else-not-all_allowed) → other_byte 1 c.args.text.now ≡ none
-no_other c = other_byte_none 1 _ (sym c.all_allowed.ensures ∙ not-false _ c.if-not-all_allowed.false)
+no_other : (c : goal.Then-not-ends_line) → other_byte 1 c.args.text.now ≡ none
+no_other c = other_byte_none 1 _ (sym c.all_allowed.ensures ∙ c.if-not-all_allowed.false)
 
-last-ends : (c : goal.Else-not-ends_line) → ends_line c.args.text.now ≡ true
-last-ends c = sym c.ends_line.ensures ∙ not-false _ c.if-not-ends_line.false
+no_other_2 : (c : goal.Then-not-begins_named) → other_byte 1 c.args.text.now ≡ none
+no_other_2 c = other_byte_none 1 _ (sym c.all_allowed.ensures ∙ c.if-not-all_allowed.false)
+
+no_other_3 : (c : goal.Else-not-begins_named) → other_byte 1 c.args.text.now ≡ none
+no_other_3 c = other_byte_none 1 _ (sym c.all_allowed.ensures ∙ c.if-not-all_allowed.false)
+
+last-ends : (c : goal.Then-not-begins_named) → ends_line c.args.text.now ≡ true
+last-ends c = sym c.ends_line.ensures ∙ c.if-not-ends_line.false
+
+last-ends_2 : (c : goal.Else-not-begins_named) → ends_line c.args.text.now ≡ true
+last-ends_2 c = sym c.ends_line.ensures ∙ c.if-not-ends_line.false
 
 pub returns-then-text-gt-TEXT_BYTES : goal.returns-then-text-gt-TEXT_BYTES
 returns-then-text-gt-TEXT_BYTES c = sym (whole_long _ c.if-text-gt-TEXT_BYTES.true)
@@ -23,24 +32,24 @@ returns-then-text-gt-TEXT_BYTES c = sym (whole_long _ c.if-text-gt-TEXT_BYTES.tr
 pub returns-then-not-all_allowed : goal.returns-then-not-all_allowed
 returns-then-not-all_allowed c =
     let text = c.args.text.now in
-    let other = other_byte_some 1 text (sym c.all_allowed.ensures ∙ not-true _ c.if-not-all_allowed.true) in
+    let other = other_byte_some 1 text (sym c.all_allowed.ensures ∙ c.if-not-all_allowed.true) in
     ap (Whole.Refused 2) c.other_byte.ensures ∙ sym (whole_other text _ c.if-text-gt-TEXT_BYTES.false other)
 
 pub returns-then-not-ends_line : goal.returns-then-not-ends_line
 returns-then-not-ends_line c =
     let passed = c in
-    sym (whole_last _ passed.if-text-gt-TEXT_BYTES.false (no_other passed) (sym c.ends_line.ensures ∙ not-true _ c.if-not-ends_line.true))
+    sym (whole_last _ passed.if-text-gt-TEXT_BYTES.false (no_other passed) (sym c.ends_line.ensures ∙ c.if-not-ends_line.true))
 
 pub returns-then-not-begins_named : goal.returns-then-not-begins_named
 returns-then-not-begins_named c =
     let passed = c in
     sym
-    (whole_unnamed _ passed.if-text-gt-TEXT_BYTES.false (no_other passed) (last-ends c)
-    (sym c.begins_named.ensures ∙ not-true _ c.if-not-begins_named.true))
+    (whole_unnamed _ passed.if-text-gt-TEXT_BYTES.false (no_other_2 passed) (last-ends c)
+    (sym c.begins_named.ensures ∙ c.if-not-begins_named.true))
 
 pub returns : goal.returns
 returns c =
     let passed = c in
     sym
-    (whole_named _ passed.if-text-gt-TEXT_BYTES.false (no_other passed) (last-ends c)
-    (sym c.begins_named.ensures ∙ not-false _ c.if-not-begins_named.false))
+    (whole_named _ passed.if-text-gt-TEXT_BYTES.false (no_other_3 passed) (last-ends_2 c)
+    (sym c.begins_named.ensures ∙ c.if-not-begins_named.false))

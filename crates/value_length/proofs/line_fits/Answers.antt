@@ -16,5 +16,5 @@ returns c = rw (
   c.value_fits-id.ensures,
   c.line_facts-facts.ensures,
 )
-    (facts_fit c.before.before.before.before.before.before.before.before.before.before.args.l
+    (facts_fit c.args.l
     (record { id = omega arith; rel = omega arith; to = omega arith; reads = omega arith; writes = omega arith; tests = omega arith }))

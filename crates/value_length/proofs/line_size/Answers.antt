@@ -11,11 +11,11 @@ use Rattle.value_length.proofs.line_size.Goals as goal
 
 pub returns-then-not-line_fits : goal.returns-then-not-line_fits
 unfolding size_said
-returns-then-not-line_fits c = sym (size_unfit _ (sym c.line_fits.ensures ∙ not-true _ c.if-not-line_fits.true))
+returns-then-not-line_fits c = sym (size_unfit _ (sym c.line_fits.ensures ∙ c.if-not-line_fits.true))
 
 pub returns : goal.returns
 unfolding size_said
 returns c =
     let tested = c in
-    let fit = sym tested.line_fits.ensures ∙ not-false _ c.if-not-line_fits.false in
+    let fit = sym tested.line_fits.ensures ∙ c.if-not-line_fits.false in
     ap some (omega arith) ∙ sym (size_fits tested.args.l fit)

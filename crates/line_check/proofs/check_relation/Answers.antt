@@ -1,0 +1,10 @@
+-- The words are the counts of the state: so `first_fault` is given the tests that `check_as` lists for a relation, in order where all lines so
+-- far are relations.
+use Rattle.line_state.specs.StateSteps.{room_of, ordered_of, named_as, sets_fit_as, is_link_of}
+use Rattle.line_state.specs.StateWords.{state_in}
+use borrow.Author.Rules.{rules}
+use Rattle.line_check.proofs.check_relation.Goals as goal
+
+pub returns : goal.returns
+unfolding state_in room_of ordered_of named_as sets_fit_as is_link_of
+returns c = c.first_fault.ensures

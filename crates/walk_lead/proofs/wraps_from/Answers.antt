@@ -1,0 +1,17 @@
+-- No back edge goes where u is reached from (wrap-apart), none leaves early enough (wrap-early), or they are looked at one by one (wrap-through).
+use borrow.Author.Rules.{rules}
+use Rattle.walk_lead.specs.LeadLaws.{wrap_apart, wrap_early, wrap_through}
+use Rattle.walk_lead.proofs.wraps_from.Goals as goal
+
+pub returns-then-turns-near-eq0 : goal.returns-then-turns-near-eq0
+returns-then-turns-near-eq0 c = wrap_apart _ _ _ _ _ c.requires.2 c.if-turns-near-eq0.true
+
+pub returns-then-opens_below-early : goal.returns-then-opens_below-early
+returns-then-opens_below-early c =
+    let c7 = c in
+    wrap_early _ _ _ _ _ c.word_at-e.ensures c.opens_below.ensures c7.requires.3 c.if-opens_below-early.true
+
+pub returns : goal.returns
+returns c =
+    let c3 = c in
+    wrap_through _ _ _ _ _ c3.word_at-e.ensures c.opens_below.ensures c.leads_through.ensures
