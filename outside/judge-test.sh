@@ -25,24 +25,25 @@ cat >"$bin/rt" <<EOF
 room='$room'
 case \$1 in
 version) cat "\$room/kit"; exit ;;
-check) program=\$2 ;;
+run) program=\$(basename "\$PWD"); cd ../.. ;;
 *) exit 2 ;;
 esac
 [ "\$program" = verdict ] || [ "\$program" = explain ] || exit 2
 mkdir "\$room/building" 2>/dev/null || echo overlap >>"\$room/faults"
 echo built >>"\$room/calls"
 : >"\$room/began"
+echo "rt: chose --jobs 2 for spec_base"
 echo "fn spec_base::f: proved"
-echo "rt: spec_base proved (unchanged since it was last proved)"
 sleep "\$(cat "\$room/slow")"
 word=\$(cat "crates/\$program/src/main.rt")
 rmdir "\$room/building"
-[ "\$word" != broken ] || { echo "rt: \$program NOT PROVED (exit 1, 0 s)"; echo "rt: FAILED: \$program"; exit 1; }
+echo "rt: chose --jobs 2 for \$program"
+[ "\$word" != broken ] || { echo "logic=not-proved"; exit 1; }
 echo "a line of the prover"
-echo "rt: \$program proved (1 s)"
-mkdir -p target/bin target/stamp
-{ echo '#!/bin/sh'; echo "cat >/dev/null"; echo "\$word"; } >"target/bin/\$program"
-chmod +x "target/bin/\$program"
+echo "logic=proved functions=1"
+mkdir -p "crates/\$program/out"
+{ echo '#!/bin/sh'; echo "cat >/dev/null"; echo "\$word"; } >"crates/\$program/out/\$program"
+chmod +x "crates/\$program/out/\$program"
 EOF
 chmod +x "$bin/rt"
 echo "kit 1" >"$room/kit"
@@ -129,14 +130,13 @@ echo "kit 2" >"$room/kit"
 run "$repo/judge" text; want "another toolchain" 0 robust 3
 echo "// base, changed" >"$repo/crates/spec_base/src/lib.rt"
 run "$repo/judge" text; want "another crate changed" 0 robust 4
-rm "$repo/target/judge/target/bin/verdict"
+rm "$repo/target/judge/work/crates/verdict/out/verdict"
 run "$repo/judge" text; want "the build's own program removed" 0 robust 4
-# what another rt leaves in the repository's own target/ is never asked
-mkdir -p "$repo/target/bin" "$repo/target/stamp"
-printf '#!/bin/sh\nprintf "verdict programs nodes edges back\\nother 0 0 0 0\\n"\n' >"$repo/target/bin/verdict"
-chmod +x "$repo/target/bin/verdict"
-echo 1 >"$repo/target/stamp/verdict"
-run "$repo/judge" text; want "another program in target/bin" 0 robust 4
+# what another rt leaves in the repository's own folders is never asked
+mkdir -p "$repo/crates/verdict/out"
+printf '#!/bin/sh\nprintf "verdict programs nodes edges back\\nother 0 0 0 0\\n"\n' >"$repo/crates/verdict/out/verdict"
+chmod +x "$repo/crates/verdict/out/verdict"
+run "$repo/judge" text; want "another program in the crate's own folder" 0 robust 4
 
 # edited while it builds: the answer is that of the sources as they are then
 began() { while [ ! -e "$room/began" ]; do sleep 0.05; done; }

@@ -63,13 +63,6 @@ table =
     ∷ case (names ++ programs) (is_refused 9 18)
     ∷ []
 
-computed : all_pass table ≡ true
+pub computed : all_pass table ≡ true
 unfolding all_pass text
 computed = refl
-
-pub starred : (c : Case) → Memᴰ c table → Holds c
-starred = table_holds table computed
-
--- Req 01: and each has no other report, walk included
-pub starred_alone : (c : Case) → Memᴰ c table → (bytes : List ℕ) → Report c.text bytes → bytes ≡ expected_bytes c.expected
-starred_alone c m bytes r = report_unique r (starred c m)

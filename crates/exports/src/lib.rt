@@ -13,8 +13,7 @@ use export_word::{nodes_word, refusal_word, value_word, verdict_word};
 use spec_text::CELLS;
 use unfold::Unfolded;
 
-#[unsafe(no_mangle)]
-pub extern "C" fn stage_read(text: &[u8]) -> u32
+pub fn stage_read(text: &[u8]) -> u32
     ensures { result ≡ read_word (given text.now) }
 {
     let p = text_read::read_text(text);
@@ -37,8 +36,7 @@ fn unfold_word(u: Unfolded) -> u32
     nodes_word(u.count, u.start[last], u.length[last])
 }
 
-#[unsafe(no_mangle)]
-pub extern "C" fn stage_unfold(text: &[u8], area: &mut [u64]) -> u32
+pub fn stage_unfold(text: &[u8], area: &mut [u64]) -> u32
     ensures { UnfoldStage (given text.now) area.old result area.new }
 {
     let p = text_read::read_text(text);
@@ -52,8 +50,7 @@ pub extern "C" fn stage_unfold(text: &[u8], area: &mut [u64]) -> u32
 
 // Puts the edges of a text at the front of the caller's list; the rest of it stays as it was, and a refusal leaves all of it. Answers how many
 // edges are put, at most 524,288, or the refusal. No text is refused by 21: its value is one that a text gives.
-#[unsafe(no_mangle)]
-pub extern "C" fn text_edges<'b, 'a>(text: &'b [u8], out: &'a mut [Edge]) -> u32
+pub fn text_edges<'b, 'a>(text: &'b [u8], out: &'a mut [Edge]) -> u32
     ensures { TextEdges (read text.now) out.old result out.new }
 {
     let p = text_read::read_text(text);
@@ -66,8 +63,7 @@ pub extern "C" fn text_edges<'b, 'a>(text: &'b [u8], out: &'a mut [Edge]) -> u32
 }
 
 // The verdict, with a dangerous walk in the area.
-#[unsafe(no_mangle)]
-pub extern "C" fn stage_verdict(text: &[u8], area: &mut [u64]) -> u32
+pub fn stage_verdict(text: &[u8], area: &mut [u64]) -> u32
     ensures { VerdictStage (given text.now) area.old result area.new }
 {
     let p = text_read::read_text(text);

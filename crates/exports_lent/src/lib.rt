@@ -55,8 +55,7 @@ fn middle_line(lines: &[u64], count: usize) -> Line
 }
 
 // Reads the text into the table of its lines. State and lines are lent to work in: what they hold afterwards is free.
-#[unsafe(no_mangle)]
-pub extern "C" fn lent_read(
+pub fn lent_read(
     text: &[u8],
     state: &mut [u64; WORDS],
     lines: &mut [u64; LINE_TABLE],
@@ -91,8 +90,7 @@ fn last_word(u: LastTold) -> u32
 }
 
 // Reads the text and puts the ids of its unfoldings at the front of the area. The words are lent to work in: what they hold afterwards is free.
-#[unsafe(no_mangle)]
-pub extern "C" fn lent_unfold(
+pub fn lent_unfold(
     text: &[u8],
     state: &mut [u64; WORDS],
     lines: &mut [u64; LINE_TABLE],
@@ -138,8 +136,7 @@ fn linked_rows(
 // Puts the edges of a text at the front of the caller's list; the rest of it stays as it was, and a refusal leaves all of it. Answers how many
 // edges are put, at most 524,288, or the refusal. No text is refused by 21: its value is one that a text gives. The rows of its places
 // stand in `rows`, linked; the other words are lent to work in: what they hold before and afterwards is free.
-#[unsafe(no_mangle)]
-pub extern "C" fn lent_edges<'b, 'c, 'd, 'e, 'f, 'a>(
+pub fn lent_edges<'b, 'c, 'd, 'e, 'f, 'a>(
     text: &'b [u8],
     state: &'c mut [u64; WORDS],
     lines: &'d mut [u64; LINE_TABLE],
@@ -158,8 +155,7 @@ pub extern "C" fn lent_edges<'b, 'c, 'd, 'e, 'f, 'a>(
 }
 
 // The verdict, with a dangerous walk in the area. The words are lent to work in: what they hold afterwards is free.
-#[unsafe(no_mangle)]
-pub extern "C" fn lent_verdict(
+pub fn lent_verdict(
     text: &[u8],
     state: &mut [u64; WORDS],
     lines: &mut [u64; LINE_TABLE],

@@ -8,7 +8,8 @@ use Rattle.law_kinds.specs.declared.SetClass.{SetClass}
 use Rattle.law_kinds.specs.declared.SetClass.TheVariants.{Lacking, Any, Filled, Whole}
 use Rattle.law_kinds.specs.EveryKind.{kinds_agree}
 use Rattle.law_kinds.specs.KindSets.{sets_of}
-use Rattle.law_kinds.specs.SetMeaning.{SetMeans, reads_mean, writes_mean, tests_mean}
+use Rattle.law_kinds.specs.SetMeaning.{SetMeans}
+use Rattle.law_kinds.proofs.SetsMeant.{reads_mean, writes_mean, tests_mean}
 use Rattle.line_kinds.specs.Kinds.{facts_of, lacks_fact, has_reads, has_writes, has_tests as tests_bit, some_reads, some_writes, whole_writes}
 
 -- the class of a set, from whether the kind has it, whether it is never empty, and whether it is the whole relation

@@ -12,7 +12,8 @@ use Rattle.spec_kinds.specs.declared.Chance.{Chance}
 use Rattle.spec_kinds.specs.declared.Chance.TheVariants.{Impossible, Certain, Hanging}
 use Rattle.spec_kinds.specs.Meaning.{Pair, meets_in, Means}
 use Rattle.law_kinds.specs.declared.SetClass.{SetClass}
-use Rattle.law_kinds.specs.SetMeaning.{SetMeans, set_one, reads_mean, writes_mean, tests_mean}
+use Rattle.law_kinds.specs.SetMeaning.{SetMeans, set_one}
+use Rattle.law_kinds.proofs.SetsMeant.{reads_mean, writes_mean, tests_mean}
 use Rattle.law_kinds.specs.Chances.{meeting, chance_of}
 use Rattle.law_kinds.specs.ChanceLaws.{chance_means}
 

@@ -32,7 +32,8 @@ use Rattle.law_text.specs.TextLaws.{fits, all_fit, line_fits}
 use Rattle.law_kinds.specs.declared.SetClass.{SetClass}
 use Rattle.law_kinds.specs.declared.SetClass.TheVariants.{Lacking, Any, Filled, Whole}
 use Rattle.law_kinds.specs.KindSets.{sets_of, is_there, Fits, allowed_over, fits_within}
-use Rattle.law_kinds.specs.SetMeaning.{Chosen, line_of_sets, sets_allowed_lem, reads_are, writes_are, tests_are}
+use Rattle.law_kinds.specs.SetMeaning.{Chosen, line_of_sets}
+use Rattle.law_kinds.proofs.SetsMeant.{sets_allowed_lem, reads_are, writes_are, tests_are}
 use Rattle.value_laws.specs.Givens.{SoundLines, sound_read}
 
 -- ---- the line of a statement fits its forms

@@ -48,7 +48,7 @@ stands_part chosen part whole at e many stand =
           let t = keep_member chosen (numbers (length whole)) (rw e at (chosen_member at m (omega arith))) in
           rw e (numbers_member (length whole) t.0, t.1);
       chosen_all = λ n h c.
-          let t = chosen_found {chosen = at} {n = n} (rw e (member_keep chosen (member_numbers (length whole) n h) c)) in
+          let t = chosen_found {n = n} {chosen = at} (rw e (member_keep chosen (member_numbers (length whole) n h) c)) in
           (t.0, (let below = t.1 in omega arith), t.2);
     }
 

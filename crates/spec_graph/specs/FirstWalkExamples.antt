@@ -46,7 +46,7 @@ Req01_begin = refl
 
 -- ---- a graph with every edge, each leaving a loose place
 
-abbrev every : Graph
+abbrev pub every : Graph
 every = record { size = 1; places = λ m. 1; edge = λ m i n j flow. true; loose = λ m i. true }
 
 abbrev pub forth : Step
@@ -101,27 +101,3 @@ both_flows x y forward forward apart = absurd (apart refl)
 both_flows x y forward back apart = from_zeros x _ _ (from_zero 0 _ _ (from_zeros y _ _ one_one))
 both_flows x y back forward apart = from_zeros x _ _ (from_one _ _)
 both_flows x y back back apart = absurd (apart refl)
-
--- a walk of one step is not dangerous, nor is one of two steps with one flow
-one_step : (s : Step) (f : Flow) → is_dangerous every (with_flow s f ∷ []) ≡ false
-unfolding is_dangerous is_edge dangerous_pair
-one_step s forward = refl
-one_step s back = refl
-
-one_flow : (x y : Step) (f : Flow) → is_dangerous every (with_flow x f ∷ with_flow y f ∷ []) ≡ false
-unfolding is_dangerous is_edge dangerous_pair
-one_flow x y forward = refl
-one_flow x y back = refl
-
--- Req 01: there is a first walk in it, forward and back
-Req01_first : FirstWalk every (forth ∷ return ∷ [])
-unfolding is_dangerous is_edge dangerous_pair
-Req01_first = record { dangerous = refl; first = none }
-  where
-    none : (other : List Step) → is_dangerous every other ≡ true → comes_before other (forth ∷ return ∷ []) ≡ false
-    none [] d = absurd (false≢true d)
-    none (x ∷ []) d = absurd (true≢false (sym d ∙ one_step x x.flow))
-    none (x ∷ y ∷ []) d =
-        both_flows x y x.flow y.flow
-        (λ e. true≢false (sym d ∙ ap (λ f. is_dangerous every (x ∷ with_flow y f ∷ [])) (sym e) ∙ one_flow x y x.flow))
-    none (x ∷ y ∷ z ∷ l) d = longer (x ∷ y ∷ z ∷ l) (forth ∷ return ∷ []) (omega arith)

@@ -62,13 +62,3 @@ not_given_refused never (not_given h) = refl
 not_given_refused never (too_many g t) = absurd (never g)
 not_given_refused never (too_short g t s) = absurd (never g)
 not_given_refused never (taken g t s) = absurd (never g)
-
--- as the code answers it
-pub not_given_number : {w : Workload} {short : Bool} {n : ℕ} → (Given w → ⊥) → StateRefusal w short (refusal_of n) → n ≡ 21
-unfolding refusal_of
-not_given_number {n = zero} never r = absurd (not_both (not_given_refused never r) refl)
-not_given_number {n = suc n} never r = let is = not_given_refused never r in cc
-
--- so what a refused text is read into is refused by every function over a workload value
-pub no_workload_refused : {short : Bool} {o : Option ℕ} → StateRefusal no_workload short o → o ≡ some 21
-no_workload_refused r = not_given_refused no_workload_lem r

@@ -362,7 +362,7 @@ abbrev pub turned : Event → Event → List Event
 turned d e = e ∷ event 1 1 1 commit 0 0 0 ∷ d ∷ event 0 1 1 commit 0 0 0 ∷ []
 
 -- what has read a write is not served by an order in which it comes first
-not_turned : (action : Action) → is_read action ≡ true → (s : SerialOrder 2 (two_of unseen (reading action))) → s.order ≡ 1 ∷ 0 ∷ [] → ⊥
+pub not_turned : (action : Action) → is_read action ≡ true → (s : SerialOrder 2 (two_of unseen (reading action))) → s.order ≡ 1 ∷ 0 ∷ [] → ⊥
 unfolding open_rules
 not_turned action r s e = go (subst
     (λ o. (k : ℕ) × (get_elem? (serial_run o (two_of unseen (reading action))) k ≡ some (reading action))
@@ -375,11 +375,3 @@ not_turned action r s e = go (subst
         let z : k ≡ 0 = at_head (reading action) (event 1 1 1 commit 0 0 0 ∷ unseen ∷ event 0 1 1 commit 0 0 0 ∷ []) refl k h in
         some-ne-none _
         (subst (λ j. SameRead (two_of unseen (reading action)) 2 (reading action) (state_at (turned unseen (reading action)) j)) z f 0 refl)
-
--- so it is with a read
-reads_count : (s : SerialOrder 2 (two_of unseen (reading read))) → s.order ≡ 1 ∷ 0 ∷ [] → ⊥
-reads_count = not_turned read refl
-
--- Req 03: and with a lock
-locks_count : (s : SerialOrder 2 (two_of unseen (reading lock))) → s.order ≡ 1 ∷ 0 ∷ [] → ⊥
-locks_count = not_turned lock refl

@@ -1,5 +1,6 @@
 // What was taken of a text before its fault: how many lines, and of which sorts, so that a refusal can be explained.
 #![tactic(auto)]
+
 ghost use Rattle.std.specs.Prelude.{◌≡◌, List, [], drop};
 ghost use Rattle.spec_text.specs.declared.Line.{Line as LineValue};
 ghost use Rattle.spec_text.specs.Text.{lines_in};

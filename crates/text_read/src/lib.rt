@@ -1,5 +1,6 @@
 // Reads any text: its workload value, or the refusal's number and line.
 #![tactic(auto)]
+
 ghost use Rattle.std.specs.Prelude.{◌≡◌, [], drop};
 ghost use Rattle.spec_text.specs.Text.{lines_in};
 ghost use Rattle.spec_text.specs.Reading.{read_lines, read};

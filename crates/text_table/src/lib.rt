@@ -1,5 +1,6 @@
 // Reads any text into lent words: its lines as a table of eight words to a line (value_tables), or the refusal's number and line.
 #![tactic(auto)]
+
 ghost use Rattle.std.specs.Prelude.{◌≡◌, [], length, drop};
 ghost use Rattle.spec_text.specs.Text.{lines_in};
 ghost use Rattle.spec_text.specs.Reading.{read_lines, read};

@@ -1,5 +1,6 @@
 // S21 decided: whether some accepted text gives a workload value.
 #![tactic(auto)]
+
 ghost use Rattle.std.specs.Prelude.{◌≡◌, ◌≤◌, length};
 ghost use Rattle.spec_text.specs.Value.{lines_of};
 ghost use Rattle.value_given.specs.Decided.{Decided};

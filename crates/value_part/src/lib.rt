@@ -1,5 +1,6 @@
 // Part of a workload: the value that a group of a value's programs gives (Req 06).
 #![tactic(auto)]
+
 ghost use Rattle.std.specs.Prelude.{◌≡◌, ◌≤◌};
 ghost use Rattle.spec_part.specs.Group.{part_of};
 ghost use Rattle.spec_text.specs.Reading.{is_program};

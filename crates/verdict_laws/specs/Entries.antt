@@ -44,7 +44,7 @@ greatest_some {A} f (x ∷ l) = go (greatest_some f l) (decide (leb (greatest f 
     go (inr (y, m, q)) (inr e) = let h = leb-false (greatest f l) (f x) e in inr (y, Memᴰ.tail m, omega arith)
 
 -- and no element has a greater one
-greatest_most : {A : Type 0} (f : A → ℕ) {l : List A} {x : A} → Memᴰ x l → f x ≤ greatest f l
+greatest_most : {A : Type 0} (f : A → ℕ) {x : A} {l : List A} → Memᴰ x l → f x ≤ greatest f l
 unfolding greatest
 greatest_most f {x = x} (Memᴰ.head {x = y} {xs = xs} e) = let h = ap f e in omega arith
 greatest_most f {x = x} (Memᴰ.tail {x = y} {xs = xs} m) = let h = greatest_most f m in omega arith

@@ -19,7 +19,8 @@ use Rattle.law_walk.specs.Parts.{only, only_edge}
 use Rattle.law_walk.specs.Phases.{Phase, Accepted, normal}
 use Rattle.law_walk.specs.Phases.Phase.{starting}
 use Rattle.law_walk.specs.Phases.Accepted.{go}
-use Rattle.law_walk.specs.Greedy.{Greedy, greedy_first}
+use Rattle.law_walk.specs.Greedy.{Greedy}
+use Rattle.law_walk.proofs.GreedyFirst.{greedy_first}
 use Rattle.pick_laws.specs.declared.Going.{Going}
 use Rattle.pick_laws.specs.Pick.{Picks, dangerous_picks, onward_to, reaches, returns_at, node_test}
 use Rattle.pick_laws.specs.PickLaws.{Picked, dangerous_some, node_complete}

@@ -30,10 +30,10 @@ least_some {A} f most (x ∷ l) h = go (decide (leb (f x) (least f most l))) (le
         (y, Memᴰ.tail m, omega arith)
 
 -- and no element has a lesser one
-least_most : {A : Type 0} (f : A → ℕ) (most : ℕ) {l : List A} {x : A} → Memᴰ x l → least f most l ≤ f x
+least_most : {A : Type 0} {x : A} (f : A → ℕ) (most : ℕ) {l : List A} → Memᴰ x l → least f most l ≤ f x
 unfolding least
-least_most f most {x = x} (Memᴰ.head {x = y} {xs = xs} e) = let h = ap f e in omega arith
-least_most f most {x = x} (Memᴰ.tail {x = y} {xs = xs} m) = let h = least_most f most m in omega arith
+least_most {x = x} f most (Memᴰ.head {x = y} {xs = xs} e) = let h = ap f e in omega arith
+least_most {x = x} f most (Memᴰ.tail {x = y} {xs = xs} m) = let h = least_most f most m in omega arith
 
 -- ---- steps between rows
 

@@ -1,0 +1,30 @@
+-- An area that is too short is refused (answer-short); what is searched, among the nodes of the word, is answered (answer-searched).
+use Rattle.walk_first.specs.AnswerLaws.{answer_short, answer_searched, searched_every, searched_some}
+use Prim.Native.Nat.{◌-◌}
+use mathlib.Core.Path.{refl}
+use borrow.Author.Rules.{rules}
+use Rattle.lent_words.specs.Lent.{Lent}
+use Rattle.walk_first.proofs.find_walk.Goals as goal
+
+pub returns-then-out-lt-WALK_WORDS : goal.returns-then-out-lt-WALK_WORDS
+unfolding Lent
+returns-then-out-lt-WALK_WORDS c = record { walk_answered = answer_short _ _ _ _ _ c.if-out-lt-WALK_WORDS.true; lent = refl }
+
+pub returns-then-nodes-eq-EVERY_NODE : goal.returns-then-nodes-eq-EVERY_NODE
+returns-then-nodes-eq-EVERY_NODE c =
+    let c2 = c in
+    let c5 = c2 in
+    let c6 = c5 in
+    record { walk_answered = answer_searched _ _ _ _ _ c6.if-out-lt-WALK_WORDS.false (searched_every _ _ _ _ _ c5.if-nodes-eq-EVERY_NODE.true c2.search.ensures.searched); lent = c2.search.ensures.lent }
+
+pub returns : goal.returns
+returns c =
+    let c2 = c in
+    let c7 = c2 in
+    let c8 = c7 in
+    let c9 = c8 in
+    let c10 = c9 in record {
+      walk_answered = answer_searched _ _ _ _ _ c10.if-out-lt-WALK_WORDS.false
+          (searched_some _ _ _ _ _ c9.if-nodes-eq-EVERY_NODE.false c8.chosen_words-f.ensures c7.chosen_words-b.ensures c2.search-2.ensures.searched);
+      lent = c2.search-2.ensures.lent;
+    }

@@ -1,0 +1,38 @@
+-- In each turn what is written and what is still to come make the walk (put-start, put-turn); at the end nothing is to come (put-end).
+use Rattle.walk_first.specs.TakingLaws.{PutTurn, put_start, put_turn, put_end}
+use Rattle.walk_first.specs.FirstSteps.{prepared, Unasked}
+use borrow.Author.Rules.{rules}
+use mathlib.Core.Path.{◌≡◌, refl, sym, subst, ◌∙◌}
+use native.Mathlib.Omega.{arith}
+use lib.ListN.{length}
+use Rattle.lent_words.specs.Lent.{Lent}
+use Prim.Native.Nat.{◌-◌}
+use Rattle.walk_first.proofs.put_walk.Goals as goal
+
+pub loop-k-init : goal.loop-k-init
+loop-k-init c = (refl, refl, put_start _ _ _ _ _)
+
+pub take_step-t-requires : goal.take_step-t-requires
+take_step-t-requires c =
+    let c4 = c in
+    let given = c4.requires in
+    let inv = c4.loop-k.invariant in
+    let few = given.0 in
+    let room = given.1 in
+    let long = inv.2.long in
+    let below = c.loop-k-test.true in
+    (omega arith, omega arith, inv.1 ∙ given.2 ∙ sym inv.0, subst (Unasked _ _ _ _) (sym inv.0) (given.3 _ (omega arith) _))
+
+pub loop-k-preserved : goal.loop-k-preserved
+unfolding Lent
+loop-k-preserved c =
+    let c6 = c in
+    let c11 = c6 in
+    let kept = c6.take_step-t.ensures.lent in (
+      kept.0 ∙ c11.loop-k.invariant.0,
+      kept.1 ∙ c11.loop-k.invariant.1,
+      put_turn _ _ _ _ _ c11.loop-k.invariant.2 c6.loop-k-test.true refl c6.take_step-t.ensures.taken_as,
+    )
+
+pub returns : goal.returns
+returns c = put_end _ _ _ _ _ c.loop-k.invariant.2 c.loop-k-test.false
