@@ -15,7 +15,7 @@ use Rattle.law_kinds.specs.declared.SetClass.{SetClass}
 use Rattle.law_kinds.specs.SetMeaning.{SetMeans, set_one}
 use Rattle.law_kinds.proofs.SetsMeant.{reads_mean, writes_mean, tests_mean}
 use Rattle.law_kinds.specs.Chances.{meeting, chance_of}
-use Rattle.law_kinds.specs.ChanceLaws.{chance_means}
+use Rattle.law_kinds.proofs.ChancesMeant.{chance_means}
 
 -- two sets of these classes meet by chance as those of the rules do
 met_by : {a b c d : SetClass} {m : Chance} → a ≡ c → b ≡ d → m ≡ meeting a b → m ≡ meeting c d

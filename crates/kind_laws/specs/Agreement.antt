@@ -9,8 +9,8 @@ use Rattle.spec_kinds.specs.declared.Chance.{Chance}
 use Rattle.spec_kinds.specs.Meaning.{Means}
 use Rattle.spec_kinds.specs.Table.{kinds, digit_of, table_text, KindTable}
 use Rattle.law_kinds.specs.Chances.{chance_of}
-use Rattle.law_kinds.specs.ChanceLaws.{chance_means, means_one}
-use Rattle.law_kinds.specs.TableLaws.{entries_one, table_one}
+use Rattle.law_kinds.proofs.ChancesMeant.{chance_means, means_one}
+use Rattle.law_kinds.proofs.TableLaws.{entries_one, table_one}
 use Rattle.edge_kinds.specs.Kinds.{kind_number}
 use Rattle.kind_chances.specs.declared.Entry.{Entry}
 use Rattle.kind_chances.specs.Entries.{chance_for, EntryMeans}

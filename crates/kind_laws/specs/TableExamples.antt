@@ -6,7 +6,7 @@ use Rattle.spec_text.specs.Text.{digit, word_of}
 use Rattle.spec_text.specs.Quoted.{bytes, text}
 use Rattle.spec_kinds.specs.Table.{table_names, columns, table_line, table_text, KindTable}
 use Rattle.law_kinds.specs.Chances.{chance_of}
-use Rattle.law_kinds.specs.TableLaws.{chances_table}
+use Rattle.law_kinds.proofs.TableLaws.{chances_table}
 
 table : List String
 table =

@@ -14,8 +14,8 @@ use Rattle.spec_kinds.specs.declared.Chance.{Chance}
 use Rattle.spec_kinds.specs.Table.{digit_of, table_names, columns, table_line, table_text, KindTable}
 use Rattle.law_text.specs.TextLaws.{word_two}
 use Rattle.law_kinds.specs.Chances.{chance_of}
-use Rattle.law_kinds.specs.ChanceLaws.{chance_means, means_one}
-use Rattle.law_kinds.specs.TableLaws.{chances_table}
+use Rattle.law_kinds.proofs.ChancesMeant.{chance_means, means_one}
+use Rattle.law_kinds.proofs.TableLaws.{chances_table}
 use Rattle.edge_kinds.specs.Kinds.{kind_of, kind_named}
 use Rattle.kind_chances.specs.declared.Entry.{Entry}
 use Rattle.kind_chances.specs.Entries.{chance_for, EntryMeans}

@@ -14,7 +14,7 @@ use Rattle.law_base.specs.ListLaws.{all_numbers}
 use Rattle.law_base.specs.SetLaws.{has_below, meets_has, has_meets}
 use Rattle.law_kinds.specs.EveryKind.{every_pair, every_entry}
 use Rattle.law_kinds.specs.Chances.{chance_of, told}
-use Rattle.law_kinds.specs.ChanceLaws.{chance_means}
+use Rattle.law_kinds.proofs.ChancesMeant.{chance_means}
 use Rattle.edge_kinds.specs.Kinds.{kind_number}
 use Rattle.kind_table.specs.Codes.{certain_bit, hanging_bit, code_of, codes_from, letter_table, chance_in, told_in}
 

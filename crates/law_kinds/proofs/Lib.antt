@@ -1,1 +1,3 @@
 pub mod SetsMeant
+pub mod ChancesMeant
+pub mod TableLaws

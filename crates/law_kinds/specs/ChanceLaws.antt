@@ -112,18 +112,18 @@ module _ {full : ℕ} (p q : Statement) (f : Allowed full p) (g : Allowed full q
 -- ---- sets on two attributes
 
 -- a line of a kind, its sets chosen by their classes
-abbrev sample : (SetClass → ℕ) → StatementKind → Line
+abbrev pub sample : (SetClass → ℕ) → StatementKind → Line
 sample choose k = line_of_sets 0 k (choose (sets_of k).reads) (choose (sets_of k).writes) (choose (sets_of k).tests)
 
 -- attribute 0 in every set
-abbrev shares : SetClass → ℕ
+abbrev pub shares : SetClass → ℕ
 shares Lacking = 0
 shares Any = 1
 shares Filled = 1
 shares Whole = 3
 
 -- no more than must be in a set: attribute 0, or attribute 1
-abbrev least : ℕ → SetClass → ℕ
+abbrev pub least : ℕ → SetClass → ℕ
 least one Lacking = 0
 least one Any = 0
 least one Filled = one
@@ -134,7 +134,7 @@ abbrev passes : (SetClass → ℕ) → StatementKind → Bool
 passes choose k = sets_allowed 3 k (sample choose k)
 
 -- the lines whose sets are chosen so, where T9 allows them for each kind
-pair_by : (f g : SetClass → ℕ) → all (passes f) kinds ≡ true → all (passes g) kinds ≡ true → (k l : StatementKind) → Pair k l
+unfoldable pub pair_by : (f g : SetClass → ℕ) → all (passes f) kinds ≡ true → all (passes g) kinds ≡ true → (k l : StatementKind) → Pair k l
 pair_by f g hf hg k l = record {
   full = 3;
   attributes = λ e. omega arith;
@@ -145,61 +145,10 @@ pair_by f g hf hg k l = record {
   allowed_right = every_kind (passes g) hg l;
 }
 
-pub meeting_pair : (k l : StatementKind) → Pair k l
+unfoldable pub meeting_pair : (k l : StatementKind) → Pair k l
 unfolding kind_sets
 meeting_pair = pair_by shares shares refl refl
 
-pub apart_pair : (k l : StatementKind) → Pair k l
+unfoldable pub apart_pair : (k l : StatementKind) → Pair k l
 unfolding kind_sets
 apart_pair = pair_by (least 1) (least 2) refl refl
-
--- ---- the meaning
-
-abbrev is_hanging : Chance → Bool
-is_hanging Impossible = false
-is_hanging Certain = false
-is_hanging Hanging = true
-
--- over all entries together: where a letter hangs on its sets it holds for sets that share attribute 0, and does not for the least sets
-abbrev hangs : Letter → StatementKind → StatementKind → Bool
-hangs letter k l =
-    not (is_hanging (chance_of letter k l))
-    || (holds letter (statement_of k (sample shares k)) (statement_of l (sample shares l))
-    && not (holds letter (statement_of k (sample (least 1) k)) (statement_of l (sample (least 2) l))))
-
-all_hang : everywhere hangs ≡ true
-unfolding holds chance_of statement_of W R T
-all_hang = refl
-
--- Req 04: each chance means what it says
-pub chance_means : (letter : Letter) (k l : StatementKind) → Means letter k l (chance_of letter k l)
-unfolding statement_of meeting_pair apart_pair pair_by
-chance_means letter k l = go (chance_of letter k l) refl
-  where
-    so : (x : Pair k l) → holds_in letter x ≡ told (chance_of letter k l) (meets_in letter x)
-    so x =
-        let left = allowed_over k x.left x.attributes x.word x.allowed_left in
-        let right = allowed_over l x.right x.attributes x.word x.allowed_right in
-        chance_told (statement_of k x.left) (statement_of l x.right) left right letter
-
-    go : (c : Chance) → chance_of letter k l ≡ c → Means letter k l c
-    go Impossible e = λ x. so x ∙ ap (λ (c : Chance). told c (meets_in letter x)) e
-    go Certain e = λ x. so x ∙ ap (λ (c : Chance). told c (meets_in letter x)) e
-    go Hanging e =
-        let both = and_true _ _ (implied _ _ (every_entry hangs all_hang letter k l) (ap is_hanging e)) in (
-          λ x. so x ∙ ap (λ (c : Chance). told c (meets_in letter x)) e,
-          (meeting_pair k l, refl, both.0),
-          (apart_pair k l, refl, not_true _ both.1),
-        )
-
--- and no other chance does: an entry that says something else is false
-pub means_one : (letter : Letter) (k l : StatementKind) (c d : Chance) → Means letter k l c → Means letter k l d → c ≡ d
-means_one letter k l Impossible Impossible f g = refl
-means_one letter k l Certain Certain f g = refl
-means_one letter k l Hanging Hanging f g = refl
-means_one letter k l Impossible Certain f g = absurd (true_false (g (meeting_pair k l)) (f (meeting_pair k l)))
-means_one letter k l Certain Impossible f g = absurd (true_false (f (meeting_pair k l)) (g (meeting_pair k l)))
-means_one letter k l Impossible Hanging f g = absurd (true_false g.1.2 (f g.1.0))
-means_one letter k l Hanging Impossible f g = absurd (true_false f.1.2 (g f.1.0))
-means_one letter k l Certain Hanging f g = absurd (true_false (f g.2.0) g.2.2)
-means_one letter k l Hanging Certain f g = absurd (true_false (g f.2.0) f.2.2)

@@ -3,5 +3,4 @@ pub mod KindSets
 pub mod SetMeaning
 pub mod Chances
 pub mod ChanceLaws
-pub mod TableLaws
 pub mod TextPairs

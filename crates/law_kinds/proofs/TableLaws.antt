@@ -7,7 +7,7 @@ use Rattle.spec_kinds.specs.declared.Chance.{Chance}
 use Rattle.spec_kinds.specs.Meaning.{Means}
 use Rattle.spec_kinds.specs.Table.{table_text, KindTable}
 use Rattle.law_kinds.specs.Chances.{chance_of}
-use Rattle.law_kinds.specs.ChanceLaws.{chance_means, means_one}
+use Rattle.law_kinds.proofs.ChancesMeant.{chance_means, means_one}
 
 -- entries that say what is so are the same in every place
 pub entries_one : (e f : Letter → StatementKind → StatementKind → Chance)
