@@ -5,12 +5,12 @@
 use edge_find::{edge_from, shared_by};
 use edge_list::EdgeAnswer;
 use edge_record::Edge;
-use libc::{STDERR_FILENO, STDOUT_FILENO};
 use pick_laws::STEP_WORDS;
 use place_fetch::row_at;
 use place_row::{ROW_SLOTS, ROW_WORDS, ROWS, SLOTS, TABLE_WORDS};
 use place_table::Rows;
 use spec_text::Workload;
+use std::io::{Stdout, Write};
 use stdin::Input;
 use unfold_choice::TAKEN;
 use unfold_laws::{UNFOLDINGS, WORD_LINES};
@@ -26,30 +26,36 @@ const MOST_LINES: u64 = 65536;
 
 // ---- what all facts print
 
-fn print(bytes: &[u8]) {
-    io::write_all(STDOUT_FILENO, bytes);
+fn print(mut out: Stdout, bytes: &[u8]) {
+    let _ = out.write_all(bytes);
+}
+
+fn print_number(out: Stdout, n: u64) {
+    let mut digits = [0u8; 20];
+    let k = io::decimal(n, &mut digits);
+    print(out, &digits[..k]);
 }
 
 // A number after others of its line.
-fn print_next(n: u64) {
-    print(b" ");
-    io::print_decimal(STDOUT_FILENO, n);
+fn print_next(out: Stdout, n: u64) {
+    print(out, b" ");
+    print_number(out, n);
 }
 
 // Numbers one after the other.
-fn print_numbers(numbers: &[u64]) {
+fn print_numbers(out: Stdout, numbers: &[u64]) {
     let mut i: usize = 0;
     while i < numbers.len() {
-        print_next(numbers[i]);
+        print_next(out, numbers[i]);
         i += 1;
     }
 }
 
 // A fact: its word and its numbers.
-fn tell(word: &[u8], numbers: &[u64]) {
-    print(word);
-    print_numbers(numbers);
-    print(b"\n");
+fn tell(out: Stdout, word: &[u8], numbers: &[u64]) {
+    print(out, word);
+    print_numbers(out, numbers);
+    print(out, b"\n");
 }
 
 // The number in the text of a line of the value.
@@ -59,14 +65,14 @@ fn text_line(index: u64) -> u64 {
 
 // ---- a refused text
 
-fn tell_refused(number: u8, line: u64) {
-    tell(b"refused", &[number as u64, line]);
+fn tell_refused(out: Stdout, number: u8, line: u64) {
+    tell(out, b"refused", &[number as u64, line]);
 }
 
 // How much of the text was taken before the fault.
-fn tell_before(text: &[u8]) {
+fn tell_before(out: Stdout, text: &[u8]) {
     let b = text_before::before_fault(text);
-    tell(
+    tell(out, 
         b"before",
         &[
             b.lines,
@@ -82,14 +88,14 @@ fn tell_before(text: &[u8]) {
 }
 
 // Of a workload that unfolds too far: what each program unfolds to. There are at most 16 programs.
-fn tell_unfolds(w: Workload) {
+fn tell_unfolds(out: Stdout, w: Workload) {
     let mut p: u64 = 0;
     while p < 16 {
         let u = unfold_program::program_unfoldings(w, p);
         if !u.found {
             return;
         }
-        tell(b"unfolds", &[p, text_line(u.line), u.count, u.statements]);
+        tell(out, b"unfolds", &[p, text_line(u.line), u.count, u.statements]);
         p += 1;
     }
 }
@@ -114,12 +120,12 @@ fn nodes_before(programs: &[u8], program: u64) -> u64 {
 }
 
 // A program: its line, its unfoldings and the statements in them, the edges that leave its nodes and the back edges among them.
-fn tell_program(w: Workload, table: &[u64], programs: &[u8], p: u64) {
+fn tell_program(out: Stdout, w: Workload, table: &[u64], programs: &[u8], p: u64) {
     let u = unfold_program::program_unfoldings(w, p);
     let first = nodes_before(programs, p);
     let next = nodes_before(programs, p % 16 + 1);
     let c = edge_between::count_between(table, first, next, 0, UNFOLDINGS as u64);
-    tell(
+    tell(out, 
         b"program",
         &[
             p,
@@ -132,34 +138,34 @@ fn tell_program(w: Workload, table: &[u64], programs: &[u8], p: u64) {
     );
 }
 
-fn tell_programs(w: Workload, table: &[u64], programs: &[u8], count: u64) {
+fn tell_programs(out: Stdout, w: Workload, table: &[u64], programs: &[u8], count: u64) {
     let mut p: u64 = 0;
     while p < count {
-        tell_program(w, table, programs, p);
+        tell_program(out, w, table, programs, p);
         p += 1;
     }
 }
 
 // A node: its program, which unfolding of it, and what it chose: the line of each loop or branch with the turns or the arm.
-fn tell_node(w: Workload, node: u64) {
+fn tell_node(out: Stdout, w: Workload, node: u64) {
     let c = unfold_choice::choices_of(w, node);
-    print(b"node");
-    print_numbers(&[node, c.program, c.number]);
+    print(out, b"node");
+    print_numbers(out, &[node, c.program, c.number]);
     let words = c.words;
     let n = c.count;
     let mut k: u64 = 0;
     while k < n {
         let word = word_at(&words, k as usize);
-        print_numbers(&[text_line(word / TAKEN), word % TAKEN]);
+        print_numbers(out, &[text_line(word / TAKEN), word % TAKEN]);
         k += 1;
     }
-    print(b"\n");
+    print(out, b"\n");
 }
 
-fn tell_nodes(w: Workload, nodes: u64) {
+fn tell_nodes(out: Stdout, w: Workload, nodes: u64) {
     let mut m: u64 = 0;
     while m < nodes {
-        tell_node(w, m);
+        tell_node(out, w, m);
         m += 1;
     }
 }
@@ -176,21 +182,21 @@ fn row_line(words: &[u64], row: usize) -> u64 {
 }
 
 // A node's places, so many: the line of each one's statement.
-fn tell_places_of(starts: &[u64], words: &[u64], node: u64, n: u64) {
-    print(b"places");
-    print_next(node);
+fn tell_places_of(out: Stdout, starts: &[u64], words: &[u64], node: u64, n: u64) {
+    print(out, b"places");
+    print_next(out, node);
     let mut i: u64 = 0;
     while i < n {
-        print_next(row_line(words, row_of(starts, node, i)));
+        print_next(out, row_line(words, row_of(starts, node, i)));
         i += 1;
     }
-    print(b"\n");
+    print(out, b"\n");
 }
 
-fn tell_places(starts: &[u64], lengths: &[u64], words: &[u64], nodes: u64) {
+fn tell_places(out: Stdout, starts: &[u64], lengths: &[u64], words: &[u64], nodes: u64) {
     let mut m: u64 = 0;
     while m < nodes {
-        tell_places_of(starts, words, m, word_at(lengths, m as usize));
+        tell_places_of(out, starts, words, m, word_at(lengths, m as usize));
         m += 1;
     }
 }
@@ -198,30 +204,30 @@ fn tell_places(starts: &[u64], lengths: &[u64], words: &[u64], nodes: u64) {
 // ---- edges between nodes
 
 // The edges from one node to another, forward and back apart, if there is one.
-fn tell_pair_of_nodes(table: &[u64], m: u64, n: u64) {
+fn tell_pair_of_nodes(out: Stdout, table: &[u64], m: u64, n: u64) {
     let last = UNFOLDINGS as u64;
     let c = edge_between::count_between(table, m, m % last + 1, n, n % last + 1);
     if c.edges == 0 {
         return;
     }
-    tell(
+    tell(out, 
         b"between",
         &[m, n, (c.edges - c.back) as u64, c.back as u64],
     );
 }
 
-fn tell_edges_from(table: &[u64], m: u64, nodes: u64) {
+fn tell_edges_from(out: Stdout, table: &[u64], m: u64, nodes: u64) {
     let mut n: u64 = 0;
     while n < nodes {
-        tell_pair_of_nodes(table, m, n);
+        tell_pair_of_nodes(out, table, m, n);
         n += 1;
     }
 }
 
-fn tell_edges(table: &[u64], nodes: u64) {
+fn tell_edges(out: Stdout, table: &[u64], nodes: u64) {
     let mut m: u64 = 0;
     while m < nodes {
-        tell_edges_from(table, m, nodes);
+        tell_edges_from(out, table, m, nodes);
         m += 1;
     }
 }
@@ -286,36 +292,36 @@ fn is_edge_of(e: Edge, g: Going) -> bool {
 }
 
 // The attributes of a set in rising order.
-fn print_attributes(set: u64) {
+fn print_attributes(out: Stdout, set: u64) {
     let mut k: u64 = 0;
     while k < 64 {
         if has_bit(set, k) {
-            print_next(k);
+            print_next(out, k);
         }
         k += 1;
     }
 }
 
 // An edge's flow, number and letter, how many attributes the letter's sets share, the lowest and all of them.
-fn print_edge(table: &[u64], e: Edge, number: u64, left: usize, entered: usize) {
-    print(&[b' ', e.flow]);
-    print_next(number);
-    print(&[b' ', e.letter]);
-    print_numbers(&[e.sharing as u64, e.lowest as u64]);
+fn print_edge(out: Stdout, table: &[u64], e: Edge, number: u64, left: usize, entered: usize) {
+    print(out, &[b' ', e.flow]);
+    print_next(out, number);
+    print(out, &[b' ', e.letter]);
+    print_numbers(out, &[e.sharing as u64, e.lowest as u64]);
     let p = row_at(table, left);
     let q = row_at(table, entered);
-    print_attributes(shared_by(e.letter, p, q));
+    print_attributes(out, shared_by(e.letter, p, q));
 }
 
 // The edge of a step, asked for by its number: it stands in the slot of the step's two places and flow.
-fn print_edge_of(w: Workload, table: &[u64], g: Going, left: usize, entered: usize) {
+fn print_edge_of(out: Stdout, w: Workload, table: &[u64], g: Going, left: usize, entered: usize) {
     let slot = left % ROWS * ROW_SLOTS + entered % ROWS * 2 + (g.flow % 2) as usize;
     let number = edges_before(table, slot);
     let answer = edge_list::edge_number(w, number);
     match answer {
         EdgeAnswer::There(e) => {
             if is_edge_of(e, g) {
-                print_edge(table, e, number, left, entered);
+                print_edge(out, table, e, number, left, entered);
             }
         }
         EdgeAnswer::Absent => {}
@@ -323,11 +329,11 @@ fn print_edge_of(w: Workload, table: &[u64], g: Going, left: usize, entered: usi
     }
 }
 
-fn tell_step(w: Workload, table: &[u64], starts: &[u64], words: &[u64], k: u64, g: Going) {
+fn tell_step(out: Stdout, w: Workload, table: &[u64], starts: &[u64], words: &[u64], k: u64, g: Going) {
     let left = row_of(starts, g.node, g.leaves);
     let entered = row_of(starts, g.into, g.enters);
-    print(b"step");
-    print_numbers(&[
+    print(out, b"step");
+    print_numbers(out, &[
         k,
         g.node,
         g.leaves,
@@ -336,20 +342,20 @@ fn tell_step(w: Workload, table: &[u64], starts: &[u64], words: &[u64], k: u64, 
         g.enters,
         row_line(words, entered),
     ]);
-    print_edge_of(w, table, g, left, entered);
-    print(b"\n");
+    print_edge_of(out, w, table, g, left, entered);
+    print(out, b"\n");
 }
 
-fn tell_steps(w: Workload, table: &[u64], starts: &[u64], words: &[u64], walk: &[u64], steps: u64) {
+fn tell_steps(out: Stdout, w: Workload, table: &[u64], starts: &[u64], words: &[u64], walk: &[u64], steps: u64) {
     let mut k: u64 = 0;
     while k < steps {
-        tell_step(w, table, starts, words, k, step_at(walk, steps, k));
+        tell_step(out, w, table, starts, words, k, step_at(walk, steps, k));
         k += 1;
     }
 }
 
 // The dangerous pair that begins with a step: whether there is one, and if so, it is told.
-fn tell_pair_at(table: &[u64], starts: &[u64], walk: &[u64], steps: u64, k: u64) -> bool {
+fn tell_pair_at(out: Stdout, table: &[u64], starts: &[u64], walk: &[u64], steps: u64, k: u64) -> bool {
     let e = step_at(walk, steps, k);
     let next = next_step(steps, k);
     let c = step_at(walk, steps, next);
@@ -359,7 +365,7 @@ fn tell_pair_at(table: &[u64], starts: &[u64], walk: &[u64], steps: u64, k: u64)
     if !r.dangerous {
         return false;
     }
-    tell(
+    tell(out, 
         b"pair",
         &[k, next, r.back as u64, r.earlier as u64, r.loose as u64],
     );
@@ -367,39 +373,39 @@ fn tell_pair_at(table: &[u64], starts: &[u64], walk: &[u64], steps: u64, k: u64)
 }
 
 // The first dangerous pair of the walk.
-fn tell_pair(table: &[u64], starts: &[u64], walk: &[u64], steps: u64) {
+fn tell_pair(out: Stdout, table: &[u64], starts: &[u64], walk: &[u64], steps: u64) {
     let mut k: u64 = 0;
     while k < steps {
-        if tell_pair_at(table, starts, walk, steps, k) {
+        if tell_pair_at(out, table, starts, walk, steps, k) {
             return;
         }
         k += 1;
     }
 }
 
-fn tell_walk(w: Workload, table: &[u64], starts: &[u64], words: &[u64], walk: &[u64], steps: u64) {
-    tell_steps(w, table, starts, words, walk, steps);
-    tell_pair(table, starts, walk, steps);
+fn tell_walk(out: Stdout, w: Workload, table: &[u64], starts: &[u64], words: &[u64], walk: &[u64], steps: u64) {
+    tell_steps(out, w, table, starts, words, walk, steps);
+    tell_pair(out, table, starts, walk, steps);
 }
 
 // ---- from the text to the facts
 
 // Everything that is told of a workload's table and unfoldings.
-fn tell_all(w: Workload, table: &[u64], programs: u64, walk: &[u64], steps: u64) {
+fn tell_all(out: Stdout, w: Workload, table: &[u64], programs: u64, walk: &[u64], steps: u64) {
     let mut words = [0u64; ROWS];
     let told = unfold::unfold_places(w, &mut words);
     let program = told.program;
     let starts = told.start;
     let lengths = told.length;
     let nodes = told.count;
-    tell_programs(w, table, &program, programs);
-    tell_nodes(w, nodes);
-    tell_places(&starts, &lengths, &words, nodes);
-    tell_edges(table, nodes);
-    tell_walk(w, table, &starts, &words, walk, steps);
+    tell_programs(out, w, table, &program, programs);
+    tell_nodes(out, w, nodes);
+    tell_places(out, &starts, &lengths, &words, nodes);
+    tell_edges(out, table, nodes);
+    tell_walk(out, w, table, &starts, &words, walk, steps);
 }
 
-fn tell_graph(w: Workload, walk: &[u64], steps: u64) {
+fn tell_graph(out: Stdout, w: Workload, walk: &[u64], steps: u64) {
     let mut table = [0u64; TABLE_WORDS];
     let filled = place_table::fill_rows(w, &mut table);
     match filled {
@@ -410,50 +416,50 @@ fn tell_graph(w: Workload, walk: &[u64], steps: u64) {
             places,
         } => {
             let n = (places * ROW_WORDS as u64) as usize;
-            tell_all(w, &table[..n], programs, walk, steps);
+            tell_all(out, w, &table[..n], programs, walk, steps);
         }
     }
 }
 
-fn tell_verdict(word: &[u8], c: Totals) {
-    tell(word, &[c.programs, c.nodes, c.edges, c.back]);
+fn tell_verdict(out: Stdout, word: &[u8], c: Totals) {
+    tell(out, word, &[c.programs, c.nodes, c.edges, c.back]);
 }
 
-fn tell_value(w: Workload) {
+fn tell_value(out: Stdout, w: Workload) {
     let mut walk = [0u64; WALK_WORDS];
     let v = verdict_of::verdict_of(w, &mut walk);
     match v {
         Verdict::Robust(c) => {
-            tell_verdict(b"verdict robust", c);
-            tell_graph(w, &walk, 0);
+            tell_verdict(out, b"verdict robust", c);
+            tell_graph(out, w, &walk, 0);
         }
         Verdict::Danger(c, steps) => {
-            tell_verdict(b"verdict danger", c);
-            tell_graph(w, &walk, steps);
+            tell_verdict(out, b"verdict danger", c);
+            tell_graph(out, w, &walk, steps);
         }
         Verdict::Refused(number) => {
-            tell_refused(number, 0);
-            tell_unfolds(w);
+            tell_refused(out, number, 0);
+            tell_unfolds(out, w);
         }
     }
 }
 
 // The facts of a text; the last line says that they are all there.
-fn tell_text(text: &[u8]) {
+fn tell_text(out: Stdout, text: &[u8]) {
     let parsed = text_read::read_text(text);
     let number = parsed.number;
     if number != 0 {
-        tell_refused(number, parsed.line);
-        tell_before(text);
+        tell_refused(out, number, parsed.line);
+        tell_before(out, text);
     } else {
-        tell_value(parsed.work);
+        tell_value(out, parsed.work);
     }
-    print(b"end\n");
+    print(out, b"end\n");
 }
 
-fn tell_read(area: &[u8], n: usize) {
+fn tell_read(out: Stdout, area: &[u8], n: usize) {
     if n <= area.len() {
-        tell_text(&area[..n]);
+        tell_text(out, &area[..n]);
     }
 }
 
@@ -461,14 +467,14 @@ fn tell_read(area: &[u8], n: usize) {
 // follows.
 const INPUT_BYTES: usize = 65536;
 
-fn main() {
+fn main(rt: HostRuntime) {
     let mut area = [0u8; INPUT_BYTES];
-    let read = stdin::read_input(&mut area);
+    let read = stdin::read_input(rt.stdin(), &mut area);
     match read {
-        Input::Ended(received) => tell_read(&area, received.count()),
-        Input::Full(received) => tell_read(&area, received.count()),
+        Input::Ended(received) => tell_read(rt.stdout(), &area, received.count()),
+        Input::Full(received) => tell_read(rt.stdout(), &area, received.count()),
         Input::Failed(_) => {
-            io::write_all(STDERR_FILENO, b"the input could not be read\n");
+            let _ = rt.stderr().write_all(b"the input could not be read\n");
         }
     }
 }

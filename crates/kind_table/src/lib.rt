@@ -12,71 +12,71 @@ use spec_text::StatementKind;
 pub const KINDS: usize = 8;
 
 // A code tells of each of the letters A to E whether it can hold between two statements over one relation, whatever sets the rules allow them:
-// two bits to each letter, A's first; 00 impossible, 01 certain, 10 hanging on a meeting of its two sets. The same stands in its name, a place to
+// two bits to each letter, A's first; 00 impossible, 01 certain, 10 hanging on a meeting of its two sets. The same stands in its name behind a k, a place to
 // each letter: `_` impossible, a capital certain, a small letter hanging.
-const abcde: u32 = 0b10_10_10_10_10;
+const kabcde: u32 = 0b10_10_10_10_10;
 
-const abcd_: u32 = 0b10_10_10_10_00;
+const kabcd_: u32 = 0b10_10_10_10_00;
 
-const ab_de: u32 = 0b10_10_00_10_10;
+const kab_de: u32 = 0b10_10_00_10_10;
 
-const ab_d_: u32 = 0b10_10_00_10_00;
+const kab_d_: u32 = 0b10_10_00_10_00;
 
-const AbC__: u32 = 0b01_10_01_00_00;
+const kAbC__: u32 = 0b01_10_01_00_00;
 
-const Ab___: u32 = 0b01_10_00_00_00;
+const kAb___: u32 = 0b01_10_00_00_00;
 
-const A_cdE: u32 = 0b01_00_10_10_01;
+const kA_cdE: u32 = 0b01_00_10_10_01;
 
-const A_cd_: u32 = 0b01_00_10_10_00;
+const kA_cd_: u32 = 0b01_00_10_10_00;
 
-const A_C__: u32 = 0b01_00_01_00_00;
+const kA_C__: u32 = 0b01_00_01_00_00;
 
-const A__dE: u32 = 0b01_00_00_10_01;
+const kA__dE: u32 = 0b01_00_00_10_01;
 
-const A__d_: u32 = 0b01_00_00_10_00;
+const kA__d_: u32 = 0b01_00_00_10_00;
 
-const A____: u32 = 0b01_00_00_00_00;
+const kA____: u32 = 0b01_00_00_00_00;
 
-const _bc__: u32 = 0b00_10_10_00_00;
+const k_bc__: u32 = 0b00_10_10_00_00;
 
-const _bC__: u32 = 0b00_10_01_00_00;
+const k_bC__: u32 = 0b00_10_01_00_00;
 
-const _b___: u32 = 0b00_10_00_00_00;
+const k_b___: u32 = 0b00_10_00_00_00;
 
-const _B___: u32 = 0b00_01_00_00_00;
+const k_B___: u32 = 0b00_01_00_00_00;
 
-const __C_e: u32 = 0b00_00_01_00_10;
+const k__C_e: u32 = 0b00_00_01_00_10;
 
-const __C_E: u32 = 0b00_00_01_00_01;
+const k__C_E: u32 = 0b00_00_01_00_01;
 
-const __C__: u32 = 0b00_00_01_00_00;
+const k__C__: u32 = 0b00_00_01_00_00;
 
-const ___de: u32 = 0b00_00_00_10_10;
+const k___de: u32 = 0b00_00_00_10_10;
 
-const ___dE: u32 = 0b00_00_00_10_01;
+const k___dE: u32 = 0b00_00_00_10_01;
 
-const ___d_: u32 = 0b00_00_00_10_00;
+const k___d_: u32 = 0b00_00_00_10_00;
 
-const ___D_: u32 = 0b00_00_00_01_00;
+const k___D_: u32 = 0b00_00_00_01_00;
 
-const ____e: u32 = 0b00_00_00_00_10;
+const k____e: u32 = 0b00_00_00_00_10;
 
-const ____E: u32 = 0b00_00_00_00_01;
+const k____E: u32 = 0b00_00_00_00_01;
 
-const _____: u32 = 0b00_00_00_00_00;
+const k_____: u32 = 0b00_00_00_00_00;
 
 // Rows: the kind of the statement that an edge leaves. Columns: the kind of the statement that it enters.
 const LETTERS: [[u32; KINDS]; KINDS] = [
-    // is     ks     ps     ku     pu     kd     pd     kl
-    [_____, _B___, _bC__, Ab___, AbC__, A____, A_C__, _B___], // is
-    [_____, _____, _____, ___d_, ___d_, ___D_, ___D_, _____], // ks
-    [____E, _____, _____, ___de, ___de, ___dE, ___dE, _____], // ps
-    [_____, _b___, _bc__, ab_d_, abcd_, A__d_, A_cd_, _b___], // ku
-    [____E, _b___, _bc__, ab_de, abcde, A__dE, A_cdE, _b___], // pu
-    [_____, _____, __C__, _____, __C__, _____, __C__, _____], // kd
-    [____E, _____, __C__, ____e, __C_e, ____E, __C_E, _____], // pd
-    [_____, _____, _____, ___d_, ___d_, ___D_, ___D_, _____], // kl
+    // is      ks      ps      ku      pu      kd      pd      kl
+    [k_____, k_B___, k_bC__, kAb___, kAbC__, kA____, kA_C__, k_B___], // is
+    [k_____, k_____, k_____, k___d_, k___d_, k___D_, k___D_, k_____], // ks
+    [k____E, k_____, k_____, k___de, k___de, k___dE, k___dE, k_____], // ps
+    [k_____, k_b___, k_bc__, kab_d_, kabcd_, kA__d_, kA_cd_, k_b___], // ku
+    [k____E, k_b___, k_bc__, kab_de, kabcde, kA__dE, kA_cdE, k_b___], // pu
+    [k_____, k_____, k__C__, k_____, k__C__, k_____, k__C__, k_____], // kd
+    [k____E, k_____, k__C__, k____e, k__C_e, k____E, k__C_E, k_____], // pd
+    [k_____, k_____, k_____, k___d_, k___d_, k___D_, k___D_, k_____], // kl
 ];
 
 // The bit of a code that says of a letter that it is certain.

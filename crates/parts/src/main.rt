@@ -2,10 +2,19 @@
 // whole the parts after it are; a group, as a decimal number, and a file ask whether the part that the group makes is the file's value.
 #![tactic(auto)]
 
+ghost use Rattle.std.specs.Prelude.{◌≤◌, length, IfSome};
+
 use check::same;
-use libc::STDOUT_FILENO;
 use spec_text::{CELLS, Line, LineKind, Workload};
+use std::env::{Env, FillError};
+use std::fs::File;
+use std::io::{Read, Stdout, Write};
 use text_read::Parsed;
+
+// The bytes of the areas that a file and an argument are read into.
+const INPUT_BYTES: usize = 65536;
+
+const WORD_BYTES: usize = 4096;
 
 // ---- two values
 
@@ -56,48 +65,54 @@ fn same_value(a: Workload, b: Workload) -> bool {
 
 // ---- what is printed
 
-fn print(bytes: &[u8]) {
-    io::write_all(STDOUT_FILENO, bytes);
+fn print(mut out: Stdout, bytes: &[u8]) {
+    let _ = out.write_all(bytes);
 }
 
-fn print_same(yes: bool) {
+fn print_number(out: Stdout, n: u64) {
+    let mut digits = [0u8; 20];
+    let k = io::decimal(n, &mut digits);
+    print(out, &digits[..k]);
+}
+
+fn print_same(out: Stdout, yes: bool) {
     if yes {
-        print(b" same\n");
+        print(out, b" same\n");
         return;
     }
-    print(b" differs\n");
+    print(out, b" differs\n");
 }
 
-fn print_refused(number: u8) {
-    print(b" refused ");
-    io::print_decimal(STDOUT_FILENO, number as u64);
-    print(b"\n");
+fn print_refused(out: Stdout, number: u8) {
+    print(out, b" refused ");
+    print_number(out, number as u64);
+    print(out, b"\n");
 }
 
 // Whether the part that a group makes of the whole is what was read, or a refusal.
-fn show_part(whole: Workload, group: u16, parsed: Parsed) {
+fn show_part(out: Stdout, whole: Workload, group: u16, parsed: Parsed) {
     let number = parsed.number;
     if number != 0 {
-        print_refused(number);
+        print_refused(out, number);
         return;
     }
     let part = value_part::part_of(whole, group);
     let refusal = part.number;
     if refusal != 0 {
-        print_refused(refusal);
+        print_refused(out, refusal);
         return;
     }
-    print_same(same_value(part.work, parsed.work));
+    print_same(out, same_value(part.work, parsed.work));
 }
 
 // ---- values near the whole that no text gives
 
 // What is answered for a value that no text gives, and whether the value is handed back.
-fn show_near(near: Workload) {
+fn show_near(out: Stdout, near: Workload) {
     let part = value_part::part_of(near, 65535);
-    print(b": ");
-    io::print_decimal(STDOUT_FILENO, part.number as u64);
-    print_same(same_value(part.work, near));
+    print(out, b": ");
+    print_number(out, part.number as u64);
+    print_same(out, same_value(part.work, near));
 }
 
 // A value with another line in a cell, of this kind and with these reads, and another count of lines.
@@ -120,31 +135,74 @@ fn with_line(w: Workload, at: usize, kind: LineKind, reads: u64, count: usize) -
 }
 
 // Where a cell is left, a loop that nothing closes and a relation that is not counted stand in it; and one line more than there are cells.
-fn show_all_near(w: Workload) {
+fn show_all_near(out: Stdout, w: Workload) {
     let n = w.count;
     if n < CELLS {
-        print(b"a loop after the last line");
-        show_near(with_line(w, n, LineKind::Lo, 0, n + 1));
-        print(b"a relation in the cell after the last line");
-        show_near(with_line(w, n, LineKind::Rl, 3, n));
+        print(out, b"a loop after the last line");
+        show_near(out, with_line(w, n, LineKind::Lo, 0, n + 1));
+        print(out, b"a relation in the cell after the last line");
+        show_near(out, with_line(w, n, LineKind::Rl, 3, n));
     }
-    print(b"more lines than cells");
-    show_near(with_line(w, CELLS, LineKind::Rl, 3, CELLS + 1));
+    print(out, b"more lines than cells");
+    show_near(out, with_line(w, CELLS, LineKind::Rl, 3, CELLS + 1));
 }
 
 // ---- from the arguments to what is printed
 
+// How many bytes an area takes of a file: until the file ends, the area is full or a read fails.
+fn read_full(file: &mut File, area: &mut [u8]) -> usize
+    ensures { result ≤ length area.new }
+{
+    let mut n: usize = 0;
+    while n < area.len() {
+        match file.read(&mut area[n..]) {
+            Ok(k) => {
+                if k == 0 {
+                    return n;
+                }
+                n += k;
+            }
+            Err(_) => return n,
+        }
+    }
+    n
+}
+
+// The file of this name, opened for reading. One that cannot be opened is named on standard error.
+fn open_read(rt: &HostRuntime, path: &[u8]) -> Option<File> {
+    let Ok(name) = std::str::from_utf8(path) else {
+        let _ = rt.stderr().write_all(path);
+        let _ = rt.stderr().write_all(b": no name of a file\n");
+        return None;
+    };
+    match std::fs::open(rt, name) {
+        Ok(file) => Some(file),
+        Err(e) => {
+            let _ = eprintln!(rt; "{name}: {e}");
+            None
+        }
+    }
+}
+
+// Argument i at the front of an area: how many bytes it has, none if it does not fit; or that there is none.
+fn argument(rt: &HostRuntime, i: usize, area: &mut [u8]) -> Option<usize>
+    ensures { IfSome result (λ n. n ≤ length area.new) }
+{
+    match rt.arg(i, area) {
+        Ok(n) => Some(n),
+        Err(FillError::TooLong) => Some(0),
+        Err(FillError::NotPresent) => None,
+    }
+}
+
 // What a file's text is read into. A text that fills the area is over the bound, whatever follows; a file that cannot be opened is named on
 // standard error and read as no bytes.
-fn read_file(path: &[u8]) -> Parsed {
-    let file = os::open_read(path);
-    if file < 0 {
-        os::fail(path);
+fn read_file(rt: &HostRuntime, path: &[u8]) -> Parsed {
+    let Some(mut file) = open_read(rt, path) else {
         return text_read::read_text(b"");
-    }
-    let mut text = io::large_buffer();
-    let n = io::read_full(file, &mut text);
-    libc::close(file);
+    };
+    let mut text = [0u8; INPUT_BYTES];
+    let n = read_full(&mut file, &mut text);
     text_read::read_text(&text[..n])
 }
 
@@ -180,53 +238,46 @@ fn group_of(word: &[u8]) -> Group {
 }
 
 // The whole that a file gives; of one that some text gives also what is answered for values near it.
-fn take_whole(parsed: Parsed) -> Workload {
+fn take_whole(out: Stdout, parsed: Parsed) -> Workload {
     let number = parsed.number;
     if number != 0 {
-        print_refused(number);
+        print_refused(out, number);
         return parsed.work;
     }
-    print(b"\n");
-    show_all_near(parsed.work);
+    print(out, b"\n");
+    show_all_near(out, parsed.work);
     parsed.work
 }
 
 // What two words ask.
-fn take_words(whole: Workload, word: &[u8], path: &[u8]) -> Workload {
-    print(word);
-    print(b" ");
-    print(path);
-    let parsed = read_file(path);
+fn take_words(rt: &HostRuntime, whole: Workload, word: &[u8], path: &[u8]) -> Workload {
+    let out = rt.stdout();
+    print(out, word);
+    print(out, b" ");
+    print(out, path);
+    let parsed = read_file(rt, path);
     if same(word, b"--of") {
-        return take_whole(parsed);
+        return take_whole(out, parsed);
     }
     match group_of(word) {
-        Group::Word(group) => show_part(whole, group, parsed),
-        Group::Wrong => print(b" no group\n"),
+        Group::Word(group) => show_part(out, whole, group, parsed),
+        Group::Wrong => print(out, b" no group\n"),
     }
     whole
 }
 
-// The arguments of these numbers, and the whole before them; answers the whole after them.
-fn take_arguments(whole: Workload, first: usize, second: usize) -> Workload {
-    let mut word = io::buffer();
-    let n = os::arg(first, &mut word);
-    let mut path = io::buffer();
-    let m = os::arg(second, &mut path);
-    take_words(whole, &word[..n], &path[..m])
-}
-
 // Before the first whole there is none: a value that no text gives.
-fn main() {
-    let count = os::arg_count();
-    if count == 0 {
-        return;
-    }
-    let pairs = (count - 1) / 2;
+fn main(rt: HostRuntime) {
     let mut whole = value_unused::unused_cells(CELLS + 1);
-    let mut k: usize = 0;
-    while k < pairs {
-        whole = take_arguments(whole, 2 * k + 1, 2 * k + 2);
-        k += 1;
+    let mut word = [0u8; WORD_BYTES];
+    let mut path = [0u8; WORD_BYTES];
+    for k in 0..usize::MAX / 4 {
+        let Some(n) = argument(&rt, 2 * k + 1, &mut word) else {
+            return;
+        };
+        let Some(m) = argument(&rt, 2 * k + 2, &mut path) else {
+            return;
+        };
+        whole = take_words(&rt, whole, &word[..n], &path[..m]);
     }
 }

@@ -10,11 +10,11 @@ ghost use Rattle.stdin.specs.Ends.{Ends};
 ghost use Rattle.verdict_run.specs.ShownReport.{Came, bytes_read, Shows};
 ghost use Rattle.verdict_run.specs.Answered.{Answered};
 
-use libc::{STDERR_FILENO, STDOUT_FILENO};
+use std::io::Write;
 use stdin::Input;
 
 // What became of an input, and how reading it ended: standard output took its whole report; it did not; there is no report, since a read failed.
-#[derive(Drop)]
+#[derive(Clone, Copy)]
 pub enum Answer {
     Shown(Input),
     Cut(Input),
@@ -22,19 +22,19 @@ pub enum Answer {
 }
 
 // Hands a report to standard output. Only a report of the text that was read can be handed over: a caller has to show it.
-fn show(area: &[u8], read: Input, report: &[u8]) -> Answer
+fn show(rt: &HostRuntime, area: &[u8], read: Input, report: &[u8]) -> Answer
     requires { Shows area.now read report.now }
     ensures { Answered (length area.now) result }
 {
-    if io::write_all(STDOUT_FILENO, report) {
+    if rt.stdout().write_all(report).is_ok() {
         return Answer::Shown(read);
     }
-    io::write_all(STDERR_FILENO, b"the report could not be written\n");
+    let _ = rt.stderr().write_all(b"the report could not be written\n");
     Answer::Cut(read)
 }
 
 // Shows the report of the bytes that were read. An area with no room for more is longer than any text that is accepted.
-fn report_read(area: &[u8], read: Input, n: usize) -> Answer
+fn report_read(rt: &HostRuntime, area: &[u8], read: Input, n: usize) -> Answer
     requires in_bounds { 32768 < length area.now }
     requires ends { Ends (length area.now) read × Came read × (n ≡ bytes_read read) }
     ensures { Answered (length area.now) result }
@@ -42,19 +42,19 @@ fn report_read(area: &[u8], read: Input, n: usize) -> Answer
     let report = report_text::report_of(&area[..n]);
     let k = report.length;
     let bytes = report.bytes;
-    show(area, read, &bytes[..k])
+    show(rt, area, read, &bytes[..k])
 }
 
-fn answer_with(area: &mut [u8]) -> Answer
+fn answer_with(rt: &HostRuntime, area: &mut [u8]) -> Answer
     requires { 32768 < length area.old }
     ensures { Answered (length area.new) result }
 {
-    let read = stdin::read_input(area);
+    let read = stdin::read_input(rt.stdin(), area);
     match read {
-        Input::Ended(received) => report_read(area, read, received.count()),
-        Input::Full(received) => report_read(area, read, received.count()),
+        Input::Ended(received) => report_read(rt, area, read, received.count()),
+        Input::Full(received) => report_read(rt, area, read, received.count()),
         Input::Failed(received) => {
-            io::write_all(STDERR_FILENO, b"the input could not be read\n");
+            let _ = rt.stderr().write_all(b"the input could not be read\n");
             Answer::Unread(Input::Failed(received))
         }
     }
@@ -65,9 +65,9 @@ fn answer_with(area: &mut [u8]) -> Answer
 const INPUT_BYTES: usize = 65536;
 
 // Reads standard input and shows its report.
-pub fn answer_input() -> Answer
+pub fn answer_input(rt: &HostRuntime) -> Answer
     ensures { Answered 65536 result }
 {
     let mut area = [0u8; INPUT_BYTES];
-    answer_with(&mut area)
+    answer_with(rt, &mut area)
 }

@@ -1,0 +1,23 @@
+-- What is picked from the rows, and the walk that is found in it, are the word (judged-picked); no function changes how many words are lent.
+use mathlib.Core.Path.{◌∙◌}
+use borrow.Author.Rules.{rules}
+use Rattle.lent_words.specs.Lent.{Lent}
+use Rattle.verdict_of.specs.VerdictLaws.{judged_picked}
+use Rattle.verdict_of.proofs.judge_rows.Goals as goal
+
+pub returns : goal.returns
+unfolding Lent
+returns c =
+    let found = c in
+    let picked = found in
+    let entry = picked in
+    record {
+      rows_judged = judged_picked _ _ _ _ _ _ entry.requires.0 entry.requires.1 picked.pick_edges-c.ensures.picked_as
+          found.find_walk-found.ensures.walk_answered c.judged.ensures;
+      lent = (
+        picked.pick_edges-c.ensures.lent,
+        found.find_walk-found.ensures.lent ∙ picked.pick_edges-c.ensures.lent_2,
+        search rules,
+        search rules,
+      );
+    }
