@@ -46,10 +46,10 @@ sum_most f most (suc n) h =
 -- ---- a pair of rows
 
 -- a range and a number outside or inside of it
-low : (from to n : ℕ) → n < from → in_range from to n ≡ false
+pub low : (from to n : ℕ) → n < from → in_range from to n ≡ false
 low from to n h = ap (λ (b : Bool). b && ltb n to) (lt-leb from n h)
 
-high : (from to n : ℕ) → from ≤ n → to ≤ n → in_range from to n ≡ false
+pub high : (from to n : ℕ) → from ≤ n → to ≤ n → in_range from to n ≡ false
 high from to n h k = ap₂ ◌&&◌ (le-leb from n h) (le-ltb n to k)
 
 pub inside : (from to n : ℕ) → from ≤ n → n < to → in_range from to n ≡ true
@@ -222,7 +222,7 @@ module _ (table : List ℕ) (i a b c d : ℕ) where
   p = row_at table i
 
   -- a row outside the range
-  row_outside : in_range a b p.node ≡ false → nothing_counted ≡ row_between table i a b c d
+  pub row_outside : in_range a b p.node ≡ false → nothing_counted ≡ row_between table i a b c d
   unfolding row_between goes row_edge
   row_outside e =
       ap₂ (λ (x y : ℕ). record { edges = x; back = y })
@@ -231,24 +231,13 @@ module _ (table : List ℕ) (i a b c d : ℕ) where
       (λ flow q. ap (λ (t : Bool). (t && in_range c d q.node) && G.is_back flow) e) ∙ none_leave table p))
 
   -- and inside: what it has that enters the other range
-  row_inside : in_range a b p.node ≡ true → row_entering table p c d ≡ row_between table i a b c d
+  pub row_inside : in_range a b p.node ≡ true → row_entering table p c d ≡ row_between table i a b c d
   unfolding row_between row_entering goes row_edge
   row_inside e =
       ap₂ (λ (x y : ℕ). record { edges = x; back = y })
       (sym (leaves_row (goes a b c d) table p (enters c d) (λ flow q. ap (λ (t : Bool). t && in_range c d q.node) e)))
       (sym (leaves_row (goes_back a b c d) table p (enters_back c d)
       (λ flow q. ap (λ (t : Bool). (t && in_range c d q.node) && G.is_back flow) e)))
-
-  pub row_low : {q : Row} → q ≡ row_at table i → q.node < a → nothing_counted ≡ row_between table i a b c d
-  row_low e h = row_outside (ap (λ (q : Row). in_range a b q.node) (sym e) ∙ low a b _ h)
-
-  pub row_high : {q : Row} → q ≡ row_at table i → a ≤ q.node → b ≤ q.node → nothing_counted ≡ row_between table i a b c d
-  row_high e h k = row_outside (ap (λ (q : Row). in_range a b q.node) (sym e) ∙ high a b _ h k)
-
-  pub row_in : {q : Row} → q ≡ row_at table i → a ≤ q.node → q.node < b → row_entering table q c d ≡ row_between table i a b c d
-  row_in e h k =
-      ap (λ (q : Row). row_entering table q c d) e
-      ∙ row_inside (ap (λ (q : Row). in_range a b q.node) (sym e) ∙ inside a b _ h k)
 
 -- nothing is few
 pub nothing_few : (counted : Counts) {r : Counts} → r ≡ nothing_counted → nothing_counted ≡ counted → Few 1024 counted r

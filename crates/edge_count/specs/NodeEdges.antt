@@ -8,7 +8,8 @@ use Rattle.spec_graph.specs.Unfolding.{Node}
 use Rattle.spec_graph.specs.Edge as E
 use Rattle.node_laws.specs.GivenNodes.{LawfulNode}
 use Rattle.place_row.specs.RowTable.{rows_of, table_of, edges_of_rows}
-use Rattle.place_row.specs.RowTableLaws.{edges_rows, table_rows_lem}
+use Rattle.place_row.specs.RowTableLaws.{table_rows_lem}
+use Rattle.place_row.proofs.EdgeRows.{edges_rows}
 use Rattle.edge_count.specs.Slots.{table_edges}
 
 module _ (lines : List Line) (nodes : List Node) (lawful : (n : Node) → Memᴰ n nodes → LawfulNode lines n)

@@ -54,8 +54,8 @@ pub record Judges (w : Workload) (before : List ℕ) (r : ℕ) (after : List ℕ
 -- the same from a text's answer on
 pub record UnfoldStage (p : Parsed) (before : List ℕ) (r : ℕ) (after : List ℕ) : Type 0 where
   pub refuses : Refuses p before r after
-  pub goes_on_lem : p.number ≡ 0 → Unfolds p.work before r after
+  pub goes_on : p.number ≡ 0 → Unfolds p.work before r after
 
 pub record VerdictStage (p : Parsed) (before : List ℕ) (r : ℕ) (after : List ℕ) : Type 0 where
   pub refuses : Refuses p before r after
-  pub goes_on_lem : p.number ≡ 0 → Judges p.work before r after
+  pub goes_on : p.number ≡ 0 → Judges p.work before r after

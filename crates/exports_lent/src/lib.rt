@@ -55,11 +55,7 @@ fn middle_line(lines: &[u64], count: usize) -> Line
 }
 
 // Reads the text into the table of its lines. State and lines are lent to work in: what they hold afterwards is free.
-pub fn lent_read(
-    text: &[u8],
-    state: &mut [u64; WORDS],
-    lines: &mut [u64; LINE_TABLE],
-) -> u32
+pub fn lent_read(text: &[u8], state: &mut [u64; WORDS], lines: &mut [u64; LINE_TABLE]) -> u32
     ensures value { result ≡ read_word (given text.now) }
     ensures lent { Lent state.old state.new × Lent lines.old lines.new }
 {

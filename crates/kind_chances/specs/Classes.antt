@@ -1,15 +1,13 @@
 -- The classes of a kind's sets, from the facts by which its lines are read (line_kinds).
 use Rattle.std.specs.Prelude.{Bool, false, cond, not, ◌≡◌, refl, ℕ}
-use Rattle.std.proofs.Common.{sym, ap, subst, ◌∙◌}
+use Rattle.std.proofs.Common.{ap, ◌∙◌}
 use Rattle.spec_text.specs.declared.StatementKind.{StatementKind}
 use Rattle.spec_text.specs.declared.StatementKind.TheVariants.{Is, Ks, Ps, Ku, Pu, Kd, Pd, Kl}
-use Rattle.spec_graph.specs.Edge.{R, W, T, has_tests}
+use Rattle.spec_graph.specs.Edge.{has_tests}
 use Rattle.law_kinds.specs.declared.SetClass.{SetClass}
 use Rattle.law_kinds.specs.declared.SetClass.TheVariants.{Lacking, Any, Filled, Whole}
 use Rattle.law_kinds.specs.EveryKind.{kinds_agree}
 use Rattle.law_kinds.specs.KindSets.{sets_of}
-use Rattle.law_kinds.specs.SetMeaning.{SetMeans}
-use Rattle.law_kinds.proofs.SetsMeant.{reads_mean, writes_mean, tests_mean}
 use Rattle.line_kinds.specs.Kinds.{facts_of, lacks_fact, has_reads, has_writes, has_tests as tests_bit, some_reads, some_writes, whole_writes}
 
 -- the class of a set, from whether the kind has it, whether it is never empty, and whether it is the whole relation
@@ -21,21 +19,21 @@ abbrev has : ℕ → ℕ → Bool
 has facts fact = not (lacks_fact facts fact)
 
 -- the classes that the facts of a kind tell
-abbrev reads_by : ℕ → SetClass
+abbrev pub reads_by : ℕ → SetClass
 reads_by facts = class_by (has facts has_reads) (has facts some_reads) false
 
-abbrev writes_by : ℕ → SetClass
+abbrev pub writes_by : ℕ → SetClass
 writes_by facts = class_by (has facts has_writes) (has facts some_writes) (has facts whole_writes)
 
-abbrev tests_by : ℕ → SetClass
+abbrev pub tests_by : ℕ → SetClass
 tests_by facts = class_by (has facts tests_bit) false false
 
-record FactsTold (k : StatementKind) : Type 0 where
-  reads : reads_by (facts_of k) ≡ (sets_of k).reads
-  writes : writes_by (facts_of k) ≡ (sets_of k).writes
-  tests : tests_by (facts_of k) ≡ (sets_of k).tests
+pub record FactsTold (k : StatementKind) : Type 0 where
+  pub reads : reads_by (facts_of k) ≡ (sets_of k).reads
+  pub writes : writes_by (facts_of k) ≡ (sets_of k).writes
+  pub tests : tests_by (facts_of k) ≡ (sets_of k).tests
 
-facts_told : (k : StatementKind) → FactsTold k
+pub facts_told : (k : StatementKind) → FactsTold k
 facts_told Is = record { reads = refl; writes = refl; tests = refl }
 facts_told Ks = record { reads = refl; writes = refl; tests = refl }
 facts_told Ps = record { reads = refl; writes = refl; tests = refl }
@@ -44,16 +42,6 @@ facts_told Pu = record { reads = refl; writes = refl; tests = refl }
 facts_told Kd = record { reads = refl; writes = refl; tests = refl }
 facts_told Pd = record { reads = refl; writes = refl; tests = refl }
 facts_told Kl = record { reads = refl; writes = refl; tests = refl }
-
-module _ (k : StatementKind) {facts : ℕ} {c : SetClass} (e : facts ≡ facts_of k) where
-  pub reads_by_lem : c ≡ reads_by facts → SetMeans R k c
-  reads_by_lem h = subst (SetMeans R k) (sym (h ∙ ap reads_by e ∙ (facts_told k).reads)) (reads_mean k)
-
-  pub writes_by_lem : c ≡ writes_by facts → SetMeans W k c
-  writes_by_lem h = subst (SetMeans W k) (sym (h ∙ ap writes_by e ∙ (facts_told k).writes)) (writes_mean k)
-
-  pub tests_by_lem : c ≡ tests_by facts → SetMeans T k c
-  tests_by_lem h = subst (SetMeans T k) (sym (h ∙ ap tests_by e ∙ (facts_told k).tests)) (tests_mean k)
 
 -- a kind has tests where its facts say so
 pub tests_there : (k : StatementKind) {facts : ℕ} → facts ≡ facts_of k → has facts tests_bit ≡ has_tests k

@@ -10,7 +10,7 @@ use Rattle.spec_kinds.specs.Meaning.{Means}
 use Rattle.spec_kinds.specs.Table.{kinds, digit_of, table_text, KindTable}
 use Rattle.law_kinds.specs.Chances.{chance_of}
 use Rattle.law_kinds.proofs.ChancesMeant.{chance_means, means_one}
-use Rattle.law_kinds.proofs.TableLaws.{entries_one, table_one}
+use Rattle.law_kinds.proofs.TableLaws.{entries_one}
 use Rattle.edge_kinds.specs.Kinds.{kind_number}
 use Rattle.kind_chances.specs.declared.Entry.{Entry}
 use Rattle.kind_chances.specs.Entries.{chance_for, EntryMeans}
@@ -46,9 +46,6 @@ module _ (entry : Entries) (right : (x : Letter) (k l : StatementKind) → Means
 pub entry_agrees : (k l : StatementKind) (e : Entry) → EntryMeans k l e → (x : Letter) → entries_in letter_table x k l ≡ chance_for e x
 entry_agrees k l e m x = means_one x k l (entries_in letter_table x k l) (chance_for e x) (table_means x k l) (m x)
 
--- whatever bytes are the table of kinds, they are the table printed
+-- the source's table printed is the table of kinds; no other bytes are (tables_agree of proofs/)
 pub source_printed : KindTable (table_text (entries_in letter_table))
 source_printed = record { entry = entries_in letter_table; right = table_means; text = refl }
-
-pub tables_agree : {bytes : List ℕ} → KindTable bytes → bytes ≡ table_text (entries_in letter_table)
-tables_agree t = table_one t source_printed

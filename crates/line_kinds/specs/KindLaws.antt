@@ -3,8 +3,7 @@ use Rattle.std.specs.Prelude.{Bool, true, false, cond, ◌&&◌, ◌≡◌, refl
 use Rattle.std.proofs.Common.{◌∙◌, arith}
 use Rattle.std.specs.Int.Bits.{bit_and}
 use Rattle.spec_text.specs.declared.Line.{Line}
-use Rattle.spec_text.specs.declared.LineKind.{LineKind}
-use Rattle.spec_text.specs.declared.LineKind.TheVariants.{Rl, Fk, Pr, St, Lo, Br, El, En, Li}
+use Rattle.spec_text.specs.declared.LineKind.TheVariants.{St}
 use Rattle.spec_text.specs.declared.StatementKind.{StatementKind}
 use Rattle.spec_text.specs.declared.StatementKind.TheVariants.{Is, Ks, Ps, Ku, Pu, Kd, Pd, Kl}
 use Rattle.spec_text.specs.Text.{forms_of}
@@ -37,16 +36,3 @@ told Pu = record { forms = refl; sets = λ whole l. and_end _; parent = refl; sm
 told Kd = record { forms = refl; sets = λ whole l. refl; parent = refl; small = omega arith }
 told Pd = record { forms = refl; sets = λ whole l. refl; parent = refl; small = omega arith }
 told Kl = record { forms = refl; sets = λ whole l. and_end _ ∙ and_end _; parent = refl; small = omega arith }
-
--- T5: the forms of a line's fields
-pub forms_told : (k : LineKind) → forms_of k ≡ forms_by (line_facts k)
-unfolding forms_of forms_with number_if set_if
-forms_told (St k) = (told k).forms
-forms_told Rl = refl
-forms_told Fk = refl
-forms_told Pr = refl
-forms_told Lo = refl
-forms_told Br = refl
-forms_told El = refl
-forms_told En = refl
-forms_told Li = refl

@@ -1,6 +1,7 @@
 // What the rules say of the kinds, as one table: which fields a line has, what the sets of a statement must be, which statement may be a
 // link's parent. Code that reads lines asks a kind nothing else, so that a new kind of statement is a line here.
 #![tactic(auto)]
+
 ghost use Rattle.std.specs.Prelude.{◌≡◌, ◌<◌};
 ghost use Rattle.line_kinds.specs.Kinds.{facts_of, line_facts};
 

@@ -1,29 +1,28 @@
--- The steps that count are the choices: a step that counts leads on in a phase in which the walk can be completed, and whatever step does so counts.
+-- The steps that count are the choices: whatever step leads on in a phase in which the walk can be completed counts (`WalksFinish` of proofs/ and
+-- ChoiceLaws say the rest).
 use Rattle.std.specs.Prelude.{◌≡◌, Bool, false, cond, not, eqb, ltb, leb}
 use Rattle.std.proofs.Math.Path.{refl}
 use Rattle.std.proofs.Common.{sym, ap, subst, ◌∙◌}
 use Rattle.std.proofs.Math.Bool.{true}
 use Rattle.std.proofs.lemmas.Bool.{false≢true}
-use mathlib.Core.List.{List}
 use Rattle.std.proofs.Math.Option.{Option, none, some, none-ne-some}
 use Prim.Native.Nat.{ℕ, zero, suc, ◌≤◌, ◌<◌, min, zero-le}
 use native.Mathlib.Omega.{arith}
-use borrow.Author.Tests.{eq-eqb, ltb-true, lt-ltb, leb-true, le-leb}
-use Rattle.law_base.specs.BoolLaws.{and_true, and_of}
+use borrow.Author.Tests.{ltb-true, lt-ltb, leb-true, le-leb}
+use Rattle.law_base.specs.BoolLaws.{and_true}
 use Rattle.law_base.specs.ListLaws.{some_injective}
 use Rattle.spec_graph.specs.Graph.{Flow, Graph, is_back}
 use Rattle.spec_graph.specs.Walk.{Step, dangerous_pair}
 use Rattle.law_walk.specs.Reach.{Regular}
-use Rattle.law_walk.specs.Phases.{Phase, after_step, ended, Accepted}
+use Rattle.law_walk.specs.Phases.{Phase, after_step, ended}
 use Rattle.law_walk.specs.Phases.Phase.{starting, opening, closing, ending}
-use Rattle.law_walk.specs.Phases.Accepted.{stop, go}
-use Rattle.law_walk.specs.Greedy.{Complete, Choice}
+use Rattle.law_walk.specs.Greedy.{Choice}
 use Rattle.pick_laws.specs.declared.Going.{Going}
 use Rattle.pick_laws.specs.Pick.{Picks}
 use Rattle.pick_laws.specs.PickLaws.{Picked}
-use Rattle.pick_laws.specs.Completing.{exactly, needed, widest}
+use Rattle.pick_laws.specs.Completing.{exactly, widest}
 use Rattle.pick_laws.specs.Opening.{open_below, pair_below}
-use Rattle.pick_laws.specs.CompletingLaws.{SmallPlaces, closing_exactly, opening_needed, ending_widest}
+use Rattle.pick_laws.specs.CompletingLaws.{SmallPlaces}
 use Rattle.pick_laws.specs.Demands.{only_if, ending_needs, needs_in, starting_limit, limits_in, counts, going_in, can_end, can_finish}
 
 -- what passes asks for nothing, and what does not is never met
@@ -51,22 +50,6 @@ module _ {g : Graph} {n : ℕ} {forwards backs : Picks} (regular : Regular g) (p
     (small : SmallPlaces g) (s : ℕ) where
   abbrev can : ℕ → Phase → ℕ → Bool
   can = can_finish g forwards backs n s
-
-  -- whatever completes a walk, the test passes
-  pub can_complete : Complete g s can
-  unfolding can_finish can_end
-  can_complete r starting x walk a = refl
-  can_complete r (opening e) x walk a =
-      le-leb (needed forwards backs n s r x) (open_below g e) (opening_needed regular picks inside small s e refl a)
-  can_complete r closing x walk a = closing_exactly regular picks inside small s refl a
-  can_complete zero (ending f e) x walk a = ended_at a refl refl
-    where
-      ended_at : {k : ℕ} {ph : Phase} {l : List Step} → Accepted g s k ph x l → k ≡ 0 → ph ≡ ending f e → can_end g forwards n s f e zero x ≡ true
-      ended_at (stop q h) zeroed same = and_of (eq-eqb x s q) (rw same at h)
-      ended_at (go step y node edge after rest) zeroed same = let no : ⊥ = omega arith in absurd no
-  can_complete (suc r) (ending f e) x walk a =
-      let w = ending_widest regular picks inside small s f e refl a in
-      and_of w.0 (lt-ltb (min f.leaves 1023) (widest forwards n s r x) w.1)
 
   -- a choice of the phase that follows a step
   in_phase : (r : ℕ) (ph next : Phase) (y : ℕ) → ◌≡◌ {A = Option Phase} (some ph) (some next) → can r next y ≡ true → can r ph y ≡ true

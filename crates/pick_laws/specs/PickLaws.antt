@@ -1,5 +1,5 @@
--- Where one edge stands for all: the walk found among the nodes is dangerous, and where a dangerous closed walk of any length exists the test among
--- the nodes passes.
+-- Where one edge stands for all: the walk found among the nodes is dangerous, and where a dangerous pair can be closed the test among the nodes
+-- passes (so it does for a dangerous closed walk of any length: `NodeComplete` of proofs/).
 use Rattle.std.specs.Prelude.{◌≡◌, Bool, false, ◌||◌, ◌⊎◌, List, [], ◌∷◌, ◌++◌}
 use Rattle.std.proofs.Math.Path.{refl}
 use Rattle.std.proofs.Common.{sym, ap, ◌∙◌, inl, inr, not-suc-le-zero, le_of_suc-le-suc, arith, eqb-true, eq-eqb, ltb-true, lt-ltb}
@@ -13,8 +13,8 @@ use Rattle.spec_base.specs.Basic.{any, all, first, numbers, around, pairs_to}
 use Rattle.law_base.specs.BoolLaws.{true_false, and_true, and_of, or_true, or_left, or_right}
 use Rattle.law_base.specs.ListLaws.{any_numbers_of, any_true, first_found, first_some, numbers_member}
 use Rattle.spec_graph.specs.Graph.{Flow, Graph, is_back}
-use Rattle.spec_graph.specs.Walk.{Step, is_edge, dangerous_pair, is_dangerous, DangerousWalk}
-use Rattle.law_walk.specs.Reach.{Regular, Reachable, steps_of, closes, DangerousReturn, walk_return, back_of, rounds_for, reach_short}
+use Rattle.spec_graph.specs.Walk.{Step, is_edge, dangerous_pair, is_dangerous}
+use Rattle.law_walk.specs.Reach.{Regular, Reachable, steps_of, closes, DangerousReturn, back_of, rounds_for, reach_short}
 use Rattle.law_walk.specs.Reach.Reachable.{here, along}
 use Rattle.pick_laws.specs.Pick.{Picks, picked, dangerous_picks, onward_to, reaches, returns_at, node_test, step_of, step_along, way_to, walk_at}
 use Rattle.pick_laws.specs.declared.Pick.{Pick}
@@ -238,7 +238,3 @@ module _ {g : Graph} {forwards backs : Picks} where
       danger Flow.back h d =
           forward (regular.twin u r.e.leaves v r.e.enters h)
           (or_right (ltb r.c.leaves r.e.enters) (regular.back_loose u r.e.leaves v r.e.enters h))
-
-  -- a dangerous closed walk, of any length, passes the test
-  pub node_complete : {n : ℕ} → Regular g → Picked g n forwards backs → g.size ≤ n → DangerousWalk g → node_test forwards backs n ≡ true
-  node_complete regular picks small walk = return_tested regular picks small (walk_return walk)

@@ -1,39 +1,33 @@
--- Laws of tables: the edges between the rows of places are the edges between the places, and rows are read back from their words.
-use Rattle.std.specs.Prelude.{◌≡◌, Bool, cond, not, ◌&&◌, ℕ, zero, suc, ◌+◌, ◌*◌, ◌/◌, ◌%◌, ◌^◌, ◌≤◌, ◌<◌, min, length, get_or}
+-- Laws of tables: the words of rows, and rows read back from them. That their edges are those of the places is in `EdgeRows` of proofs/.
+use Rattle.std.specs.Prelude.{◌≡◌, Bool, cond, not, ℕ, zero, suc, ◌+◌, ◌*◌, ◌/◌, ◌%◌, ◌^◌, ◌≤◌, ◌<◌, min, length, get_or}
 use Rattle.std.proofs.Math.Path.{refl, sym, ap, fun_ext}
 use Rattle.std.proofs.Common.{ap₂, subst, ◌∙◌, ⊎_elim, not-suc-le-zero, le_of_suc-le-suc, add-zero, arith, get_or-append-add}
 use Rattle.std.proofs.Math.Bool.{true, false}
 use mathlib.Core.List.{List, [], ◌∷◌, ◌++◌, map, flat_map, Memᴰ}
 use mathlib.Core.List.Memᴰ
-use Rattle.std.specs.Int.Count.{ones_in, ones, ones_step, count_trailing_zeros}
+use Rattle.std.specs.Int.Count.{ones_in, ones, ones_step}
 use Rattle.std.proofs.Math.Dec.{eqb}
 use borrow.Author.Tests.{eqb-true, eq-eqb, ne_eqb}
 use Rattle.spec_base.specs.Basic.{numbers, numbers_from, has, meets}
-use Rattle.law_base.specs.BoolLaws.{same_test, and_true, and_of, and_left, and_right, not_of_false}
+use Rattle.law_base.specs.BoolLaws.{same_test, and_true, and_of, and_right, not_of_false}
 use Rattle.law_base.specs.ListLaws.{any_true, any_of}
-use Rattle.law_base.specs.FlatLaws.{flat_map_map, flat_map_same}
 use Rattle.law_base.specs.SetLaws.{has_first, has_later, meets_has_below, has_meets, meets_comm}
-use Rattle.spec_graph.specs.Graph.{Flow}
 use Rattle.spec_graph.specs.Program.{Link}
 use Rattle.spec_graph.specs.Unfolding.{Node, Occurrence}
 use Rattle.spec_graph.specs.Edge.{has_tests, selects, loosens}
-use Rattle.spec_graph.specs.Edge.{Letter, Place, at, holds, same_relation, has_parent, guarded_near, guarded_far, shielded}
-use Rattle.spec_graph.specs.Edge.{forward, back, letter_of, shared}
-use Rattle.spec_graph.specs.Edge.{edge_of, edges_between, places_from, places_of, edges_of}
+use Rattle.spec_graph.specs.Edge.{Letter, Place, at, has_parent, guarded_near, guarded_far, shielded}
+use Rattle.spec_graph.specs.Edge.{shared}
+use Rattle.spec_graph.specs.Edge.{places_from, places_of}
 use Rattle.spec_graph.specs.Edge.Letter.{A, B, C, D, E}
 use Rattle.spec_text.specs.declared.Line.{Line}
-use Rattle.spec_text.specs.Reading.{relation_set}
 use Rattle.law_kinds.specs.EveryKind.{kinds_apart}
-use Rattle.law_kinds.specs.KindSets.{Allowed}
-use Rattle.law_kinds.specs.Chances.{chance_of, told}
-use Rattle.law_kinds.specs.ChanceLaws.{chance_told}
+use Rattle.law_kinds.specs.Chances.{chance_of}
 use Rattle.node_laws.specs.GivenNodes.{LawfulStatement, LawfulNode}
 use Rattle.edge_kinds.specs.KindLaws.{kind_of_number}
 use Rattle.place_row.specs.declared.Row.{Row}
 use Rattle.place_row.specs.KeyWord.{far_in, far_packed, near_packed}
-use Rattle.place_row.specs.RowTable.{word_of, row_of, rows_of, row_holds, row_shared, row_forward, row_back, row_letter, row_edge, row_edges}
-use Rattle.place_row.specs.RowTable.{edges_of_rows}
-use Rattle.place_row.specs.RowTable.{kind_number, kind_of, words_of, table_of, row_at, row_count, table_rows}
+use Rattle.place_row.specs.RowTable.{word_of, row_of, row_holds, row_shared, row_back}
+use Rattle.place_row.specs.RowTable.{kind_of, words_of, table_of, row_at, row_count, table_rows}
 
 -- ---- words from tests
 
@@ -118,82 +112,6 @@ shared_rows C s t = refl
 shared_rows D s t = refl
 shared_rows E s t = refl
 
--- a letter between rows is the letter between their statements, where the rules allow their sets over one relation
-pub holds_rows : (letter : Letter) {full : ℕ} (s t : Place) → Allowed full (at s) → Allowed full (at t)
-    → holds letter (at s) (at t) ≡ row_holds letter (row_of s) (row_of t)
-unfolding row_holds row_of
-holds_rows letter s t f g =
-    chance_told (at s) (at t) f g letter
-    ∙ ap (λ (x : ℕ). told (chance_of letter (at s).kind (at t).kind) (not (eqb x 0))) (shared_rows letter s t)
-
--- what is asked only of numbers that agree
-where_equal : (a b : ℕ) {x y : Bool} → (a ≡ b → x ≡ y) → eqb a b && x ≡ eqb a b && y
-where_equal a b {x} {y} same = go (eqb a b) refl
-  where
-    go : (e : Bool) → eqb a b ≡ e → e && x ≡ e && y
-    go true e = same (eqb-true a b e)
-    go false e = refl
-
--- two places of lawful nodes
-module _ (lines : List Line) (s t : Place) (f : LawfulStatement lines (at s)) (g : LawfulStatement lines (at t)) where
-  -- over one relation both statements have sets that the rules allow over its set
-  module _ (over : (at s).relation ≡ (at t).relation) where
-    same_holds : (letter : Letter) → holds letter (at s) (at t) ≡ row_holds letter (row_of s) (row_of t)
-    same_holds letter =
-        holds_rows letter s t f.sets (subst (λ (r : ℕ). Allowed (relation_set lines r) (at t)) (sym over) g.sets)
-
-    -- the letter between places is the letter between their rows
-    letter_rows : (flow : Flow) → letter_of flow (at s) (at t) ≡ row_letter flow (row_of s) (row_of t)
-    unfolding letter_of row_letter
-    letter_rows Flow.forward = simp (same_holds A, same_holds B, same_holds C, same_holds D)
-    letter_rows Flow.back = simp (same_holds E)
-
-    -- the edge between places is the edge between their rows
-    edge_rows : (flow : Flow) → edge_of flow s t ≡ row_edge flow (row_of s) (row_of t)
-    unfolding edge_of row_edge row_of
-    edge_rows flow = λ i. record {
-      node = s.number;
-      leaves = s.place;
-      into = t.number;
-      enters = t.place;
-      flow = flow;
-      letter = letter_rows flow i;
-      sharing = ones_in 64 (meeting i);
-      lowest = count_trailing_zeros 64 (meeting i);
-    }
-      where
-        meeting : shared (letter_of flow (at s) (at t)) (at s) (at t) ≡ row_shared (row_letter flow (row_of s) (row_of t)) (row_of s) (row_of t)
-        meeting = shared_rows (letter_of flow (at s) (at t)) s t ∙ ap (λ (l : Letter). row_shared l (row_of s) (row_of t)) (letter_rows flow)
-
-  -- a forward edge stands between places where it stands between their rows
-  pub forward_rows : forward s t ≡ row_forward (row_of s) (row_of t)
-  unfolding forward same_relation row_forward row_of
-  forward_rows =
-      where_equal (at s).relation (at t).relation
-      (λ over. simp (same_holds over A, same_holds over B, same_holds over C, same_holds over D, same_holds over E))
-
-  module _ (small : (l : Link) → Memᴰ l s.node.links → l.key < 32) where
-    -- a back edge stands between places where it stands between their rows
-    pub back_rows : back s t ≡ row_back (row_of s) (row_of t)
-    unfolding back same_relation row_back row_of
-    back_rows =
-        where_equal (at s).relation (at t).relation
-        (λ over. simp (same_holds over D, same_holds over E, shielded_rows s t small))
-
-    -- the edges between two places are those between their rows: none where the relations differ
-    pub between_rows : edges_between s t ≡ row_edges (row_of s) (row_of t)
-    unfolding edges_between row_edges forward back same_relation
-    between_rows = go (eqb (at s).relation (at t).relation) refl
-      where
-        go : (b : Bool) → eqb (at s).relation (at t).relation ≡ b → edges_between s t ≡ row_edges (row_of s) (row_of t)
-        go true e =
-            let over = eqb-true (at s).relation (at t).relation e in
-            simp (forward_rows, back_rows, edge_rows over Flow.forward, edge_rows over Flow.back)
-        go false e =
-            let f : forward s t ≡ false = and_left _ e in
-            let b : back s t ≡ false = and_left _ e in
-            simp (f, b, sym forward_rows ∙ f, sym back_rows ∙ b)
-
 -- E2: a back edge leaves a select, or a kind that tests: no other kind is loose
 pub back_loose_lem : (p q : Row) → loosens p.kind ≡ false → row_back p q ≡ false
 unfolding row_back row_holds chance_of
@@ -249,16 +167,6 @@ module _ (lines : List Line) (nodes : List Node) (lawful : (n : Node) → Memᴰ
 
   pub place_keys_lem : {s : Place} → Memᴰ s (places_of 0 nodes) → (l : Link) → Memᴰ l s.node.links → l.key < 32
   place_keys_lem {s} m = (lawful s.node (places_of_node 0 nodes m)).keys
-
-  -- E5: all edges of nodes are the edges of their rows
-  pub edges_rows : edges_of nodes ≡ edges_of_rows (rows_of nodes)
-  unfolding edges_of edges_of_rows rows_of
-  edges_rows =
-      let places = places_of 0 nodes in
-      flat_map_same _ _ places (λ s m.
-      flat_map_same _ _ places (λ t k. between_rows lines s t (place_lawful m) (place_lawful k) (place_keys_lem m))
-      ∙ sym (flat_map_map (row_edges (row_of s)) row_of places))
-      ∙ sym (flat_map_map (λ p. flat_map (λ q. row_edges p q) (map row_of places)) row_of places)
 
 -- ---- rows read back from their words
 

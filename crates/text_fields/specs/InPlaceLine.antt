@@ -12,7 +12,7 @@ use Rattle.spec_text.specs.Text.{space, fields_in, Form, word_of, kinds, kind_of
 use Rattle.law_base.specs.BoolLaws.{and_true}
 use Rattle.law_text.specs.EveryLineKind.{every_line_kind}
 use Rattle.line_kinds.specs.Kinds.{forms_with}
-use Rattle.line_kinds.specs.KindLaws.{forms_told}
+use Rattle.line_kinds.proofs.FormsTold.{forms_told}
 use Rattle.text_lines.specs.Span.{line_length, span_at}
 use Rattle.text_lines.specs.GoingLaws.{line_within}
 use Rattle.text_fields.specs.declared.LineStep.{LineStep}

@@ -16,7 +16,7 @@ use Rattle.text_number.specs.DigitLaws.{Digit, digit_view, below_ten}
 use Rattle.text_number.specs.DigitLaws.Digit.{decimal, letter, neither}
 use Rattle.spec_text.specs.declared.LineKind.{LineKind}
 use Rattle.line_kinds.specs.Kinds.{line_facts, forms_by}
-use Rattle.line_kinds.specs.KindLaws.{forms_told}
+use Rattle.line_kinds.proofs.FormsTold.{forms_told}
 use Rattle.text_fields.specs.Field.{number_if, set_if, with_step}
 use Rattle.text_fields.specs.FieldStep.{Decimal}
 use Rattle.text_fields.specs.InPlaceLaws.{zero_hex}

@@ -12,7 +12,7 @@ use Rattle.law_text.specs.Written.{field_written, fields_written, line_written}
 use Rattle.law_text.specs.WrittenLaws.{digits_most}
 use Rattle.law_text.specs.TextLaws.{fits, all_fit, line_fits, values_in, word_two}
 use Rattle.line_kinds.specs.Kinds.{line_facts, lacks_fact, has_id, has_rel, has_to, has_reads, has_writes, has_tests, number_if, set_if, forms_with}
-use Rattle.line_kinds.specs.KindLaws.{forms_told}
+use Rattle.line_kinds.proofs.FormsTold.{forms_told}
 use Rattle.value_length.specs.Size.{value_fits, size_of}
 
 -- one digit below the base, one more than the quotient has from the base on

@@ -21,7 +21,8 @@ use Rattle.spec_report.specs.State.{statements_in}
 use Rattle.node_laws.specs.GivenNodes.{LawfulNode}
 use Rattle.place_row.specs.declared.Row.{Row}
 use Rattle.place_row.specs.RowTable.{row_of, rows_of, row_stands}
-use Rattle.place_row.specs.RowTableLaws.{place_lawful, place_keys_lem, forward_rows, back_rows}
+use Rattle.place_row.specs.RowTableLaws.{place_lawful, place_keys_lem}
+use Rattle.place_row.proofs.EdgeRows.{forward_rows, back_rows}
 use Rattle.edge_word.specs.Coding.{forward_word, back_word, entry}
 use Rattle.edge_word.specs.Greatest.{GreatestWords, Small}
 use Rattle.walk_pick.specs.Picks.{row_forward_word, row_back_word, greatest, stands_in, word_for, between, words_between}

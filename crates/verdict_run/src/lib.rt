@@ -5,6 +5,7 @@
 // (outside/), since C's contracts tie no bytes to a descriptor: that `show` alone writes to standard output, that nothing here changes the
 // area after it was read, which bytes C's read puts there, that its answers are the system's, and what becomes of what C's write is handed.
 #![tactic(auto)]
+
 ghost use Rattle.std.specs.Prelude.{◌≡◌, ◌<◌, length};
 ghost use Rattle.stdin.specs.Ends.{Ends};
 ghost use Rattle.verdict_run.specs.ShownReport.{Came, bytes_read, Shows};

@@ -23,15 +23,17 @@ use Rattle.law_walk.specs.Greedy.{Greedy}
 use Rattle.law_walk.proofs.GreedyFirst.{greedy_first}
 use Rattle.pick_laws.specs.declared.Going.{Going}
 use Rattle.pick_laws.specs.Pick.{Picks, dangerous_picks, onward_to, reaches, returns_at, node_test}
-use Rattle.pick_laws.specs.PickLaws.{Picked, dangerous_some, node_complete}
+use Rattle.pick_laws.specs.PickLaws.{Picked, dangerous_some}
+use Rattle.pick_laws.proofs.NodeComplete.{node_complete}
 use Rattle.pick_laws.specs.Completing.{exactly, needed, leads, leaves_at}
 use Rattle.pick_laws.specs.ExactLaws.{exactly_reaches, reaches_exactly}
 use Rattle.pick_laws.specs.NeededLaws.{needed_later}
 use Rattle.pick_laws.specs.CompletingLaws.{SmallPlaces}
 use Rattle.pick_laws.specs.Demands.{limits_in, starting_limit, can_finish}
-use Rattle.pick_laws.specs.DemandLaws.{can_complete}
+use Rattle.pick_laws.proofs.WalksFinish.{can_complete}
 use Rattle.pick_laws.specs.ChoiceLaws.{Counted, back_counted_lem, start_counted}
-use Rattle.pick_laws.specs.LeadLaws.{dangerous_below, exactly_widest, accepted_leads}
+use Rattle.pick_laws.specs.LeadLaws.{dangerous_below, exactly_widest}
+use Rattle.pick_laws.proofs.WalkLeads.{accepted_leads}
 use Rattle.edge_word.specs.Coding.{entry, forwards_in, backs_in}
 use Rattle.walk_reach.specs.Layers.{joined_rows, wide_at}
 use Rattle.walk_lead.specs.Leads.{lead_rows, wrap_start}

@@ -3,7 +3,8 @@ use borrow.Author.Rules.{rules}
 use native.Mathlib.Omega.{arith}
 use mathlib.Core.Path.{ap, ◌∙◌}
 use Rattle.edge_count.specs.declared.Counts.{Counts}
-use Rattle.edge_between.specs.RowLaws.{row_low, row_high, row_in, nothing_few}
+use Rattle.edge_between.proofs.RowsIn.{row_low, row_high, row_in}
+use Rattle.edge_between.specs.RowLaws.{nothing_few}
 use Rattle.edge_between.proofs.count_row.Goals as goal
 
 pub returns-then-p-a : goal.returns-then-p-a

@@ -1,6 +1,6 @@
 -- The facts of the kind tell the class of its tests (tests_by): those that T9 allows.
 use borrow.Author.Rules.{rules}
-use Rattle.kind_chances.specs.Classes.{tests_by_lem}
+use Rattle.kind_chances.proofs.ClassesTold.{tests_by_lem}
 use Rattle.kind_chances.proofs.tests_of.Goals as goal
 
 pub returns : goal.returns

@@ -1,0 +1,4 @@
+pub mod NodeComplete
+pub mod WalksCompleted
+pub mod WalksFinish
+pub mod WalkLeads
