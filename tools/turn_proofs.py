@@ -209,6 +209,7 @@ class File:
             byname = {}
             for p in params:
                 byname[p] = ("l.initial." + p.rstrip("₀")) if p.endswith("₀") else "l." + p
+            self.said.append("by name")
         else:
             byname = dict(zip(params, order))
         body = text[eq.end():]

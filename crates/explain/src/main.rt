@@ -2,6 +2,7 @@
 // danger the first walk step by step. It reads a text on standard input and prints a line for each fact; `./judge --explain` puts them into words and
 // `./judge --picture` into a drawing. What is told is computed by functions with their own promises; this program asks them and prints.
 #![tactic(auto)]
+
 use edge_find::{edge_from, shared_by};
 use edge_list::EdgeAnswer;
 use edge_record::Edge;
@@ -72,7 +73,8 @@ fn tell_refused(out: Stdout, number: u8, line: u64) {
 // How much of the text was taken before the fault.
 fn tell_before(out: Stdout, text: &[u8]) {
     let b = text_before::before_fault(text);
-    tell(out, 
+    tell(
+        out,
         b"before",
         &[
             b.lines,
@@ -95,7 +97,11 @@ fn tell_unfolds(out: Stdout, w: Workload) {
         if !u.found {
             return;
         }
-        tell(out, b"unfolds", &[p, text_line(u.line), u.count, u.statements]);
+        tell(
+            out,
+            b"unfolds",
+            &[p, text_line(u.line), u.count, u.statements],
+        );
         p += 1;
     }
 }
@@ -125,7 +131,8 @@ fn tell_program(out: Stdout, w: Workload, table: &[u64], programs: &[u8], p: u64
     let first = nodes_before(programs, p);
     let next = nodes_before(programs, p % 16 + 1);
     let c = edge_between::count_between(table, first, next, 0, UNFOLDINGS as u64);
-    tell(out, 
+    tell(
+        out,
         b"program",
         &[
             p,
@@ -210,7 +217,8 @@ fn tell_pair_of_nodes(out: Stdout, table: &[u64], m: u64, n: u64) {
     if c.edges == 0 {
         return;
     }
-    tell(out, 
+    tell(
+        out,
         b"between",
         &[m, n, (c.edges - c.back) as u64, c.back as u64],
     );
@@ -329,24 +337,43 @@ fn print_edge_of(out: Stdout, w: Workload, table: &[u64], g: Going, left: usize,
     }
 }
 
-fn tell_step(out: Stdout, w: Workload, table: &[u64], starts: &[u64], words: &[u64], k: u64, g: Going) {
+fn tell_step(
+    out: Stdout,
+    w: Workload,
+    table: &[u64],
+    starts: &[u64],
+    words: &[u64],
+    k: u64,
+    g: Going,
+) {
     let left = row_of(starts, g.node, g.leaves);
     let entered = row_of(starts, g.into, g.enters);
     print(out, b"step");
-    print_numbers(out, &[
-        k,
-        g.node,
-        g.leaves,
-        row_line(words, left),
-        g.into,
-        g.enters,
-        row_line(words, entered),
-    ]);
+    print_numbers(
+        out,
+        &[
+            k,
+            g.node,
+            g.leaves,
+            row_line(words, left),
+            g.into,
+            g.enters,
+            row_line(words, entered),
+        ],
+    );
     print_edge_of(out, w, table, g, left, entered);
     print(out, b"\n");
 }
 
-fn tell_steps(out: Stdout, w: Workload, table: &[u64], starts: &[u64], words: &[u64], walk: &[u64], steps: u64) {
+fn tell_steps(
+    out: Stdout,
+    w: Workload,
+    table: &[u64],
+    starts: &[u64],
+    words: &[u64],
+    walk: &[u64],
+    steps: u64,
+) {
     let mut k: u64 = 0;
     while k < steps {
         tell_step(out, w, table, starts, words, k, step_at(walk, steps, k));
@@ -355,7 +382,14 @@ fn tell_steps(out: Stdout, w: Workload, table: &[u64], starts: &[u64], words: &[
 }
 
 // The dangerous pair that begins with a step: whether there is one, and if so, it is told.
-fn tell_pair_at(out: Stdout, table: &[u64], starts: &[u64], walk: &[u64], steps: u64, k: u64) -> bool {
+fn tell_pair_at(
+    out: Stdout,
+    table: &[u64],
+    starts: &[u64],
+    walk: &[u64],
+    steps: u64,
+    k: u64,
+) -> bool {
     let e = step_at(walk, steps, k);
     let next = next_step(steps, k);
     let c = step_at(walk, steps, next);
@@ -365,7 +399,8 @@ fn tell_pair_at(out: Stdout, table: &[u64], starts: &[u64], walk: &[u64], steps:
     if !r.dangerous {
         return false;
     }
-    tell(out, 
+    tell(
+        out,
         b"pair",
         &[k, next, r.back as u64, r.earlier as u64, r.loose as u64],
     );
@@ -383,7 +418,15 @@ fn tell_pair(out: Stdout, table: &[u64], starts: &[u64], walk: &[u64], steps: u6
     }
 }
 
-fn tell_walk(out: Stdout, w: Workload, table: &[u64], starts: &[u64], words: &[u64], walk: &[u64], steps: u64) {
+fn tell_walk(
+    out: Stdout,
+    w: Workload,
+    table: &[u64],
+    starts: &[u64],
+    words: &[u64],
+    walk: &[u64],
+    steps: u64,
+) {
     tell_steps(out, w, table, starts, words, walk, steps);
     tell_pair(out, table, starts, walk, steps);
 }

@@ -16,7 +16,7 @@ use Rattle.law_text.specs.TextLaws.{fits, all_fit, line_fits}
 use Rattle.law_text.specs.ReadingLaws.{line_forms}
 use Rattle.law_text.specs.LineCountLaws.{accepted_length}
 use Rattle.line_kinds.specs.Kinds.{line_facts, lacks_fact, has_id, has_rel, has_to, has_reads, has_writes, has_tests, number_if, set_if, forms_with}
-use Rattle.line_kinds.specs.KindLaws.{forms_told}
+use Rattle.line_kinds.proofs.FormsTold.{forms_told}
 use Rattle.value_tables.specs.Lines.{set_in, line_words, line_table}
 use Rattle.value_tables.specs.LineLaws.{cell_at, line_table_length}
 use Rattle.text_table.specs.declared.TextTable.{TextTable}

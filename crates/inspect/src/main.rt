@@ -145,7 +145,14 @@ fn list_lines(out: Stdout, w: Workload) {
 // ---- unfoldings
 
 // An unfolding: its number, its program, where it starts and how long it is, then its statements, which all lie in the area.
-fn print_unfolding(out: Stdout, node: u64, program: u8, start: u64, length: u64, statements: &[u64; ROWS]) {
+fn print_unfolding(
+    out: Stdout,
+    node: u64,
+    program: u8,
+    start: u64,
+    length: u64,
+    statements: &[u64; ROWS],
+) {
     print_number(out, node);
     print_next(out, program as u64);
     print_next(out, start);
@@ -177,7 +184,14 @@ fn list_unfoldings(out: Stdout, w: Workload) {
         if n <= i {
             return;
         }
-        print_unfolding(out, i as u64, programs[i], starts[i], lengths[i], &statements);
+        print_unfolding(
+            out,
+            i as u64,
+            programs[i],
+            starts[i],
+            lengths[i],
+            &statements,
+        );
         i += 1;
     }
 }
@@ -393,7 +407,15 @@ fn changed(area: &[u64; 264], from: u64) -> bool {
 }
 
 // The verdict's numbers, and whether a cell from a place on has changed.
-fn print_totals(out: Stdout, refusal: u64, danger: u64, edges: u64, back: u64, area: &[u64; 264], from: u64) {
+fn print_totals(
+    out: Stdout,
+    refusal: u64,
+    danger: u64,
+    edges: u64,
+    back: u64,
+    area: &[u64; 264],
+    from: u64,
+) {
     print_next(out, refusal);
     print_next(out, danger);
     print_next(out, edges);
@@ -411,7 +433,15 @@ fn show_verdict(out: Stdout, w: Workload, room: u64) {
     print_next(out, room);
     match v {
         Verdict::Robust(c) => print_totals(out, 0, 0, c.edges, c.back, &area, 0),
-        Verdict::Danger(c, steps) => print_totals(out, 0, 1, c.edges, c.back, &area, steps % 66 * 4),
+        Verdict::Danger(c, steps) => print_totals(
+            out,
+            0,
+            1,
+            c.edges,
+            c.back,
+            &area,
+            steps % 66 * 4,
+        ),
         Verdict::Refused(number) => print_totals(out, number as u64, 0, 0, 0, &area, 0),
     }
 }
@@ -459,7 +489,10 @@ fn list_areas(out: Stdout, w: Workload) {
     let relation = line_of(LineKind::Rl, 3, 0);
     show_areas(out, w);
     print(out, b"a loop left open\n");
-    show_areas(out, with_line(w, n, line_of(LineKind::Lo, 0, 0), n % CELLS + 1));
+    show_areas(
+        out,
+        with_line(w, n, line_of(LineKind::Lo, 0, 0), n % CELLS + 1),
+    );
     print(out, b"a relation in the cell after the last line\n");
     show_areas(out, with_line(w, n, relation, n));
     print(out, b"a first line with writes, which its kind lacks\n");

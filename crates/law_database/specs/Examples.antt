@@ -1,13 +1,14 @@
--- The laws on workloads that meet their premises, and two that show a premise needed: each of them is given and robust.
+-- Workloads that meet the premises of the laws, and two others that show a premise needed: all given and robust. What the laws say of the first two
+-- is in LawExamples of proofs/.
 use Rattle.std.specs.Prelude.{true, false, ◌≡◌, refl, ℕ}
 use mathlib.Core.List.{List, [], ◌∷◌, Memᴰ}
-use Rattle.std.proofs.Common.{inl, sym, subst, arith}
+use Rattle.std.proofs.Common.{sym, subst}
 use Rattle.std.proofs.Math.Option.{some}
 use Rattle.std.proofs.Math.ListN.{get_elem?}
 use Rattle.spec_base.specs.Basic.{within}
 use Rattle.law_base.specs.ListLaws.{get_elem?_member}
 use Rattle.spec_text.specs.declared.Line.{Line}
-use Rattle.spec_text.specs.declared.StatementKind.TheVariants.{Ps, Ku, Pu, Kd, Kl}
+use Rattle.spec_text.specs.declared.StatementKind.TheVariants.{Ps, Ku, Kd, Kl}
 use Rattle.spec_text.specs.Value.{Given, lines_of, value_of}
 use Rattle.law_text.specs.Written.{written, rereads}
 use Rattle.law_text.specs.ValueLaws.{value_given, lines_of_value}
@@ -15,57 +16,46 @@ use Rattle.spec_graph.specs.ExampleText.{rl, pr, ps, ku, pu, kd, kl, lo, en}
 use Rattle.spec_graph.specs.Program.{Program, statement_of, programs_of}
 use Rattle.spec_graph.specs.Program.Item.{statement}
 use Rattle.spec_graph.specs.Program.Run.{done, next}
-use Rattle.spec_graph.specs.Unfolding.Execution.{end, step}
-use Rattle.spec_graph.specs.Unfolding.ItemExecution.{perform}
 use Rattle.spec_graph.specs.Edge.{R, T}
 use Rattle.law_walk.specs.Reach.{danger_test}
 use Rattle.spec_report.specs.State.{summary_graph, Robust}
 use Rattle.law_report.specs.Reports.{robust_of}
 use Rattle.cases.specs.Computed.{all_pass}
 use Rattle.law_database.specs.Disturbs.{disturbs, ReadsAgain}
-use Rattle.law_database.specs.UndisturbedPrograms.{predicate_update_undisturbed_line, condition_lock_undisturbed_line}
 
 -- the value of these lines is given, and robust
-record Example (lines : List Line) : Type 0 where
-  given : Given (value_of lines)
-  robust : Robust (lines_of (value_of lines))
+pub record Example (lines : List Line) : Type 0 where
+  pub given : Given (value_of lines)
+  pub robust : Robust (lines_of (value_of lines))
 
 example : (lines : List Line) → Given (value_of lines) → danger_test (summary_graph lines) ≡ false → Example lines
 example lines given tested =
     record { given = given; robust = subst (λ (l : List Line). Robust l) (sym (lines_of_value lines)) (robust_of lines tested) }
 
 -- its lines, and its programs, are these
-line_of : (lines : List Line) (i : ℕ) {l : Line} → get_elem? lines i ≡ some l → Memᴰ l (lines_of (value_of lines))
+pub line_of : (lines : List Line) (i : ℕ) {l : Line} → get_elem? lines i ≡ some l → Memᴰ l (lines_of (value_of lines))
 line_of lines i {l} h = subst (λ (x : List Line). Memᴰ l x) (sym (lines_of_value lines)) (get_elem?_member lines i h)
 
-program_of_lem : (lines : List Line) (i : ℕ) {p : Program} → get_elem? (programs_of lines) i ≡ some p
+pub program_of_lem : (lines : List Line) (i : ℕ) {p : Program} → get_elem? (programs_of lines) i ≡ some p
     → Memᴰ p (programs_of (lines_of (value_of lines)))
 program_of_lem lines i {p} h =
     subst (λ (x : List Line). Memᴰ p (programs_of x)) (sym (lines_of_value lines)) (get_elem?_member (programs_of lines) i h)
 
 -- ---- law b: a pu beside an update of what it does not test
 
-abbrev updating : List Line
+abbrev pub updating : List Line
 updating = rl 0 3 ∷ pr 0 ∷ pu 0 0 1 2 1 ∷ pr 1 ∷ ku 0 0 0 2 ∷ []
 
-updating_robust : Example updating
+pub updating_robust : Example updating
 unfolding rereads all_pass
 updating_robust = example updating (value_given (written updating) refl) refl
 
--- the law says so
-updating_undisturbed : disturbs (statement_of Ku (ku 0 0 0 2)) (statement_of Pu (pu 0 0 1 2 1)) ≡ false
-unfolding all_pass
-updating_undisturbed =
-    predicate_update_undisturbed_line updating_robust.given updating_robust.robust
-    (pu 0 0 1 2 1) (line_of updating 2 refl) refl
-    (ku 0 0 0 2) (line_of updating 4 refl) Ku refl refl
-
 -- ---- law c: what a ps tests is read again by a kl; another program deletes, and a third updates what is not tested
 
-abbrev deleting : List Line
+abbrev pub deleting : List Line
 deleting = rl 0 3 ∷ pr 0 ∷ ps 0 0 0 2 ∷ kl 1 0 2 ∷ pr 1 ∷ kd 0 0 3 ∷ pr 2 ∷ ku 0 0 0 1 ∷ []
 
-deleting_robust : Example deleting
+pub deleting_robust : Example deleting
 unfolding rereads all_pass
 deleting_robust = example deleting (value_given (written deleting) refl) refl
 
@@ -75,20 +65,12 @@ unfolding all_pass
 delete_disturbs = refl
 
 -- the program that locks, and that its kl reads again what its ps tests
-abbrev locking : Program
+abbrev pub locking : Program
 locking = record { body = next (statement (statement_of Ps (ps 0 0 0 2))) (next (statement (statement_of Kl (kl 1 0 2))) done); links = [] }
 
-read_again : ReadsAgain (statement_of Ps (ps 0 0 0 2)) (statement_of Kl (kl 1 0 2))
+pub read_again : ReadsAgain (statement_of Ps (ps 0 0 0 2)) (statement_of Kl (kl 1 0 2))
 unfolding all_pass
 read_again = record { tests = refl; over = refl; reads = refl }
-
--- the law says that the update does not disturb it
-deleting_undisturbed : disturbs (statement_of Ku (ku 0 0 0 1)) (statement_of Ps (ps 0 0 0 2)) ≡ false
-unfolding all_pass
-deleting_undisturbed =
-    condition_lock_undisturbed_line deleting_robust.given deleting_robust.robust locking (program_of_lem deleting 0 refl)
-    (step perform (step perform end)) 0 1 refl refl (omega arith) read_again (inl refl)
-    (ku 0 0 0 1) (line_of deleting 7 refl) Ku refl refl refl
 
 -- ---- law c needs its premises
 

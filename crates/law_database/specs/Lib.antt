@@ -3,5 +3,4 @@ pub mod PlaceEdges
 pub mod Undisturbed
 pub mod Performed
 pub mod LinesPlaced
-pub mod UndisturbedPrograms
 pub mod Examples

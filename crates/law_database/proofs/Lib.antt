@@ -1,0 +1,3 @@
+pub mod ConditionLocks
+pub mod UndisturbedPrograms
+pub mod LawExamples
