@@ -81,5 +81,7 @@ pub extern "C" fn lent_verdict(
         × Lent work.old work.new × Lent forwards.old forwards.new
         × Lent backs.old backs.new }
 {
-    exports_lent::lent_verdict(text, state, lines, places, rows, work, forwards, backs, area)
+    exports_lent::lent_verdict(
+        text, state, lines, places, rows, work, forwards, backs, area,
+    )
 }

@@ -69,14 +69,30 @@ const k_____: u32 = 0b00_00_00_00_00;
 // Rows: the kind of the statement that an edge leaves. Columns: the kind of the statement that it enters.
 const LETTERS: [[u32; KINDS]; KINDS] = [
     // is      ks      ps      ku      pu      kd      pd      kl
-    [k_____, k_B___, k_bC__, kAb___, kAbC__, kA____, kA_C__, k_B___], // is
-    [k_____, k_____, k_____, k___d_, k___d_, k___D_, k___D_, k_____], // ks
-    [k____E, k_____, k_____, k___de, k___de, k___dE, k___dE, k_____], // ps
-    [k_____, k_b___, k_bc__, kab_d_, kabcd_, kA__d_, kA_cd_, k_b___], // ku
-    [k____E, k_b___, k_bc__, kab_de, kabcde, kA__dE, kA_cdE, k_b___], // pu
-    [k_____, k_____, k__C__, k_____, k__C__, k_____, k__C__, k_____], // kd
-    [k____E, k_____, k__C__, k____e, k__C_e, k____E, k__C_E, k_____], // pd
-    [k_____, k_____, k_____, k___d_, k___d_, k___D_, k___D_, k_____], // kl
+    [
+        k_____, k_B___, k_bC__, kAb___, kAbC__, kA____, kA_C__, k_B___,
+    ], // is
+    [
+        k_____, k_____, k_____, k___d_, k___d_, k___D_, k___D_, k_____,
+    ], // ks
+    [
+        k____E, k_____, k_____, k___de, k___de, k___dE, k___dE, k_____,
+    ], // ps
+    [
+        k_____, k_b___, k_bc__, kab_d_, kabcd_, kA__d_, kA_cd_, k_b___,
+    ], // ku
+    [
+        k____E, k_b___, k_bc__, kab_de, kabcde, kA__dE, kA_cdE, k_b___,
+    ], // pu
+    [
+        k_____, k_____, k__C__, k_____, k__C__, k_____, k__C__, k_____,
+    ], // kd
+    [
+        k____E, k_____, k__C__, k____e, k__C_e, k____E, k__C_E, k_____,
+    ], // pd
+    [
+        k_____, k_____, k_____, k___d_, k___d_, k___D_, k___D_, k_____,
+    ], // kl
 ];
 
 // The bit of a code that says of a letter that it is certain.

@@ -1,5 +1,6 @@
 // Reads one digit.
 #![tactic(auto)]
+
 ghost use Rattle.std.specs.Prelude.{◌≡◌};
 ghost use Rattle.text_number.specs.Digits.{hexadecimal};
 
