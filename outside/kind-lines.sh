@@ -14,10 +14,9 @@ esac
 [ -r "$file" ] && [ -f "$file" ] || { echo "kind-lines: cannot read $file" >&2; exit 1; }
 LC_ALL=C exec awk -v way="$way" '
     function by_name(code,   k, c, out) {
-        sub(/^k/, "", code)
         for (k = 1; k <= length(code); k++) {
             c = substr(code, k, 1)
-            out = out " " (c == "_" ? 0 : c == substr("ABCDE", k, 1) ? 1 : c == substr("abcde", k, 1) ? 2 : "?")
+            out = out " " (c == "_" || c == "o" ? 0 : c == substr("ABCDE", k, 1) ? 1 : c == substr("abcde", k, 1) ? 2 : "?")
         }
         return out
     }

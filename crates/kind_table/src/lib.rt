@@ -12,87 +12,71 @@ use spec_text::StatementKind;
 pub const KINDS: usize = 8;
 
 // A code tells of each of the letters A to E whether it can hold between two statements over one relation, whatever sets the rules allow them:
-// two bits to each letter, A's first; 00 impossible, 01 certain, 10 hanging on a meeting of its two sets. The same stands in its name behind a k, a place to
-// each letter: `_` impossible, a capital certain, a small letter hanging.
-const kabcde: u32 = 0b10_10_10_10_10;
+// two bits to each letter, A's first; 00 impossible, 01 certain, 10 hanging on a meeting of its two sets. The same stands in its name, a place to
+// each letter: `o` impossible, a capital certain, a small letter hanging.
+const abcde: u32 = 0b10_10_10_10_10;
 
-const kabcd_: u32 = 0b10_10_10_10_00;
+const abcdo: u32 = 0b10_10_10_10_00;
 
-const kab_de: u32 = 0b10_10_00_10_10;
+const abode: u32 = 0b10_10_00_10_10;
 
-const kab_d_: u32 = 0b10_10_00_10_00;
+const abodo: u32 = 0b10_10_00_10_00;
 
-const kAbC__: u32 = 0b01_10_01_00_00;
+const AbCoo: u32 = 0b01_10_01_00_00;
 
-const kAb___: u32 = 0b01_10_00_00_00;
+const Abooo: u32 = 0b01_10_00_00_00;
 
-const kA_cdE: u32 = 0b01_00_10_10_01;
+const AocdE: u32 = 0b01_00_10_10_01;
 
-const kA_cd_: u32 = 0b01_00_10_10_00;
+const Aocdo: u32 = 0b01_00_10_10_00;
 
-const kA_C__: u32 = 0b01_00_01_00_00;
+const AoCoo: u32 = 0b01_00_01_00_00;
 
-const kA__dE: u32 = 0b01_00_00_10_01;
+const AoodE: u32 = 0b01_00_00_10_01;
 
-const kA__d_: u32 = 0b01_00_00_10_00;
+const Aoodo: u32 = 0b01_00_00_10_00;
 
-const kA____: u32 = 0b01_00_00_00_00;
+const Aoooo: u32 = 0b01_00_00_00_00;
 
-const k_bc__: u32 = 0b00_10_10_00_00;
+const obcoo: u32 = 0b00_10_10_00_00;
 
-const k_bC__: u32 = 0b00_10_01_00_00;
+const obCoo: u32 = 0b00_10_01_00_00;
 
-const k_b___: u32 = 0b00_10_00_00_00;
+const obooo: u32 = 0b00_10_00_00_00;
 
-const k_B___: u32 = 0b00_01_00_00_00;
+const oBooo: u32 = 0b00_01_00_00_00;
 
-const k__C_e: u32 = 0b00_00_01_00_10;
+const ooCoe: u32 = 0b00_00_01_00_10;
 
-const k__C_E: u32 = 0b00_00_01_00_01;
+const ooCoE: u32 = 0b00_00_01_00_01;
 
-const k__C__: u32 = 0b00_00_01_00_00;
+const ooCoo: u32 = 0b00_00_01_00_00;
 
-const k___de: u32 = 0b00_00_00_10_10;
+const ooode: u32 = 0b00_00_00_10_10;
 
-const k___dE: u32 = 0b00_00_00_10_01;
+const ooodE: u32 = 0b00_00_00_10_01;
 
-const k___d_: u32 = 0b00_00_00_10_00;
+const ooodo: u32 = 0b00_00_00_10_00;
 
-const k___D_: u32 = 0b00_00_00_01_00;
+const oooDo: u32 = 0b00_00_00_01_00;
 
-const k____e: u32 = 0b00_00_00_00_10;
+const ooooe: u32 = 0b00_00_00_00_10;
 
-const k____E: u32 = 0b00_00_00_00_01;
+const ooooE: u32 = 0b00_00_00_00_01;
 
-const k_____: u32 = 0b00_00_00_00_00;
+const ooooo: u32 = 0b00_00_00_00_00;
 
 // Rows: the kind of the statement that an edge leaves. Columns: the kind of the statement that it enters.
 const LETTERS: [[u32; KINDS]; KINDS] = [
-    // is      ks      ps      ku      pu      kd      pd      kl
-    [
-        k_____, k_B___, k_bC__, kAb___, kAbC__, kA____, kA_C__, k_B___,
-    ], // is
-    [
-        k_____, k_____, k_____, k___d_, k___d_, k___D_, k___D_, k_____,
-    ], // ks
-    [
-        k____E, k_____, k_____, k___de, k___de, k___dE, k___dE, k_____,
-    ], // ps
-    [
-        k_____, k_b___, k_bc__, kab_d_, kabcd_, kA__d_, kA_cd_, k_b___,
-    ], // ku
-    [
-        k____E, k_b___, k_bc__, kab_de, kabcde, kA__dE, kA_cdE, k_b___,
-    ], // pu
-    [
-        k_____, k_____, k__C__, k_____, k__C__, k_____, k__C__, k_____,
-    ], // kd
-    [
-        k____E, k_____, k__C__, k____e, k__C_e, k____E, k__C_E, k_____,
-    ], // pd
-    [
-        k_____, k_____, k_____, k___d_, k___d_, k___D_, k___D_, k_____,
-    ], // kl
+    // is     ks     ps     ku     pu     kd     pd     kl
+    [ooooo, oBooo, obCoo, Abooo, AbCoo, Aoooo, AoCoo, oBooo], // is
+    [ooooo, ooooo, ooooo, ooodo, ooodo, oooDo, oooDo, ooooo], // ks
+    [ooooE, ooooo, ooooo, ooode, ooode, ooodE, ooodE, ooooo], // ps
+    [ooooo, obooo, obcoo, abodo, abcdo, Aoodo, Aocdo, obooo], // ku
+    [ooooE, obooo, obcoo, abode, abcde, AoodE, AocdE, obooo], // pu
+    [ooooo, ooooo, ooCoo, ooooo, ooCoo, ooooo, ooCoo, ooooo], // kd
+    [ooooE, ooooo, ooCoo, ooooe, ooCoe, ooooE, ooCoE, ooooo], // pd
+    [ooooo, ooooo, ooooo, ooodo, ooodo, oooDo, oooDo, ooooo], // kl
 ];
 
 // The bit of a code that says of a letter that it is certain.

@@ -13,7 +13,7 @@ Moved n (negsuc k) = k ≡ 0
 abbrev pub nothing_read : Received
 nothing_read = record { count = 0; last = pos 0; room = 0 }
 
--- one read that was lent room for n bytes: whatever C's read may answer, and as many bytes as that says, none where it failed
+-- one read that was lent room for n bytes: whatever a read may answer, and as many bytes as that says, none where it failed
 pub record Brought (n : ℕ) (one : Once) : Type 0 where
   pub moved : Moved n one.answer
   pub counts : one.count ≡ clamp_len one.answer n
@@ -22,7 +22,7 @@ pub record Brought (n : ℕ) (one : Once) : Type 0 where
 abbrev pub read_once : Received → ℕ → ℤ → Received
 read_once t size answer = record { count = t.count + clamp_len answer (size - t.count); last = answer; room = size - t.count }
 
--- one read more, of whatever answer C's read may give; it leaves the bytes that were there. No read where the area has no room left.
+-- one read more, of whatever answer a read may give; it leaves the bytes that were there. No read where the area has no room left.
 pub record ReadMore (t : Received) (before after : List ℕ) (r : Received) : Type 0 where
   pub read : r ≡ cond (ltb t.count (length before)) (read_once t (length before) r.last) t
   pub answer : t.count < length before → Moved (length before - t.count) r.last

@@ -19,7 +19,7 @@ pub enum Input {
 
 // Reads into an area until the input ends, the area is full or a read fails, and tells these three apart: a text that is cut off at
 // a line's end is a text too. A read that brings fewer bytes than it was lent room for is none of the three. What the area holds is the
-// system's choice: C's contract leaves every byte that it is lent free, so no promise on them could tell this function from a wrong one.
+// system's choice: reading's contract leaves every byte that it is lent free, so no promise on them could tell this function from a wrong one.
 pub fn read_input(stdin: Stdin, area: &mut [u8]) -> Input
     ensures { Ends (length area.new) result }
 {

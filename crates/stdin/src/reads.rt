@@ -1,6 +1,6 @@
 // The reads of standard input. The fields of Received are private to this module, so that no other code can make up a read: an answer
-// that a Received holds was put there by `more`, right after C's read gave it. That it is C's answer, and which bytes came, stands in
-// these lines alone and is tested (outside/): the contract of C's read ties neither to the input. A Received names no area: that all
+// that a Received holds was put there by `more`, right after std's read gave it. That it is the system's answer, and which bytes came, stands in
+// these lines alone and is tested (outside/): the contract of std's read ties neither to the input. A Received names no area: that all
 // its reads went into one stands in `read_input`.
 ghost use Rattle.std.specs.Prelude.{◌≡◌, length};
 ghost use Rattle.stdin.specs.Reads.{nothing_read, Brought, ReadMore};

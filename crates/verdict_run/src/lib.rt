@@ -2,8 +2,8 @@
 // calls this and nothing else; `inspect` calls it for the gate to run it on more texts.
 //
 // Proved: `show` is called only with a report of the text that was read, and never where a read failed. Seen in these lines and tested
-// (outside/), since C's contracts tie no bytes to a descriptor: that `show` alone writes to standard output, that nothing here changes the
-// area after it was read, which bytes C's read puts there, that its answers are the system's, and what becomes of what C's write is handed.
+// (outside/), since std's contracts tie no bytes to a stream: that `show` alone writes to standard output, that nothing here changes the
+// area after it was read, which bytes a read puts there, that its answers are the system's, and what becomes of what a write is handed.
 #![tactic(auto)]
 
 ghost use Rattle.std.specs.Prelude.{◌≡◌, ◌<◌, length};
