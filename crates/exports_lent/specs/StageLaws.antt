@@ -115,13 +115,13 @@ module _ (text : List ℕ) {before : List ℕ} {v : TextVerdict} {after : List �
           let same_line : l ≡ line = cc in
           subst (VerdictStage (given text) before r) (sym kept)
           (verdict_refused text (is_read ∙ ap₂ refused same_number same_line) word)
-      go (TextJudged.judged lines is_read u is judged) = let z : ◌≡◌ {A = ℕ} 0 1 = cc in absurd (omega arith)
+      go (TextJudged.judged lines is_read u is said) = let z : ◌≡◌ {A = ℕ} 0 1 = cc in absurd (omega arith)
 
   pub stage_judged : {u : Verdict} → v ≡ TextVerdict.Judged u → r ≡ verdict_word (told_by u) → VerdictStage (given text) before r after
   stage_judged {u} e word = go answered
     where
       go : TextJudged (read text) before v after → VerdictStage (given text) before r after
       go (TextJudged.unread m l is_read is kept) = let z : ◌≡◌ {A = ℕ} 0 1 = cc in absurd (omega arith)
-      go (TextJudged.judged lines is_read x is judged) =
+      go (TextJudged.judged lines is_read x is said) =
           let same : u ≡ x = cc in
-          verdict_goes_on text is_read (record { told = told_by x; settled = judged; word = word ∙ ap (λ (y : Verdict). verdict_word (told_by y)) same })
+          verdict_goes_on text is_read (record { told = told_by x; settled = said; word = word ∙ ap (λ (y : Verdict). verdict_word (told_by y)) same })

@@ -29,8 +29,8 @@ use Rattle.line_rules.specs.TestLaws.{check_kept, state_fault_none}
 -- ---- one line more
 
 -- what is shown of a line: the code's value keeps what is needed of the lines with it, and they are still good
-abbrev Kept_on : State → Before → Line → Type 0
-Kept_on s b l = Keeps s (state_after b l) × Good (state_after b l)
+abbrev KeptOn : State → Before → Line → Type 0
+KeptOn s b l = Keeps s (state_after b l) × Good (state_after b l)
 
 -- the statements with no line of theirs more
 statements_same : {x : Statements} {ls : List Line} {around : List (List Block)} → StatementsHold x ls around
@@ -183,7 +183,7 @@ own_line : (s : State) (b : Before) (l : Line) (body links : ℕ) (k : Stack) (x
     → is_relation l ≡ false → is_key l ≡ false → is_program l ≡ false
     → not (eqb b.programs 0) ≡ true → state_bounded (state_after b l) ≡ true
     → (state_bounded (after b l (own_after b.own l)) ≡ true → OwnLine b (own_after b.own l) body links k x)
-    → Kept_on (record {
+    → KeptOn (record {
       lines = next_of s.lines;
       programs = s.programs;
       body = body;
@@ -241,7 +241,7 @@ record BodyLine (o : Own) (k : Stack) (x : Statements) : Type 0 where
 body_line : (s : State) (b : Before) (l : Line) (k : Stack) (x : Statements) → Keeps s b → Good b → sort l.kind ≡ 3
     → state_in_body b ≡ true → state_bounded (state_after b l) ≡ true
     → (Fits (after b l (own_after b.own l)) → BodyLine (own_after b.own l) k x)
-    → Kept_on (record {
+    → KeptOn (record {
       lines = next_of s.lines;
       programs = s.programs;
       body = next_of s.body;
@@ -279,7 +279,7 @@ flow_line : (s : State) (b : Before) (l : Line) (k : Stack) → Keeps s b → Go
     → (Fits (after b l (own_after b.own l))
     → StackHolds k (blocks_after l.kind b.own.place b.own.open_blocks)
     × (fitting (blocks_after l.kind b.own.place b.own.open_blocks) ≡ true))
-    → Kept_on (taken_flow s k) b l
+    → KeptOn (taken_flow s k) b l
 unfolding own_after
 flow_line s b l k kept g e other in_Body h f =
     body_line s b l k s.statements kept g e in_Body h
@@ -313,7 +313,7 @@ table_line_lem : (s : State) (b : Before) (l : Line) (t : Tables) → Keeps s b 
     ≡ length b.relations + length b.keys + 1
     → (Fits (after b l b.own) → TablesHold t (b.relations ++ keep is_relation (l ∷ [])) (b.keys ++ keep is_key (l ∷ [])))
     → state_bounded (state_after b l) ≡ true
-    → Kept_on (record {
+    → KeptOn (record {
       lines = next_of s.lines;
       programs = s.programs;
       body = s.body;
@@ -352,7 +352,7 @@ table_line_lem s b l t k g other none_yet one_more tables h =
 
 -- a program begins
 program_line_lem : (s : State) (b : Before) (l : Line) → Keeps s b → Good b → sort l.kind ≡ 2 → state_bounded (state_after b l) ≡ true
-    → Kept_on (taken_program s) b l
+    → KeptOn (taken_program s) b l
 unfolding is_relation is_key is_program own_after_any empty_own fitting
 program_line_lem s b l k g e h =
     let n = numbers_of k in
@@ -412,7 +412,7 @@ step_kept s b k g l = go (numbers_of k) (good_bounds b g.bounds) l.kind (lengths
 
     go : Numbers s b → Fits b → (kind : LineKind) → Lengths b (of_kind kind l) → state_bounded (state_after b (of_kind kind l)) ≡ true
         → state_ordered b (of_kind kind l) ≡ true
-        → Kept_on (take_as s (of_kind kind l) kind) b (of_kind kind l)
+        → KeptOn (take_as s (of_kind kind l) kind) b (of_kind kind l)
     go n w Rl f h e =
         let all_relations = eqb-true b.lines (length b.relations) e in
         let counted = g.counted in

@@ -45,7 +45,7 @@ row_shared D p q = bit_and p.reads q.writes
 row_shared E p q = bit_and p.tests q.writes
 
 -- EA to EE over rows, by the chances of their kinds (Req 04): what is impossible does not hold and what is certain holds, whatever sets a row has;
--- what hangs on sets holds where those of the rows meet. Between the rows of places whose sets the rules allow this is their rule (`Holds-rows`); a
+-- what hangs on sets holds where those of the rows meet. Between the rows of places whose sets the rules allow this is their rule (`holds_rows`); a
 -- table with other rows is judged by it all the same.
 unfoldable pub row_holds : Letter → Row → Row → Bool
 row_holds letter p q = told (chance_of letter p.kind q.kind) (not (eqb (row_shared letter p q) 0))

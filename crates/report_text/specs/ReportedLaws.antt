@@ -102,7 +102,7 @@ module _ (text : List ℕ) {before : List ℕ} {told : TextVerdict} {after : Lis
           let same_number : m ≡ number = cc in
           let same_line : l ≡ line = cc in
           reported_as (refusal number line (is_read ∙ ap₂ refused same_number same_line)) printed
-      go (judged_text lines is_read v is judged) = let z : ◌≡◌ {A = ℕ} 0 1 = cc in absurd (omega arith)
+      go (judged_text lines is_read v is said) = let z : ◌≡◌ {A = ℕ} 0 1 = cc in absurd (omega arith)
 
   -- P1, P2, P3: with an area of 65 steps the verdict
   pub reported_judged : {v : Verdict} → told ≡ TextVerdict.Judged v → length before ≡ 260 → r ≡ printed_as (bytes_for (told_by v) after)
@@ -111,11 +111,11 @@ module _ (text : List ℕ) {before : List ℕ} {told : TextVerdict} {after : Lis
     where
       go : TextJudged (read text) before told after → Reported text r
       go (not_read_lem m l is_read is kept) = let z : ◌≡◌ {A = ℕ} 0 1 = cc in absurd (omega arith)
-      go (judged_text lines is_read u is judged) =
+      go (judged_text lines is_read u is said) =
           let same : u ≡ v = cc in
           reported_as
           (judged_reported text (is_read ∙ ap accepted (sym (lines_of_value lines))) (value_given text is_read) before long
-          (subst (λ (x : Verdict). Judged (value_of lines) before (told_by x) after) same judged))
+          (subst (λ (x : Verdict). Judged (value_of lines) before (told_by x) after) same said))
           printed
 
 -- ---- nothing is free

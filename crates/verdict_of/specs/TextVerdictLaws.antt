@@ -64,13 +64,13 @@ module _ (text : List ℕ) {rows₀ : List ℕ} {t : TextRows} {rows : List ℕ}
   pub text_unread : (t.number ≡ 22 → ⊥) → (t.number ≡ 0 → ⊥) → (before : List ℕ)
       → TextJudged (read text) before (TextVerdict.Unread t.number t.line) before
   unfolding no_rows rows_told
-  text_unread other Some_number before = go rows_told_lem
+  text_unread other some_number before = go rows_told_lem
     where
       go : TextPlaced (read text) rows₀ t rows → TextJudged (read text) before (TextVerdict.Unread t.number t.line) before
       go (not_read_lem m line is_read r same) =
           unread m line is_read (ap₂ TextVerdict.Unread (ap number_of r) (ap (λ (x : TextRows). x.line) r)) refl
       go (large lines is_read many r same) = absurd (other (ap number_of r))
-      go (placed lines is_read few r same) = absurd (Some_number (ap number_of r))
+      go (placed lines is_read few r same) = absurd (some_number (ap number_of r))
 
   module _ (none_told : t.number ≡ 0) where
     -- the rows are those of a given workload

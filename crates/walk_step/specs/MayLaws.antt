@@ -18,17 +18,17 @@ whole_inside [] y h = absurd (omega arith)
 whole_inside (x ∷ needs) zero h = refl
 whole_inside (x ∷ needs) (suc y) h = whole_inside needs y (omega arith)
 
-SameAt : (n y : ℕ) → y < n → ◌≡◌ {A = ℕ} 1025 (get_or (replicate n 1025) y 0)
-SameAt zero y h = absurd (omega arith)
-SameAt (suc n) zero h = refl
-SameAt (suc n) (suc y) h = SameAt n y (omega arith)
+same_at : (n y : ℕ) → y < n → ◌≡◌ {A = ℕ} 1025 (get_or (replicate n 1025) y 0)
+same_at zero y h = absurd (omega arith)
+same_at (suc n) zero h = refl
+same_at (suc n) (suc y) h = same_at n y (omega arith)
 
 pub whole_past : (needs : List ℕ) (y : ℕ) → length needs ≤ y → y < 64 → 1025 ≡ get_or (whole_needs needs) y 0
 unfolding whole_needs
 whole_past needs y h l = go needs y h (omega arith)
   where
     go : (list : List ℕ) (k : ℕ) → length list ≤ k → k < length list + 64 → 1025 ≡ get_or (list ++ replicate 64 1025) k 0
-    go [] k a b = SameAt 64 k (omega arith)
+    go [] k a b = same_at 64 k (omega arith)
     go (x ∷ list) zero a b = absurd (omega arith)
     go (x ∷ list) (suc k) a b = go list k (omega arith) (omega arith)
 
