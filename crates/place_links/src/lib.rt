@@ -15,6 +15,7 @@ pub struct Links {
 }
 
 // The links of the program whose lines begin at `first`: its statements and flow stand before them, and they stand before the next `pr`.
+#[tactic(auto, using(crate::proofs::LinkLaws::links_link, crate::proofs::LinkLaws::links_next))]
 pub fn links_from(lines: &[u64], first: usize) -> Links
     ensures { result ≡ links_in lines.now first }
 {

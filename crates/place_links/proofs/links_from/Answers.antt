@@ -17,18 +17,5 @@ returns-then-kind-eq-PR c =
     let code = c in
     links_program _ _ _ _ code.loop-i-test.true _ code.word_at-kind.ensures c.if-kind-eq-PR.true ∙ code.loop-i.invariant
 
-pub returns-then-kind-eq-LI : goal.returns-then-kind-eq-LI
-returns-then-kind-eq-LI c =
-    let code = c in
-    links_link _ _ _ _ code.loop-i-test.true _ code.word_at-kind.ensures c.if-kind-eq-LI.true ∙ code.loop-i.invariant
-
-pub loop-i-preserved : goal.loop-i-preserved
-loop-i-preserved c =
-    let link = c in
-    let code = link in
-    let inside = code.loop-i-test.true in
-    links_next _ _ _ _ inside _ code.word_at-kind.ensures link.if-kind-eq-PR.false link.if-kind-eq-LI.false _ c.word_at-marks.ensures
-    ∙ code.loop-i.invariant
-
 pub returns : goal.returns
 returns c = links_end _ _ _ _ c.loop-i-test.false ∙ c.loop-i.invariant
