@@ -50,7 +50,8 @@ echo "kit 1" >"$room/kit"
 echo 0 >"$room/slow"
 : >"$room/calls"
 PATH=$bin:$PATH
-export PATH
+XDG_CACHE_HOME=$room/cache
+export PATH XDG_CACHE_HOME
 
 word() { printf 'printf "verdict programs nodes edges back\\n%s 0 0 0 0\\n"\n' "$1" >"$source"; }
 
@@ -130,7 +131,7 @@ echo "kit 2" >"$room/kit"
 run "$repo/judge" text; want "another toolchain" 0 robust 3
 echo "// base, changed" >"$repo/crates/spec_base/src/lib.rt"
 run "$repo/judge" text; want "another crate changed" 0 robust 4
-rm "$repo/target/judge/work/crates/verdict/out/verdict"
+rm "$room"/cache/gunthoey/*/crates/verdict/out/verdict
 run "$repo/judge" text; want "the build's own program removed" 0 robust 4
 # what another rt leaves in the repository's own folders is never asked
 mkdir -p "$repo/crates/verdict/out"
