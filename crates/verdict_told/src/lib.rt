@@ -6,10 +6,10 @@ ghost use Rattle.spec_report.specs.State.{counted};
 ghost use Rattle.verdict_told.specs.Told.{told};
 ghost use Rattle.verdict_told.specs.Found.{told_for};
 
-use pick_laws::WalkFound;
+use refusal::Fault;
 
 // What a verdict counts: programs, nodes, edges of both flows, and the back edges among them.
-#[derive(Clone, Copy)]
+#[derive(Clone, Copy, Debug, PartialEq, Eq)]
 pub struct Totals {
     pub programs: u64,
     pub nodes: u64,
@@ -17,27 +17,32 @@ pub struct Totals {
     pub back: u64,
 }
 
-// The answer: a word with its counts, and for danger how many steps the shown walk has; or the number of a refusal.
-#[derive(Clone, Copy)]
+// The word with its counts, and for danger how many steps the shown walk has. A refusal is the error beside it.
+#[derive(Clone, Copy, Debug, PartialEq, Eq)]
 pub enum Verdict {
     Robust(Totals),
     Danger(Totals, u64),
-    Refused(u8),
 }
 
-// The answer for what the search for a walk found.
-pub fn judged(programs: u64, nodes: u64, edges: u64, back: u64, found: WalkFound) -> Verdict
+// The answer for what the search for a walk found: a walk of so many steps, or none; or why there was no search.
+#[tactic(auto, unfolding(crate::specs::Found::told_for))]
+pub fn judged(
+    programs: u64,
+    nodes: u64,
+    edges: u64,
+    back: u64,
+    found: Result<Option<usize>, Fault>,
+) -> Result<Verdict, Fault>
     ensures { told result ≡ told_for (counted programs nodes edges back) found }
 {
     let counts = Totals {
-        programs: programs,
-        nodes: nodes,
-        edges: edges,
-        back: back,
+        programs,
+        nodes,
+        edges,
+        back,
     };
-    match found {
-        WalkFound::NoRoom => Verdict::Refused(20),
-        WalkFound::NoWalk => Verdict::Robust(counts),
-        WalkFound::Shown(steps) => Verdict::Danger(counts, steps as u64),
-    }
+    Ok(match found? {
+        None => Verdict::Robust(counts),
+        Some(steps) => Verdict::Danger(counts, steps as u64),
+    })
 }
