@@ -6,7 +6,7 @@ ghost use Rattle.spec_report.specs.State.{counted};
 ghost use Rattle.verdict_told.specs.Told.{told};
 ghost use Rattle.verdict_told.specs.Found.{told_for};
 
-use pick_laws::WalkFound;
+use refusal::Fault;
 
 // What a verdict counts: programs, nodes, edges of both flows, and the back edges among them.
 #[derive(Clone, Copy)]
@@ -26,7 +26,14 @@ pub enum Verdict {
 }
 
 // The answer for what the search for a walk found.
-pub fn judged(programs: u64, nodes: u64, edges: u64, back: u64, found: WalkFound) -> Verdict
+#[tactic(auto, unfolding(crate::specs::Found::told_for))]
+pub fn judged(
+    programs: u64,
+    nodes: u64,
+    edges: u64,
+    back: u64,
+    found: Result<Option<usize>, Fault>,
+) -> Verdict
     ensures { told result ≡ told_for (counted programs nodes edges back) found }
 {
     let counts = Totals {
@@ -36,8 +43,8 @@ pub fn judged(programs: u64, nodes: u64, edges: u64, back: u64, found: WalkFound
         back: back,
     };
     match found {
-        WalkFound::NoRoom => Verdict::Refused(20),
-        WalkFound::NoWalk => Verdict::Robust(counts),
-        WalkFound::Shown(steps) => Verdict::Danger(counts, steps as u64),
+        Err(fault) => Verdict::Refused(fault.number()),
+        Ok(None) => Verdict::Robust(counts),
+        Ok(Some(steps)) => Verdict::Danger(counts, steps as u64),
     }
 }
