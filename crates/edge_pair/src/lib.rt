@@ -35,48 +35,53 @@ pub struct Entered {
     pub far: u64,
 }
 
-// Words of kinds, a bit each in the order of their numbers: the updates; the kinds that read; those that have tests; those whose writes letters ask
-// for where they are entered; those that make or take away rows, and those that take away; the selects.
-const UPDATES: u64 = 24;
+// The bit of each kind in a word of kinds: they stand in the order of their numbers.
+const IS: u64 = 1 << (StatementKind::Is as u64);
 
-const READERS: u64 = 158;
+const KS: u64 = 1 << (StatementKind::Ks as u64);
 
-const TESTERS: u64 = 84;
+const PS: u64 = 1 << (StatementKind::Ps as u64);
 
-const WRITERS: u64 = 120;
+const KU: u64 = 1 << (StatementKind::Ku as u64);
 
-const EXISTENCE: u64 = 97;
+const PU: u64 = 1 << (StatementKind::Pu as u64);
 
-const DELETES: u64 = 96;
+const KD: u64 = 1 << (StatementKind::Kd as u64);
 
-const KEY_SELECT: u64 = 2;
+const PD: u64 = 1 << (StatementKind::Pd as u64);
 
-const SELECTS: u64 = 6;
+const KL: u64 = 1 << (StatementKind::Kl as u64);
+
+// Words of kinds: the updates; the kinds that read; those that have tests; those whose writes letters ask for where they are entered; those that make
+// or take away rows, and those that take away; the selects.
+const UPDATES: u64 = KU | PU;
+
+const READERS: u64 = KS | PS | KU | PU | KL;
+
+const TESTERS: u64 = PS | PU | PD;
+
+const WRITERS: u64 = KU | PU | KD | PD;
+
+const EXISTENCE: u64 = IS | DELETES;
+
+const DELETES: u64 = KD | PD;
+
+const KEY_SELECT: u64 = KS;
+
+const SELECTS: u64 = KS | PS;
 
 // A word that a row gives if its kind is among these, else 0.
 fn among(kinds: u64, bit: u64, x: u64) -> u64
     ensures { result ≡ cond (meets kinds bit) x 0 }
 {
-    if kinds & bit != 0 {
-        return x;
-    }
-    0
+    if kinds & bit != 0 { x } else { 0 }
 }
 
 // The bit of a kind.
 fn kind_bit(k: StatementKind) -> u64
     ensures { result ≡ kind_bit k }
 {
-    match k {
-        StatementKind::Is => 1,
-        StatementKind::Ks => 2,
-        StatementKind::Ps => 4,
-        StatementKind::Ku => 8,
-        StatementKind::Pu => 16,
-        StatementKind::Kd => 32,
-        StatementKind::Pd => 64,
-        StatementKind::Kl => 128,
-    }
+    1 << (k as u64)
 }
 
 // The kinds that an edge certainly enters from this one, over one relation.
@@ -84,24 +89,21 @@ fn sure_of(k: StatementKind) -> u64
     ensures { result ≡ sure_of k }
 {
     match k {
-        StatementKind::Is => 254,
-        StatementKind::Ks => 96,
-        StatementKind::Ps => 97,
-        StatementKind::Ku => 96,
-        StatementKind::Pu => 97,
-        StatementKind::Kd => 84,
-        StatementKind::Pd => 117,
-        StatementKind::Kl => 96,
+        StatementKind::Is => READERS | WRITERS,
+        StatementKind::Ks | StatementKind::Ku | StatementKind::Kl => DELETES,
+        StatementKind::Ps | StatementKind::Pu => EXISTENCE,
+        StatementKind::Kd => TESTERS,
+        StatementKind::Pd => TESTERS | EXISTENCE,
     }
 }
 
 // The words of a row as one that is left.
+#[tactic(auto, unfolding(crate::specs::PairWords::left_of))]
 pub fn left_words(p: Row) -> Left
     ensures { result ≡ left_of p }
 {
-    let k = p.kind;
-    let bit = kind_bit(k);
-    let sure = sure_of(k);
+    let bit = kind_bit(p.kind);
+    let sure = sure_of(p.kind);
     let updates = among(UPDATES, bit, p.writes);
     let phantoms = among(TESTERS, bit, p.tests);
     Left {
@@ -117,11 +119,11 @@ pub fn left_words(p: Row) -> Left
 }
 
 // The words of a row as one that is entered.
+#[tactic(auto, unfolding(crate::specs::PairWords::entered_of))]
 pub fn entered_words(q: Row) -> Entered
     ensures { result ≡ entered_of q }
 {
-    let k = q.kind;
-    let bit = kind_bit(k);
+    let bit = kind_bit(q.kind);
     Entered {
         bit,
         writes: among(WRITERS, bit, q.writes),

@@ -13,14 +13,6 @@ pub struct Pick {
     pub loose: bool,
 }
 
-// What the search for a walk answers: the area is too short for 65 steps, there is no walk, or one of so many steps is shown.
-#[derive(Clone, Copy)]
-pub enum WalkFound {
-    NoRoom,
-    NoWalk,
-    Shown(usize),
-}
-
 // How far the search for the first walk has come: no step is taken yet; the last step is forward and is dangerous with back steps that leave at a
 // place below a number; the dangerous pair is there; or the walk began with a back step that left a place.
 #[derive(Clone, Copy)]

@@ -1,5 +1,6 @@
 -- From what the parts promise to what the verdict promises.
 use Rattle.std.specs.Prelude.{false, List, ◌≡◌, refl, ℕ, ◌*◌, ◌/◌, ◌≤◌, ltb, length, take}
+use Rattle.std.specs.Prelude.{Result, Ok, Err, Option as Optional, Some, None}
 use Rattle.std.proofs.Math.Option.{Option, none, some}
 use Rattle.std.proofs.Common.{sym, ap, subst, ◌∙◌, arith, take_all, length-take-le, ltb-false}
 use Rattle.law_base.specs.BoolLaws.{or_false}
@@ -18,7 +19,7 @@ use Rattle.spec_report.specs.State.StateRefusal.{not_given, too_many, too_short,
 use Rattle.spec_report.specs.Refusals.{not_both, taken_given}
 use Rattle.spec_report.specs.ReportLaws.{refused_once}
 use Rattle.spec_report.specs.Area.{shown_in}
-use Rattle.pick_laws.specs.declared.WalkFound.{WalkFound}
+use Rattle.refusal.specs.declared.Fault.{Fault}
 use Rattle.walk_first.specs.FirstSteps.{Held, refusal_in, steps_in, WalkAnswered}
 use Rattle.walk_first.specs.FirstSteps.WalkAnswered.{no_room, no_walk, shown}
 use Rattle.place_table.specs.declared.Rows.{Rows}
@@ -43,11 +44,11 @@ answer_for c (some number) steps = Told.refused number
 answer_for c none none = Told.robust c
 answer_for c none (some steps) = Told.danger c steps
 
-answer_same : (c : Counts) (found : WalkFound) → told_for c found ≡ answer_for c (refusal_in found) (steps_in found)
+answer_same : (c : Counts) (found : Result (Optional ℕ) Fault) → told_for c found ≡ answer_for c (refusal_in found) (steps_in found)
 unfolding told_for answer_for
-answer_same c WalkFound.NoRoom = refl
-answer_same c WalkFound.NoWalk = refl
-answer_same c (WalkFound.Shown steps) = refl
+answer_same c (Err fault) = refl
+answer_same c (Ok None) = refl
+answer_same c (Ok (Some steps)) = refl
 
 -- ---- the verdict
 
@@ -105,7 +106,7 @@ nodes_few {w} h =
 
 -- what is picked from the rows, and the walk that is found in it, are the verdict
 pub judged_picked : (programs nodes : ℕ) (rows forwards₀ backs₀ : List ℕ) {forwards backs : List ℕ} {c : Edges} {before after : List ℕ}
-    (found : WalkFound) {answer : Told}
+    (found : Result (Optional ℕ) Fault) {answer : Told}
     → length forwards₀ ≡ nodes * 64 → length backs₀ ≡ nodes * 64 → PickedAs rows forwards₀ backs₀ forwards backs c
     → WalkAnswered rows forwards backs 18446744073709551615 before (refusal_in found) (steps_in found) after
     → answer ≡ told_for (counted programs nodes c.edges c.back) found → RowsJudged rows programs nodes before answer after

@@ -58,7 +58,8 @@ put_after_front (s ∷ steps) front rest k h l = go rest l (λ r. put_after_fron
 
     go : (r : List ℕ) → suc (length steps) * 4 ≤ length r
         → ((q : List ℕ) → length steps * 4 ≤ length q
-        → put_steps ((front ++ step_words s) ++ q) (suc k) steps ≡ (front ++ step_words s) ++ (flat_map step_words steps ++ drop (length steps * 4) q))
+        → put_steps ((front ++ step_words s) ++ q) (suc k) steps
+        ≡ (front ++ step_words s) ++ (flat_map step_words steps ++ drop (length steps * 4) q))
         → put_steps (put_step (front ++ r) k s) (suc k) steps
         ≡ front ++ ((step_words s ++ flat_map step_words steps) ++ drop (suc (length steps) * 4) r)
     go [] i f = let z : ⊥ = omega arith in absurd z
@@ -107,7 +108,8 @@ module _ (table forwards backs : List ℕ) (nodes : ℕ) (before : List ℕ) whe
   b = chosen_edges backs nodes
 
   -- the walk is the first of each graph whose edges the tables hold, among the nodes
-  first_held : return_in f b < 64 → (g : Graph) → Held table forwards backs g → FirstWalk (only (has nodes) g) (walk_of table f b nodes (return_in f b))
+  first_held : return_in f b < 64 → (g : Graph) → Held table forwards backs g
+      → FirstWalk (only (has nodes) g) (walk_of table f b nodes (return_in f b))
   first_held h g held =
       walk_first table f b nodes 64 refl held.tabled (only_regular (has nodes) held.is_regular) held.small held.places
       (chosen_picked forwards backs nodes held.is_regular held.small held.picks) h

@@ -1,5 +1,6 @@
 -- The first walk of a table of places and two tables of edges between 64 nodes, how it is written down, and what the search for it promises.
 use Rattle.std.specs.Prelude.{true, false, cond, ◌&&◌, List, [], ◌∷◌, ◌≡◌, ℕ, zero, suc, ◌+◌, ◌*◌, ◌/◌, ◌%◌, ◌≤◌, ◌<◌, eqb, ltb, length, get_or, set}
+use Rattle.std.specs.Prelude.{Result, Ok, Err, Option as Optional, Some, None}
 use Rattle.std.proofs.Math.Option.{Option, none, some}
 use Rattle.spec_base.specs.Basic.{has}
 use Rattle.spec_graph.specs.Graph.{Graph}
@@ -9,7 +10,8 @@ use Rattle.law_walk.specs.Reach.{Regular}
 use Rattle.spec_report.specs.State.{short_for_walk}
 use Rattle.spec_report.specs.Area.{flow_word, shown_in}
 use Rattle.pick_laws.specs.declared.Going.{Going}
-use Rattle.pick_laws.specs.declared.WalkFound.{WalkFound}
+use Rattle.refusal.specs.declared.Fault.{Fault}
+use Rattle.refusal.specs.Numbers.{number_of}
 use Rattle.pick_laws.specs.Demands.{going_after}
 use Rattle.pick_laws.specs.PickLaws.{Picked}
 use Rattle.pick_laws.specs.CompletingLaws.{SmallPlaces}
@@ -25,6 +27,7 @@ use Rattle.step_word.specs.declared.Taken.{Taken}
 use Rattle.step_word.specs.StepWord.{flow_of, step_of}
 use Rattle.walk_step.specs.LeastStep.{loose_at, least_step}
 use Rattle.walk_step.specs.Tabled.{Tabled}
+use Rattle.walk_first.specs.declared.Sought.{Sought}
 
 -- ---- the steps
 
@@ -47,6 +50,10 @@ pub record Prepared : Type 0 where
 
 abbrev pub prepared : ℕ → ℕ → List ℕ → List ℕ → List ℕ → Prepared
 prepared nodes start ways opened wide = record { nodes = nodes; start = start; ways = ways; opened = opened; wide = wide }
+
+-- the same in the code
+abbrev pub sought : Sought → Prepared
+sought s = prepared s.nodes s.start s.ways.now s.opened.now s.wide.now
 
 -- the least step out of x that counts, where r steps are left after it
 unfoldable pub taken : List ℕ → List ℕ → Prepared → ℕ → Going → ℕ → Taken
@@ -157,16 +164,15 @@ pub record Held (table forwards backs : List ℕ) (g : Graph) : Type 0 where
   pub tabled : Tabled table g
 
 -- N3: the refusal's number, where the answer is one
-abbrev pub refusal_in : WalkFound → Option ℕ
-refusal_in WalkFound.NoRoom = some 20
-refusal_in WalkFound.NoWalk = none
-refusal_in (WalkFound.Shown steps) = none
+abbrev pub refusal_in : Result (Optional ℕ) Fault → Option ℕ
+refusal_in (Err fault) = some (number_of fault)
+refusal_in (Ok found) = none
 
 -- N3: how many steps are shown, where a walk is shown
-abbrev pub steps_in : WalkFound → Option ℕ
-steps_in WalkFound.NoRoom = none
-steps_in WalkFound.NoWalk = none
-steps_in (WalkFound.Shown steps) = some steps
+abbrev pub steps_in : Result (Optional ℕ) Fault → Option ℕ
+steps_in (Err fault) = none
+steps_in (Ok None) = none
+steps_in (Ok (Some steps)) = some steps
 
 -- what is answered, the refusal and the steps, and what the area holds afterwards. S20: under 65 steps it is too short, and stays as it was. Else
 -- it stays as it was where no graph whose edges the tables hold has a dangerous closed walk among the nodes of the word; or (Req 01) the walk that

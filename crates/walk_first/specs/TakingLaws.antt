@@ -179,7 +179,8 @@ rows_fit forwards {n} {rows} h e =
 pub leads_fit : (forwards backs : List ℕ) {n : ℕ} {leads : List ℕ} → n ≤ 64 → leads ≡ leads_filled forwards backs → n ≡ length (take n leads)
 unfolding leads_filled
 leads_fit forwards backs {n} {leads} h e =
-    let long : length leads ≡ 64 = ap length e ∙ list_length (lead_row forwards backs) (rows_in forwards) in sym (length-take-le n leads (omega arith))
+    let long : length leads ≡ 64 = ap length e ∙ list_length (lead_row forwards backs) (rows_in forwards) in
+    sym (length-take-le n leads (omega arith))
 
 pub leads_part : (forwards backs : List ℕ) {n : ℕ} {leads : List ℕ} → n ≡ rows_in forwards → leads ≡ leads_filled forwards backs
     → take n leads ≡ lead_rows forwards backs

@@ -6,6 +6,8 @@ use Rattle.std.proofs.Math.Bool.{false}
 use native.Mathlib.Omega.{arith}
 use borrow.Author.Tests.{eq-eqb, ne_eqb, ltb-true, ltb-false}
 use Rattle.spec_base.specs.Basic.{any, numbers, meets}
+use Rattle.spec_text.specs.declared.StatementKind.{StatementKind}
+use Rattle.spec_graph.specs.Edge.{loosens}
 use Rattle.law_base.specs.BoolLaws.{decide}
 use Rattle.law_base.specs.ListLaws.{any_none, any_map, any_numbers_of, numbers_member}
 use Rattle.edge_kinds.specs.Kinds.{kind_facts, loose_bit}
@@ -16,6 +18,10 @@ use Rattle.walk_step.specs.LeastStep.{loose_row, loose_at}
 use Rattle.walk_step.specs.StepTurns.{NoneBefore}
 
 -- ---- one row
+
+-- W4: the table of kinds tells which kinds are loose
+pub loose_kind : (k : StatementKind) → meets (kind_facts k) loose_bit ≡ loosens k
+loose_kind k = (told k).loosens
 
 module _ (x place : ℕ) (p : Row) where
   pub loose_other : (p.node ≡ x → ⊥) → false ≡ loose_row x place p

@@ -1,5 +1,6 @@
 -- Rows that cannot count are passed over: the least step stays what it is.
-use Rattle.std.specs.Prelude.{◌≡◌, refl, Bool, true, false, cond, ◌&&◌, ◌||◌, List, [], ◌∷◌, ◌++◌, ◌⊎◌, ℕ, zero, suc, ◌+◌, ◌*◌, ◌≤◌, ◌<◌, min, ltb, leb, length, get_or, replicate}
+use Rattle.std.specs.Prelude.{◌≡◌, refl, Bool, true, false, cond, ◌&&◌, ◌||◌, List, [], ◌∷◌, ◌++◌, ◌⊎◌, ℕ, zero, suc, ◌+◌, ◌*◌, ◌≤◌, ◌<◌, min, ltb}
+use Rattle.std.specs.Prelude.{leb, length, get_or, replicate}
 use Rattle.std.proofs.Common.{sym, ap, ap₂, ◌∙◌, inl, inr, arith, ltb-true, lt-ltb, le-ltb, leb-false, le-leb}
 use Rattle.std.proofs.lemmas.Bool.{lt-leb}
 use Rattle.law_base.specs.BoolLaws.{decide, and_true, or_false}
@@ -31,6 +32,13 @@ whole_past needs y h l = go needs y h (omega arith)
     go [] k a b = same_at 64 k (omega arith)
     go (x ∷ list) zero a b = absurd (omega arith)
     go (x ∷ list) (suc k) a b = go list k (omega arith) (omega arith)
+
+-- a need that is given, else 1025
+pub whole_default : (needs : List ℕ) (y : ℕ) → y < 64 → get_or needs y 1025 ≡ get_or (whole_needs needs) y 0
+unfolding whole_needs
+whole_default [] y h = same_at 64 y h
+whole_default (x ∷ needs) zero h = refl
+whole_default (x ∷ needs) (suc y) h = whole_default needs y (omega arith)
 
 -- ---- one law for each path of the test
 

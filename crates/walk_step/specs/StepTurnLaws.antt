@@ -9,7 +9,6 @@ use borrow.Author.Tests.{eq-eqb, ne_eqb, ltb-true, lt-ltb, le-ltb, lt-leb, le-le
 use Rattle.spec_base.specs.Basic.{numbers, numbers_from, meets}
 use Rattle.law_base.specs.BoolLaws.{decide, and_true, and_right}
 use Rattle.spec_graph.specs.Graph.{Flow}
-use Rattle.spec_graph.specs.Edge.{loosens}
 use Rattle.edge_kinds.specs.Kinds.{kind_facts, loose_bit}
 use Rattle.edge_kinds.specs.KindLaws.{told, answer}
 use Rattle.place_row.specs.declared.Row.{Row}

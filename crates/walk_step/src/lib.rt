@@ -22,24 +22,22 @@ use word_list::word_at;
 const NEVER: u64 = 1025;
 
 // Whether a word has room for a step into row q: its node is below 64 and its place below 1024.
+#[tactic(auto, unfolding(crate::specs::LeastStep::has_word))]
 fn has_word(q: Row) -> bool
     ensures { result ≡ has_word q }
 {
-    if q.node < NODES as u64 {
-        return q.place < PLACES;
-    }
-    false
+    q.node < NODES as u64 && q.place < PLACES
 }
 
 // How far the forward edge from row p to row q opens: as far as any where it leaves a loose place, else up to the place that it enters.
 fn opens_to(p: Row, q: Row) -> u64
     ensures { result ≡ opens_to p q }
 {
-    let k = p.kind;
-    if kind_has(k, LOOSE) {
-        return PLACES;
+    if kind_has(p.kind, LOOSE) {
+        PLACES
+    } else {
+        q.place
     }
-    q.place
 }
 
 // Whether a forward edge stands from row p to row q and opens as far as is needed. How far is tested first: that is cheaper than the edge.
@@ -72,9 +70,7 @@ fn counted_step(p: Row, q: Row, need: u64, limit: u64) -> u64
     if p.relation != q.relation {
         return NO_STEP;
     }
-    let k = p.kind;
-    let l = q.kind;
-    let code = pair_code(k, l);
+    let code = pair_code(p.kind, q.kind);
     if forward_counts(code, p, q, need) {
         return step_word(p.place, q.place, false, q.node);
     }
@@ -85,14 +81,12 @@ fn counted_step(p: Row, q: Row, need: u64, limit: u64) -> u64
 }
 
 // How far a step into node y must open. Into a node past the needs no step counts.
+#[tactic(auto, using(crate::specs::MayLaws::whole_default))]
 fn need_into(needs: &[u64], y: usize) -> u64
     requires { y < 64 }
     ensures { result ≡ get_or (whole_needs needs.now) y 0 }
 {
-    if y < needs.len() {
-        return needs[y];
-    }
-    NEVER
+    needs.get(y).copied().unwrap_or(NEVER)
 }
 
 // The lesser of the best word so far and that of the least step from row p to row q that counts. No step is less than the forward one.
@@ -151,10 +145,8 @@ fn row_least(table: &[u64], n: usize, p: Row, needs: &[u64], limits: &[u64], bes
     ensures { result ≡ row_least table.now n (whole_needs needs.now) limits.now p best }
 {
     let mut least = best;
-    let mut j: usize = 0;
-    while j < n {
+    for j in 0..n {
         least = with_row(table, j, p, needs, limits, least);
-        j += 1;
     }
     least
 }
@@ -213,26 +205,18 @@ pub fn least_step(table: &[u64], x: u64, needs: &[u64], limits: &[u64]) -> u64
 {
     let n = row_count(table);
     let mut best = NO_STEP;
-    let mut i: usize = 0;
-    while i < n {
+    for i in 0..n {
         best = from_place(table, n, x, i, needs, limits, best);
-        i += 1;
     }
     best
 }
 
 // Whether the row is of node x, at the place, and loose.
+#[tactic(auto, using(crate::specs::LooseLaws::loose_kind), unfolding(crate::specs::LeastStep::loose_row))]
 fn loose_row(p: Row, x: u64, place: u64) -> bool
     ensures { result ≡ loose_row x place p }
 {
-    if p.node != x {
-        return false;
-    }
-    if p.place != place {
-        return false;
-    }
-    let k = p.kind;
-    kind_has(k, LOOSE)
+    p.node == x && p.place == place && kind_has(p.kind, LOOSE)
 }
 
 // The same of row i. The row of another node is told by its first word.
@@ -253,12 +237,10 @@ pub fn loose_at(table: &[u64], x: u64, place: u64) -> bool
     ensures { result ≡ loose_at table.now x place }
 {
     let n = row_count(table);
-    let mut k: usize = 0;
-    while k < n {
+    for k in 0..n {
         if loose_in(table, k, x, place) {
             return true;
         }
-        k += 1;
     }
     false
 }

@@ -12,19 +12,16 @@ returns-then-out-lt-WALK_WORDS c = record { walk_answered = answer_short _ _ _ _
 
 pub returns-then-nodes-eq-EVERY_NODE : goal.returns-then-nodes-eq-EVERY_NODE
 returns-then-nodes-eq-EVERY_NODE c =
-    let c2 = c in
-    let c5 = c2 in
-    let c6 = c5 in
-    record { walk_answered = answer_searched _ _ _ _ _ c6.if-out-lt-WALK_WORDS.false (searched_every _ _ _ _ _ c5.if-nodes-eq-EVERY_NODE.true c2.search.ensures.searched); lent = c2.search.ensures.lent }
+    record {
+      walk_answered = answer_searched _ _ _ _ _ c.if-out-lt-WALK_WORDS.false
+          (searched_every _ _ _ _ _ c.if-nodes-eq-EVERY_NODE.true c.search.ensures.searched);
+      lent = c.search.ensures.lent;
+    }
 
 pub returns : goal.returns
 returns c =
-    let c2 = c in
-    let c7 = c2 in
-    let c8 = c7 in
-    let c9 = c8 in
-    let c10 = c9 in record {
-      walk_answered = answer_searched _ _ _ _ _ c10.if-out-lt-WALK_WORDS.false
-          (searched_some _ _ _ _ _ c9.if-nodes-eq-EVERY_NODE.false c8.chosen_words-f.ensures c7.chosen_words-b.ensures c2.search-2.ensures.searched);
-      lent = c2.search-2.ensures.lent;
+    record {
+      walk_answered = answer_searched _ _ _ _ _ c.if-out-lt-WALK_WORDS.false
+          (searched_some _ _ _ _ _ c.if-nodes-eq-EVERY_NODE.false c.chosen_words-f.ensures c.chosen_words-b.ensures c.search-2.ensures.searched);
+      lent = c.search-2.ensures.lent;
     }

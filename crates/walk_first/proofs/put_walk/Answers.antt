@@ -12,11 +12,10 @@ use Rattle.walk_first.proofs.put_walk.Goals as goal
 pub loop-k-init : goal.loop-k-init
 loop-k-init c = (refl, refl, put_start _ _ _ _ _)
 
-pub take_step-t-requires : goal.take_step-t-requires
-take_step-t-requires c =
-    let c4 = c in
-    let given = c4.requires in
-    let inv = c4.loop-k.invariant in
+pub take_step-spot-requires : goal.take_step-spot-requires
+take_step-spot-requires c =
+    let given = c.requires in
+    let inv = c.loop-k.invariant in
     let few = given.0 in
     let room = given.1 in
     let long = inv.2.long in
@@ -26,12 +25,10 @@ take_step-t-requires c =
 pub loop-k-preserved : goal.loop-k-preserved
 unfolding Lent
 loop-k-preserved c =
-    let c6 = c in
-    let c11 = c6 in
-    let kept = c6.take_step-t.ensures.lent in (
-      kept.0 ∙ c11.loop-k.invariant.0,
-      kept.1 ∙ c11.loop-k.invariant.1,
-      put_turn _ _ _ _ _ c11.loop-k.invariant.2 c6.loop-k-test.true refl c6.take_step-t.ensures.taken_as,
+    let kept = c.take_step-spot.ensures.lent in (
+      kept.0 ∙ c.loop-k.invariant.0,
+      kept.1 ∙ c.loop-k.invariant.1,
+      put_turn _ _ _ _ _ c.loop-k.invariant.2 c.loop-k-test.true refl c.take_step-spot.ensures.taken_as,
     )
 
 pub returns : goal.returns

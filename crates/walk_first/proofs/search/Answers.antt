@@ -11,8 +11,4 @@ slice_bounds-search_rows-end-2 c = leads_fit _ _ c.rows_in-n.ensures.1 c.lead_ro
 
 pub search_rows-requires : goal.search_rows-requires
 search_rows-requires c =
-    let c4 = c in
-    let c5 = c4 in
-    let c6 = c5 in
-    let c11 = c6 in
-    (c11.requires, rows_part _ c6.rows_in-n.ensures.0 c5.joined_rows-rows.ensures, leads_part _ _ c6.rows_in-n.ensures.0 c4.lead_rows-leads.ensures)
+    (c.requires, rows_part _ c.rows_in-n.ensures.0 c.joined_rows-rows.ensures, leads_part _ _ c.rows_in-n.ensures.0 c.lead_rows-leads.ensures)

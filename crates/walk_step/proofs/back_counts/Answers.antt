@@ -1,7 +1,6 @@
 -- A back edge that leaves from the limit on does not count (back-late); else it counts where it stands (back_early).
 use Rattle.walk_step.specs.StepTurnLaws.{back_late, back_early}
 use mathlib.Core.Path.{◌∙◌}
-use borrow.Author.Rules.{rules}
 use Rattle.edge_test.specs.LetterLaws.{back_told}
 use native.Mathlib.Omega.{arith}
 use Rattle.walk_step.proofs.back_counts.Goals as goal

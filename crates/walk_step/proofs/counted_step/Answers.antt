@@ -18,11 +18,9 @@ back_counts-requires c = search (rules, c.pair_code-code.ensures)
 
 pub returns-then-back_counts : goal.returns-then-back_counts
 returns-then-back_counts c =
-    let back = c in
-    counted_back _ _ _ _ back.forward_counts.ensures back.back_counts.ensures back.if-forward_counts.false
+    counted_back _ _ _ _ c.forward_counts.ensures c.back_counts.ensures c.if-forward_counts.false
     c.if-back_counts.true c.step_word-then-back_counts.ensures
 
 pub returns : goal.returns
 returns c =
-    let back = c in
-    counted_none _ _ _ _ back.forward_counts.ensures back.back_counts.ensures back.if-forward_counts.false c.if-back_counts.false
+    counted_none _ _ _ _ c.forward_counts.ensures c.back_counts.ensures c.if-forward_counts.false c.if-back_counts.false

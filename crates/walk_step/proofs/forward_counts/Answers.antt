@@ -1,7 +1,6 @@
 -- An edge that does not open as far as is needed does not count (forward-shut); else it counts where it stands (forward-open).
 use Rattle.walk_step.specs.StepTurnLaws.{forward_shut, forward_open}
 use mathlib.Core.Path.{◌∙◌}
-use borrow.Author.Rules.{rules}
 use Rattle.edge_test.specs.LetterLaws.{forward_told}
 use Rattle.walk_step.proofs.forward_counts.Goals as goal
 

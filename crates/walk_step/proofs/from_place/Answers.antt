@@ -1,6 +1,5 @@
 -- A row whose first word is another node's gives nothing (other-first, from-other); another is taken out.
 use Rattle.walk_step.specs.StepTurnLaws.{other_first, from_other}
-use borrow.Author.Rules.{rules}
 use Rattle.walk_step.proofs.from_place.Goals as goal
 
 pub returns-then-word_at-x : goal.returns-then-word_at-x

@@ -1,15 +1,9 @@
 -- After i rows the best word is the least of the steps from each of them (rows-turn); after the last row this is `least_step` (all-least).
 use Rattle.walk_step.specs.LeastStep.{whole_needs}
 use Rattle.walk_step.specs.StepTurns.{least_rows}
-use mathlib.Core.Path.{◌≡◌, refl}
-use native.Mathlib.Omega.{arith}
-use Prim.Native.Nat.{◌-◌, ◌≤◌}
-use Rattle.walk_step.specs.StepTurnLaws.{rows_first, rows_turn, from_most, all_least}
-use borrow.Author.Rules.{rules}
+use mathlib.Core.Path.{◌≡◌}
+use Prim.Native.Nat.{◌≤◌}
 use Rattle.walk_step.proofs.least_step.Given as goal
 
 abbrev pub invariant-loop-i : goal.invariant-loop-i
-invariant-loop-i l = (l.i ≤ l.n) × (l.best ≤ 134217728) × (l.best ≡ least_rows l.table l.n l.x (whole_needs l.needs) l.limits l.i)
-
-abbrev pub decreases-loop-i : goal.decreases-loop-i
-decreases-loop-i l = l.n - l.i
+invariant-loop-i l = (l.best ≤ 134217728) × (l.best ≡ least_rows l.table l.n l.x (whole_needs l.needs) l.limits l.i)

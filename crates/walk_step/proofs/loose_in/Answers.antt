@@ -1,7 +1,6 @@
 -- A row whose first word is another node's is not asked for (other-first, loose-other); another is taken out.
 use Rattle.walk_step.specs.LooseLaws.{loose_other}
 use Rattle.walk_step.specs.StepTurnLaws.{other_first}
-use borrow.Author.Rules.{rules}
 use Rattle.walk_step.proofs.loose_in.Goals as goal
 
 pub returns-then-word_at-x : goal.returns-then-word_at-x

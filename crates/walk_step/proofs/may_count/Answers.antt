@@ -1,7 +1,5 @@
 -- By the need a forward step may count (may-forward), else by the limit a back step (may-back); into a node past 63 none does (may_past).
 use Rattle.walk_step.specs.MayLaws.{may_past, may_forward, may_back}
-use Prim.Native.Nat.{◌-◌}
-use borrow.Author.Rules.{rules}
 use Rattle.walk_step.proofs.may_count.Goals as goal
 
 pub returns-then-need_into-le-PLACES : goal.returns-then-need_into-le-PLACES

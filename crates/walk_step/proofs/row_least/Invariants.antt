@@ -1,15 +1,9 @@
 -- After j rows the least is that of the best word and the steps to each of them (row-turn).
 use Rattle.walk_step.specs.LeastStep.{whole_needs}
 use Rattle.walk_step.specs.StepTurns.{row_least}
-use mathlib.Core.Path.{◌≡◌, refl}
-use native.Mathlib.Omega.{arith}
-use Prim.Native.Nat.{◌-◌, ◌≤◌}
-use Rattle.walk_step.specs.StepTurnLaws.{row_first, row_turn, row_read}
-use borrow.Author.Rules.{rules}
+use mathlib.Core.Path.{◌≡◌}
+use Prim.Native.Nat.{◌≤◌}
 use Rattle.walk_step.proofs.row_least.Given as goal
 
 abbrev pub invariant-loop-j : goal.invariant-loop-j
-invariant-loop-j l = (l.j ≤ l.n) × (l.least ≤ 134217728) × (l.least ≡ row_least l.table l.j (whole_needs l.needs) l.limits l.p l.best)
-
-abbrev pub decreases-loop-j : goal.decreases-loop-j
-decreases-loop-j l = l.n - l.j
+invariant-loop-j l = (l.least ≤ 134217728) × (l.least ≡ row_least l.table l.j (whole_needs l.needs) l.limits l.p l.best)
