@@ -1,5 +1,5 @@
 -- Laws of edges put one after the other.
-use Rattle.std.specs.Prelude.{◌≡◌, Bool, ℕ, zero, suc, ◌+◌, ◌*◌, ◌≤◌, ◌<◌, leb, set}
+use Rattle.std.specs.Prelude.{◌≡◌, Bool, Result, Ok, Err, ℕ, zero, suc, ◌+◌, ◌*◌, ◌≤◌, ◌<◌, leb, set}
 use Rattle.std.proofs.Math.Path.{refl, sym, ap, subst}
 use Rattle.std.proofs.Common.{◌∙◌, not-suc-le-zero, le_of_suc-le-suc, add-one, length-append, length-drop, length-take-le}
 use Rattle.std.proofs.Math.Bool.{true, false, cond}
@@ -18,8 +18,7 @@ use Rattle.edge_record.specs.declared.Edge.{Edge}
 use Rattle.edge_record.specs.Coded.{coded}
 use Rattle.edge_count.specs.Slots.{table_edges, slots, edges_below}
 use Rattle.edge_find.specs.SearchLaws.{below_all}
-use Rattle.edge_put.specs.declared.Put.{Put}
-use Rattle.edge_put.specs.declared.Put.TheVariants.{All, Refused}
+use Rattle.refusal.specs.declared.Fault.{Fault}
 use Rattle.edge_put.specs.declared.Cursor.{Cursor}
 use Rattle.edge_put.specs.declared.Step.{Step}
 use Rattle.edge_put.specs.Cursors.{slot_of, Begun, Standing, Found}
@@ -123,17 +122,17 @@ module _ (table : List ℕ) (area : List Edge) where
   put_more k e h n = set_front (records table) area k e h n ∙ ap (put_first (records table) area) (sym (add-one k))
 
   -- where no edge comes any more, they are put as they have to be
-  pub put_ended : (c : Cursor) (k : ℕ) (r : Put) → Kept table fit (slot_of c) k → edges_below table (slot_of c) ≡ length edges → r ≡ answer_for fit k
+  pub put_ended : (c : Cursor) (k : ℕ) (r : Result ℕ Fault) → Kept table fit (slot_of c) k → edges_below table (slot_of c) ≡ length edges → r ≡ answer_for fit k
       → PutAs edges area r (put_first (records table) area k)
   unfolding answer_for put_said
   put_ended c k r (going f b) ended e =
       let all : k ≡ length edges = sym b ∙ ended in
       put (leb-true (length edges) (length area) f)
-      (ap put_said (e ∙ ap (λ (t : Bool). cond t (All k) (Refused 20)) f) ∙ ap inr all)
+      (ap put_said (e ∙ ap (λ (t : Bool). cond t (Ok k) (Err Fault.Area)) f) ∙ ap inr all)
       (ap (put_first (records table) area) all
       ∙ ap (λ (l : List Edge). l ++ drop (length edges) area)
       (ap (λ (j : ℕ). take j (records table)) (sym (length-map edges coded)) ∙ take-length (records table)))
   put_ended c k r (over f b z) ended e =
       short (leb-false (length edges) (length area) f)
-      (ap put_said (e ∙ ap (λ (t : Bool). cond t (All k) (Refused 20)) f))
+      (ap put_said (e ∙ ap (λ (t : Bool). cond t (Ok k) (Err Fault.Area)) f))
       (ap (put_first (records table) area) z)

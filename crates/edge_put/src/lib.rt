@@ -18,13 +18,7 @@ use kind_pair::pair_code;
 use place_fetch::row_count;
 use place_link::{FIRST, NEXT, NEXTS, rows_linked};
 use place_row::{KEYS, KIND, PLACE, READS, RELATION, ROW_WORDS, Row, TESTS, WRITES};
-
-// What becomes of edges that are put: all of them are, so many; or the number of the refusal, and none is.
-#[derive(Clone, Copy)]
-pub enum Put {
-    All(usize),
-    Refused(u8),
-}
+use refusal::Fault;
 
 // The words of a row, the kind by its number: all of one size, so that keeping them costs no copying of what lies between.
 #[derive(Clone, Copy)]
@@ -357,18 +351,18 @@ fn start_for(table: &[u64], fits: bool) -> Cursor
 }
 
 // The answer where k edges are put: all, or none because they do not fit.
-fn answered(fits: bool, k: usize) -> Put
+fn answered(fits: bool, k: usize) -> Result<usize, Fault>
     ensures { result ≡ answer_for fits k }
 {
     if fits {
-        return Put::All(k);
+        return Ok(k);
     }
-    Put::Refused(20)
+    Err(Fault::Area)
 }
 
-// Puts the edges of a table at the front of an area that has room for them; the rest of the area stays as it was, and so does all of an
-// area that is too short. Rows past the 512th are not looked at: no workload has more.
-pub fn put_edges<'b, 'a>(table: &'b [u64], out: &'a mut [Edge]) -> Put
+// Puts the edges of a table at the front of an area that has room for them, and answers how many they are; the rest of the area stays as it was, and
+// so does all of an area that is too short. Rows past the 512th are not looked at: no workload has more.
+pub fn put_edges<'b, 'a>(table: &'b [u64], out: &'a mut [Edge]) -> Result<usize, Fault>
     ensures { PutAs (table_edges table.now) out.old result out.new }
 {
     let fits = fits_in(table, out.len());

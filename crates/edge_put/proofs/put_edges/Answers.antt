@@ -1,3 +1,4 @@
+use Rattle.std.specs.Prelude.{Result}
 use Rattle.std.proofs.Common.{◌≡◌, ◌+◌, ◌<◌, length, arith, ◌∙◌, ap, sym, subst, true, Bool, ℕ, List}
 use Rattle.std.proofs.Math.Dec.{leb}
 use Rattle.std.proofs.Math.ListN.{set}
@@ -5,8 +6,8 @@ use borrow.Author.Tests.{not-true, not-false}
 use Rattle.edge_record.specs.declared.Edge.{Edge}
 use Rattle.edge_count.specs.Slots.{table_edges, edges_below}
 use Rattle.edge_put.specs.declared.Cursor.{Cursor}
-use Rattle.edge_put.specs.declared.Put.{Put}
 use Rattle.edge_put.specs.declared.Step.{Step}
+use Rattle.refusal.specs.declared.Fault.{Fault}
 use Rattle.edge_put.specs.Cursors.{slot_of, Begun, Standing, Found, Passed}
 use Rattle.edge_put.specs.Put.{records, put_first, answer_for, PutAs}
 use Rattle.edge_put.specs.PutLaws.{Kept, kept_start, kept_more, kept_edge, kept_few, kept_below, put_none, put_length, put_more, put_ended}
@@ -71,7 +72,7 @@ loop-step-preserved c =
     }
 
 -- no edge comes any more
-ended : (table : List ℕ) (area out : List Edge) (c : Cursor) (k : ℕ) (r : Put) {fits : Bool} → Kept table (fit table area) (slot_of c) k
+ended : (table : List ℕ) (area out : List Edge) (c : Cursor) (k : ℕ) (r : Result ℕ Fault) {fits : Bool} → Kept table (fit table area) (slot_of c) k
     → out ≡ put_first (records table) area k → edges_below table (slot_of c) ≡ length (table_edges table) → fits ≡ fit table area
     → r ≡ answer_for fits k → PutAs (table_edges table) area r out
 ended table area out c k r kept put over f e =
