@@ -3,7 +3,7 @@
 #![tactic(auto)]
 
 ghost use Rattle.std.specs.Prelude.{◌≡◌};
-ghost use Rattle.verdict_told.specs.Told.{told};
+ghost use Rattle.verdict_told.specs.Told.{told_by};
 ghost use Rattle.export_word.specs.Word.{refusal_word, value_word, nodes_word, verdict_word};
 
 use spec_text::Line;
@@ -50,13 +50,14 @@ pub fn nodes_word(count: u64, start: u64, length: u64) -> u32
     (count % 256 * HALF + start % SUMS + length % SUMS) as u32
 }
 
-// A verdict: its edges, with bit 30 for danger; or its refusal, which has no line.
-pub fn verdict_word(v: Verdict) -> u32
-    ensures { result ≡ verdict_word (told v) }
+// A verdict: its edges, with bit 30 for danger; or the number of its refusal, which has no line.
+#[tactic(auto, unfolding(crate::specs::Word::verdict_word))]
+pub fn verdict_word(v: Result<Verdict, u8>) -> u32
+    ensures { result ≡ verdict_word (told_by v) }
 {
     match v {
-        Verdict::Robust(c) => (c.edges % EDGES) as u32,
-        Verdict::Danger(c, _) => DANGER + (c.edges % EDGES) as u32,
-        Verdict::Refused(number) => refusal_word(number, 0),
+        Ok(Verdict::Robust(c)) => (c.edges % EDGES) as u32,
+        Ok(Verdict::Danger(c, _)) => DANGER + (c.edges % EDGES) as u32,
+        Err(number) => refusal_word(number, 0),
     }
 }
