@@ -20,10 +20,10 @@ use Rattle.spec_report.specs.Refusals.{not_both, taken_given}
 use Rattle.spec_report.specs.ReportLaws.{refused_once}
 use Rattle.spec_report.specs.Area.{shown_in}
 use Rattle.refusal.specs.declared.Fault.{Fault}
+use Rattle.refusal.specs.Numbers.{number_of}
 use Rattle.walk_first.specs.FirstSteps.{Held, refusal_in, steps_in, WalkAnswered}
 use Rattle.walk_first.specs.FirstSteps.WalkAnswered.{no_room, no_walk, shown}
 use Rattle.place_table.specs.declared.Rows.{Rows}
-use Rattle.place_table.specs.declared.Rows.TheVariants.{Refused}
 use Rattle.place_table.specs.Rows.{RowsSettled}
 use Rattle.place_table.specs.Whole.{Whole, whole_refused}
 use Rattle.edge_count.specs.declared.Counts.{Counts as Edges}
@@ -76,9 +76,9 @@ module _ (w : Workload) (given : Given w) (few : is_too_many (lines_of w) ≡ fa
       judged (taken given few room) _ _ (danger _ own)
 
 -- a refusal of the table of places is the verdict's, and leaves the area
-pub judged_rows : (w : Workload) (table : List ℕ) (f : Rows) (filled before : List ℕ) (n : ℕ) → RowsSettled w table f filled → f ≡ Refused n
-    → Judged w before (Told.refused n) before
-judged_rows w table f filled before n settled e = refused n (whole_refused (short_for_walk (length before / 4)) settled e)
+pub judged_rows : (w : Workload) (table : List ℕ) (f : Result Rows Fault) (filled before : List ℕ) (fault : Fault) → RowsSettled w table f filled
+    → f ≡ Err fault → Judged w before (Told.refused (number_of fault)) before
+judged_rows w table f filled before fault settled e = refused (number_of fault) (whole_refused (short_for_walk (length before / 4)) settled e)
 
 -- the rows of a workload's places
 pub rows_whole : {w : Workload} {programs nodes places : ℕ} {filled : List ℕ} → Whole w programs nodes places filled

@@ -11,7 +11,7 @@ ghost use Rattle.verdict_of.specs.Steps.{RowsJudged};
 
 use edge_word::{NODES, PAIRS};
 use place_row::{ROWS, TABLE_WORDS};
-use place_table::Rows;
+use refusal::Fault;
 use spec_text::Workload;
 use value_tables::LINE_TABLE;
 use verdict_told::{Verdict, judged};
@@ -27,7 +27,7 @@ fn judge_rows(
     forwards: &mut [u64],
     backs: &mut [u64],
     area: &mut [u64],
-) -> Verdict
+) -> Result<Verdict, Fault>
     requires { (length forwards.old ≡ nodes * 64) × (length backs.old ≡ nodes * 64) }
     ensures rows_judged { RowsJudged rows.now programs nodes area.old (told result) area.new }
     ensures lent { Lent next.old next.new × Lent work.old work.new
@@ -49,7 +49,7 @@ fn judge_table(
     forwards: &mut [u64],
     backs: &mut [u64],
     area: &mut [u64],
-) -> Verdict
+) -> Result<Verdict, Fault>
     requires { (words ≤ length table.now) × (nodes ≤ 64) × (length forwards.old ≡ 4096) × (length backs.old ≡ 4096) }
     ensures rows_judged { RowsJudged (take words table.now) programs nodes area.old (told result) area.new }
     ensures lent { Lent next.old next.new × Lent work.old work.new
@@ -70,36 +70,30 @@ fn judge_table(
 
 // The verdict on any workload value. The first dangerous walk is shown at the front of the area, four words to a step: node, place left,
 // place entered, and 0 for forward or 1 for back.
-pub fn verdict_of(w: Workload, area: &mut [u64]) -> Verdict
+pub fn verdict_of(w: Workload, area: &mut [u64]) -> Result<Verdict, Fault>
     ensures { Judged w area.old (told result) area.new }
 {
     let mut table = [0u64; TABLE_WORDS];
     let f = place_table::fill_rows(w, &mut table);
     match f {
-        Rows::Refused(number) => {
-            return Verdict::Refused(number);
-        }
-        Rows::Filled {
-            programs,
-            nodes,
-            places,
-        } => {
-            let n = places as usize * place_row::ROW_WORDS;
+        Err(fault) => Err(fault),
+        Ok(rows) => {
+            let n = rows.places as usize * place_row::ROW_WORDS;
             let mut next = [0u64; ROWS];
             let mut work = [0u64; TABLE_WORDS];
             let mut forwards = [0u64; PAIRS];
             let mut backs = [0u64; PAIRS];
-            return judge_table(
+            judge_table(
                 &table[..n],
                 n,
-                programs,
-                nodes,
+                rows.programs,
+                rows.nodes,
                 &mut next,
                 &mut work,
                 &mut forwards,
                 &mut backs,
                 area,
-            );
+            )
         }
     }
 }

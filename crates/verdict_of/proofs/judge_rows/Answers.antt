@@ -8,15 +8,12 @@ use Rattle.verdict_of.proofs.judge_rows.Goals as goal
 pub returns : goal.returns
 unfolding Lent
 returns c =
-    let found = c in
-    let picked = found in
-    let entry = picked in
     record {
-      rows_judged = judged_picked _ _ _ _ _ _ entry.requires.0 entry.requires.1 picked.pick_edges-c.ensures.picked_as
-          found.find_walk-found.ensures.walk_answered c.judged.ensures;
+      rows_judged = judged_picked _ _ _ _ _ _ c.requires.0 c.requires.1 c.pick_edges-c.ensures.picked_as
+          c.find_walk-found.ensures.walk_answered c.judged.ensures;
       lent = (
-        picked.pick_edges-c.ensures.lent,
-        found.find_walk-found.ensures.lent ∙ picked.pick_edges-c.ensures.lent_2,
+        c.pick_edges-c.ensures.lent,
+        c.find_walk-found.ensures.lent ∙ c.pick_edges-c.ensures.lent_2,
         search rules,
         search rules,
       );

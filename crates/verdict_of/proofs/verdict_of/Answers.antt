@@ -9,30 +9,27 @@ use Rattle.place_table.specs.Whole.{whole_filled}
 use Rattle.verdict_of.specs.VerdictLaws.{judged_rows, rows_whole, words_inside, nodes_few}
 use Rattle.verdict_of.proofs.verdict_of.Goals as goal
 
-pub returns-in-Refused : goal.returns-in-Refused
-returns-in-Refused c = judged_rows _ _ _ _ _ _ c.fill_rows-f.ensures c.in-Refused.is
+pub returns-in-Err : goal.returns-in-Err
+returns-in-Err c = judged_rows _ _ _ _ _ _ c.fill_rows-f.ensures c.in-Err.is
 
 pub overflow_mul-n : goal.overflow_mul-n
 overflow_mul-n c =
-    let few = (whole_filled c.fill_rows-f.ensures c.in-Filled.is).short in
+    let few = (whole_filled c.fill_rows-f.ensures c.in-Ok.is).short in
     record { fits = omega arith }
 
 pub slice_bounds-table-end : goal.slice_bounds-table-end
-slice_bounds-table-end c = (whole_filled c.fill_rows-f.ensures c.in-Filled.is).inside
+slice_bounds-table-end c = (whole_filled c.fill_rows-f.ensures c.in-Ok.is).inside
 
 pub slice_bounds-judge_table-end : goal.slice_bounds-judge_table-end
 slice_bounds-judge_table-end c =
-    let inside = (whole_filled c.fill_rows-f.ensures c.in-Filled.is).inside in
+    let inside = (whole_filled c.fill_rows-f.ensures c.in-Ok.is).inside in
     sym (length-take-le _ _ inside)
 
 pub judge_table-requires : goal.judge_table-requires
 judge_table-requires c =
-    let filled = c in
-    let whole = whole_filled filled.fill_rows-f.ensures filled.in-Filled.is in
+    let whole = whole_filled c.fill_rows-f.ensures c.in-Ok.is in
     (words_inside whole, nodes_few whole, length-replicate {A = ℕ} 4096 0, length-replicate {A = ℕ} 4096 0)
 
-pub returns-in-Filled : goal.returns-in-Filled
-returns-in-Filled c =
-    let judged = c in
-    let filled = judged in
-    judged.judge_table.ensures.rows_judged _ (rows_whole (whole_filled filled.fill_rows-f.ensures filled.in-Filled.is))
+pub returns-in-Ok : goal.returns-in-Ok
+returns-in-Ok c =
+    c.judge_table.ensures.rows_judged _ (rows_whole (whole_filled c.fill_rows-f.ensures c.in-Ok.is))
