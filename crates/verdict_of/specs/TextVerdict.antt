@@ -1,5 +1,6 @@
 -- What the verdict on a text promises for every text and every lent area. Believed.
-use Rattle.std.specs.Prelude.{List, ◌≡◌, ℕ}
+use Rattle.std.specs.Prelude.{List, ◌≡◌, ℕ, Result}
+use Rattle.refusal.specs.declared.Fault.{Fault}
 use Rattle.spec_text.specs.declared.Line.{Line}
 use Rattle.spec_text.specs.Reading.{Outcome}
 use Rattle.spec_text.specs.Reading.Outcome.{refused, accepted}
@@ -14,7 +15,7 @@ use Rattle.verdict_of.specs.Verdict.{Judged}
 -- R: a refused text's number and line, and the area stays as it was; else the verdict on the value that the text gives
 pub data TextJudged (o : Outcome) (before : List ℕ) (r : TextVerdict) (after : List ℕ) : Type 0 where
   unread : (number line : ℕ) → o ≡ refused number line → r ≡ TextVerdict.Unread number line → after ≡ before → TextJudged o before r after
-  judged : (lines : List Line) → o ≡ accepted lines → (v : Verdict) → r ≡ TextVerdict.Judged v → Judged (value_of lines) before (told v) after
+  judged : (lines : List Line) → o ≡ accepted lines → (v : Result Verdict Fault) → r ≡ TextVerdict.Judged v → Judged (value_of lines) before (told v) after
       → TextJudged o before r after
 
 -- What the lent table of rows holds after a text is judged: the rows of its places, or what it held before (`TextPlaced`)

@@ -1,5 +1,9 @@
 -- From the rows of a text to the verdict on it.
-use Rattle.std.specs.Prelude.{true, false, ◌≡◌, ℕ, ◌*◌, ◌/◌, ◌≤◌, ltb, take, drop}
+use Rattle.std.specs.Prelude.{true, false, ◌≡◌, ℕ, ◌*◌, ◌/◌, ◌≤◌, ltb, take, drop, Result, Ok, Err}
+use Rattle.refusal.specs.declared.Fault.{Fault}
+use Rattle.refusal.specs.declared.Fault.TheVariants.{Unfoldings}
+use Rattle.refusal.specs.Numbers.{number_of as number_of_fault}
+use Rattle.refusal.specs.NumberLaws.{number_settles}
 use mathlib.Core.List.{List, ◌++◌}
 use Rattle.std.proofs.Math.Path.{refl, ap}
 use Rattle.std.proofs.Common.{sym, ap₂, subst, ◌∙◌, arith, length-append, ltb-false}
@@ -44,20 +48,18 @@ module _ (text : List ℕ) {rows₀ : List ℕ} {t : TextRows} {rows : List ℕ}
   number_of x = x.number
 
   -- S22
-  pub text_large : t.number ≡ 22 → (before : List ℕ) (number : ℕ) → number ≡ 22
-      → TextJudged (read text) before (TextVerdict.Judged (Verdict.Refused number)) before
+  pub text_large : t.number ≡ 22 → (before : List ℕ) → TextJudged (read text) before (TextVerdict.Judged (Err Unfoldings)) before
   unfolding no_rows rows_told
-  text_large e before number n = go rows_told_lem
+  text_large e before = go rows_told_lem
     where
-      go : TextPlaced (read text) rows₀ t rows → TextJudged (read text) before (TextVerdict.Judged (Verdict.Refused number)) before
+      go : TextPlaced (read text) rows₀ t rows → TextJudged (read text) before (TextVerdict.Judged (Err Unfoldings)) before
       go (not_read_lem m line is_read r same) =
           let bounds = refusal_bounds text is_read in
           let is = ap number_of r in
           absurd (omega arith)
       go (large lines is_read many r same) =
-          judged lines is_read (Verdict.Refused number) refl
-          (subst (λ (k : ℕ). Judged (value_of lines) before (told (Verdict.Refused k)) before) (sym n)
-          (refused_answer 22 (too_many (value_given text is_read) (ap is_too_many (lines_of_value lines) ∙ many))))
+          judged lines is_read (Err Unfoldings) refl
+          (refused_answer 22 (too_many (value_given text is_read) (ap is_too_many (lines_of_value lines) ∙ many)))
       go (placed lines is_read few r same) = let is = ap number_of r in absurd (omega arith)
 
   -- R
@@ -124,23 +126,30 @@ module _ (text : List ℕ) {rows₀ : List ℕ} {t : TextRows} {rows : List ℕ}
     nodes_inside = rows_of_lem.nodes_few
 
     -- the word
-    pub text_word : {before after : List ℕ} (v : Verdict) → RowsJudged (take t.words rows) t.programs t.nodes before (told v) after
+    pub text_word : {before after : List ℕ} (v : Result Verdict Fault) → RowsJudged (take t.words rows) t.programs t.nodes before (told v) after
         → TextJudged (read text) before (TextVerdict.Judged v) after
     text_word v answered = judged rows_of_lem.lines rows_of_lem.is_read_lem v refl (answered _ rows_of_lem.whole)
 
 -- ---- nothing is free
 
--- an answer is told by what it tells
-verdict_of : Told → Verdict
-verdict_of (Told.refused number) = Verdict.Refused number
-verdict_of (Told.robust c) = Verdict.Robust (record { programs = c.programs; nodes = c.nodes; edges = c.edges; back = c.back })
-verdict_of (Told.danger c steps) = Verdict.Danger (record { programs = c.programs; nodes = c.nodes; edges = c.edges; back = c.back }) steps
+-- the word of what is told, robust with no counts for a refusal
+word_of : Told → Verdict
+word_of (Told.refused number) = Verdict.Robust (record { programs = 0; nodes = 0; edges = 0; back = 0 })
+word_of (Told.robust c) = Verdict.Robust (record { programs = c.programs; nodes = c.nodes; edges = c.edges; back = c.back })
+word_of (Told.danger c steps) = Verdict.Danger (record { programs = c.programs; nodes = c.nodes; edges = c.edges; back = c.back }) steps
 
-verdict_told : (v : Verdict) → v ≡ verdict_of (told v)
-unfolding verdict_of
-verdict_told (Verdict.Robust c) = refl
-verdict_told (Verdict.Danger c steps) = refl
-verdict_told (Verdict.Refused number) = refl
+-- an answer is settled by what it tells
+same_told : (v w : Result Verdict Fault) → told v ≡ told w → v ≡ w
+unfolding word_of
+same_told (Err f) (Err g) e = let number : number_of_fault f ≡ number_of_fault g = cc in ap Err (number_settles f g number)
+same_told (Err f) (Ok (Verdict.Robust c)) e = cc
+same_told (Err f) (Ok (Verdict.Danger c steps)) e = cc
+same_told (Ok (Verdict.Robust c)) (Err f) e = cc
+same_told (Ok (Verdict.Danger c steps)) (Err f) e = cc
+same_told (Ok (Verdict.Robust c)) (Ok (Verdict.Danger d steps)) e = cc
+same_told (Ok (Verdict.Danger c steps)) (Ok (Verdict.Robust d)) e = cc
+same_told (Ok (Verdict.Robust c)) (Ok (Verdict.Robust d)) e = ap (λ (t : Told). Ok (word_of t)) e
+same_told (Ok (Verdict.Danger c steps)) (Ok (Verdict.Danger d n)) e = ap (λ (t : Told). Ok (word_of t)) e
 
 -- Req 01: the text and the area before settle the answer and the area after
 pub text_judged_one : {o : Outcome} {before : List ℕ} {a b : TextVerdict} {after rest : List ℕ} → TextJudged o before a after
@@ -154,4 +163,4 @@ text_judged_one (judged lines e v r j) (unread number line f q t) = let wrong : 
 text_judged_one {o} {before} {a} {b} {after} {rest} (judged lines e v r j) (judged others f w q k) =
     let lines_are : others ≡ lines = cc in
     let same = judged_one j (subst (λ (l : List Line). Judged (value_of l) before (told w) rest) lines_are k) in
-    (r ∙ ap TextVerdict.Judged (verdict_told v ∙ ap verdict_of same.0 ∙ sym (verdict_told w)) ∙ sym q, same.1)
+    (r ∙ ap TextVerdict.Judged (same_told v w same.0) ∙ sym q, same.1)

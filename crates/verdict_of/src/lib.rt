@@ -102,7 +102,7 @@ pub fn verdict_of(w: Workload, area: &mut [u64]) -> Result<Verdict, Fault>
 #[derive(Clone, Copy)]
 pub enum TextVerdict {
     Unread(u8, u64),
-    Judged(Verdict),
+    Judged(Result<Verdict, Fault>),
 }
 
 // The verdict on any text, with the first dangerous walk at the front of the area. The rows of its places stand in `rows`; the other words are lent
@@ -127,8 +127,7 @@ pub fn text_verdict(
     let t = place_text::text_rows(text, state, lines, places, rows);
     let number = t.number;
     if number == 22 {
-        let v = Verdict::Refused(number);
-        return TextVerdict::Judged(v);
+        return TextVerdict::Judged(Err(Fault::Unfoldings));
     }
     if number != 0 {
         return TextVerdict::Unread(number, t.line);

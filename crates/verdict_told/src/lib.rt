@@ -3,7 +3,7 @@
 
 ghost use Rattle.std.specs.Prelude.{◌≡◌};
 ghost use Rattle.spec_report.specs.State.{counted};
-ghost use Rattle.verdict_told.specs.Told.{told};
+ghost use Rattle.verdict_told.specs.Told.{told, told_by};
 ghost use Rattle.verdict_told.specs.Found.{told_for};
 
 use refusal::Fault;
@@ -45,4 +45,11 @@ pub fn judged(
         None => Verdict::Robust(counts),
         Some(steps) => Verdict::Danger(counts, steps as u64),
     })
+}
+
+// The same with the number of a refusal, as reports and other languages are told it.
+pub fn numbered(v: Result<Verdict, Fault>) -> Result<Verdict, u8>
+    ensures { told_by result ≡ told v }
+{
+    v.map_err(Fault::number)
 }

@@ -9,7 +9,7 @@ pub returns-then-number-eq22 : goal.returns-then-number-eq22
 unfolding Lent
 returns-then-number-eq22 c =
     let placed = c.text_rows-t.ensures in record {
-      text_judged = text_large _ placed.text_placed c.if-number-eq22.true _ _ c.if-number-eq22.true;
+      text_judged = text_large _ placed.text_placed c.if-number-eq22.true _;
       lent = (placed.lent.0, placed.lent.1, placed.lent.2, record { rows = _; placed = placed.text_placed }, refl, refl, refl);
     }
 
@@ -23,18 +23,15 @@ returns-then-number-ne0 c =
 
 pub judge_table-v-requires : goal.judge_table-v-requires
 judge_table-v-requires c =
-    let tested = c in
-    let placed = tested.text_rows-t.ensures.text_placed in
-    let none_told = tested.if-number-ne0.false in
+    let placed = c.text_rows-t.ensures.text_placed in
+    let none_told = c.if-number-ne0.false in
     (search (rules, words_inside _ placed none_told), nodes_inside _ placed none_told, search rules, search rules)
 
 pub returns : goal.returns
 unfolding Lent
 returns c =
-    let judged = c in
-    let tested = judged in
-    let placed = tested.text_rows-t.ensures in
-    let lent = judged.judge_table-v.ensures.lent in record {
-      text_judged = text_word _ placed.text_placed tested.if-number-ne0.false _ judged.judge_table-v.ensures.rows_judged;
+    let placed = c.text_rows-t.ensures in
+    let lent = c.judge_table-v.ensures.lent in record {
+      text_judged = text_word _ placed.text_placed c.if-number-ne0.false _ c.judge_table-v.ensures.rows_judged;
       lent = (placed.lent.0, placed.lent.1, lent.0 ∙ placed.lent.2, record { rows = _; placed = placed.text_placed }, lent.1, lent.2, lent.3);
     }
