@@ -12,6 +12,7 @@ use export_edges::put_word;
 use export_word::{nodes_word, refusal_word, value_word, verdict_word};
 use spec_text::CELLS;
 use unfold::Unfolded;
+use verdict_told::numbered;
 
 pub fn stage_read(text: &[u8]) -> u32
     ensures { result ≡ read_word (given text.now) }
@@ -72,5 +73,5 @@ pub fn stage_verdict(text: &[u8], area: &mut [u64]) -> u32
     }
     let w = p.work;
     let v = verdict_of::verdict_of(w, area);
-    verdict_word(v)
+    verdict_word(numbered(v))
 }

@@ -1,6 +1,7 @@
 -- A stage's answer after a refused and after an accepted text.
 use mathlib.Core.List.{List}
-use Rattle.std.specs.Prelude.{◌≡◌, refl, ℕ}
+use Rattle.refusal.specs.declared.Fault.{Fault}
+use Rattle.std.specs.Prelude.{◌≡◌, refl, ℕ, Result}
 use Rattle.std.proofs.Common.{sym, ap₂, ◌∙◌, arith}
 use Rattle.std.proofs.Math.Path.{ap, subst}
 use Rattle.std.proofs.Math.Decide.{ℕ_discrete}
@@ -117,11 +118,11 @@ module _ (text : List ℕ) {before : List ℕ} {v : TextVerdict} {after : List �
           (verdict_refused text (is_read ∙ ap₂ refused same_number same_line) word)
       go (TextJudged.judged lines is_read u is said) = let z : ◌≡◌ {A = ℕ} 0 1 = cc in absurd (omega arith)
 
-  pub stage_judged : {u : Verdict} → v ≡ TextVerdict.Judged u → r ≡ verdict_word (told_by u) → VerdictStage (given text) before r after
+  pub stage_judged : {u : Result Verdict Fault} → v ≡ TextVerdict.Judged u → r ≡ verdict_word (told_by u) → VerdictStage (given text) before r after
   stage_judged {u} e word = go answered
     where
       go : TextJudged (read text) before v after → VerdictStage (given text) before r after
       go (TextJudged.unread m l is_read is kept) = let z : ◌≡◌ {A = ℕ} 0 1 = cc in absurd (omega arith)
       go (TextJudged.judged lines is_read x is said) =
           let same : u ≡ x = cc in
-          verdict_goes_on text is_read (record { told = told_by x; settled = said; word = word ∙ ap (λ (y : Verdict). verdict_word (told_by y)) same })
+          verdict_goes_on text is_read (record { told = told_by x; settled = said; word = word ∙ ap (λ (y : Result Verdict Fault). verdict_word (told_by y)) same })

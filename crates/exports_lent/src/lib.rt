@@ -25,6 +25,7 @@ use spec_text::{CELLS, Line, LineKind};
 use unfold::LastTold;
 use value_tables::{LINE_TABLE, LINE_WORDS};
 use verdict_of::TextVerdict;
+use verdict_told::numbered;
 
 // The values of the line in the middle of a table of so many lines, all 0 where there is none. Its kind is not told.
 fn middle_line(lines: &[u64], count: usize) -> Line
@@ -173,6 +174,6 @@ pub fn lent_verdict(
     );
     match told {
         TextVerdict::Unread(number, line) => refusal_word(number, line),
-        TextVerdict::Judged(v) => verdict_word(v),
+        TextVerdict::Judged(v) => verdict_word(numbered(v)),
     }
 }

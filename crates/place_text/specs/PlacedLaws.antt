@@ -1,5 +1,5 @@
 -- From what the parts promise to what is promised of a text's rows; and what the rows are good for.
-use Rattle.std.specs.Prelude.{true, ◌⊎◌, take}
+use Rattle.std.specs.Prelude.{true, ◌⊎◌, take, Result, Ok, Err}
 use Rattle.std.proofs.Math.Bool.{false}
 use Rattle.std.proofs.lemmas.Bool.{false≢true}
 use mathlib.Core.List.{List, ◌++◌}
@@ -21,8 +21,9 @@ use Rattle.spec_report.specs.State.{StateRefusal, statements_in, is_too_many}
 use Rattle.spec_report.specs.State.StateRefusal.{not_given, too_many, too_short, taken}
 use Rattle.spec_report.specs.Refusals.{not_both, taken_given}
 use Rattle.place_row.specs.RowTable.{rows_of, table_of}
+use Rattle.refusal.specs.declared.Fault.{Fault}
+use Rattle.refusal.specs.Numbers.{number_of}
 use Rattle.place_table.specs.declared.Rows.{Rows}
-use Rattle.place_table.specs.declared.Rows.TheVariants.{Refused, Filled}
 use Rattle.place_table.specs.Rows.{rows_said, RowsSettled}
 use Rattle.place_table.specs.Whole.{whole_filled}
 use Rattle.place_table.specs.LineRows.{LinesFilled}
@@ -35,17 +36,17 @@ use Rattle.place_text.specs.declared.TextRows.{TextRows}
 use Rattle.place_text.specs.Placed.{no_rows, rows_told, TextPlaced}
 use Rattle.place_text.specs.Placed.TextPlaced.{unread, large, placed}
 
-module _ (text : List ℕ) {lines : List Line} (is_read : read text ≡ accepted lines) {before : List ℕ} {f : Rows} {after : List ℕ}
+module _ (text : List ℕ) {lines : List Line} (is_read : read text ≡ accepted lines) {before : List ℕ} {f : Result Rows Fault} {after : List ℕ}
     (settled : RowsSettled (value_of lines) before f after) where
   same : lines_of (value_of lines) ≡ lines
   same = lines_of_value lines
 
   -- S22 is the only refusal of a value that was read
-  pub rows_refused : {n : ℕ} {r : TextRows} → f ≡ Refused n → r ≡ no_rows n 0 → TextPlaced (read text) before r after
+  pub rows_refused : {fault : Fault} {r : TextRows} → f ≡ Err fault → r ≡ no_rows (number_of fault) 0 → TextPlaced (read text) before r after
   unfolding rows_said
-  rows_refused {n} {r} e told = go settled
+  rows_refused {fault} {r} e told = go settled
     where
-      by_number : {o : Option ℕ} (m : ℕ) → o ≡ some m → StateRefusal (value_of lines) false o → n ≡ m → after ≡ before
+      by_number : {o : Option ℕ} (m : ℕ) → o ≡ some m → StateRefusal (value_of lines) false o → number_of fault ≡ m → after ≡ before
           → TextPlaced (read text) before r after
       by_number m q (not_given h) number kept = absurd (h (value_given text is_read))
       by_number m q (too_many g t) number kept =
@@ -55,29 +56,30 @@ module _ (text : List ℕ) {lines : List Line} (is_read : read text ≡ accepted
       by_number m q (taken g t s) number kept = absurd (not_both q refl)
 
       go : RowsSettled (value_of lines) before f after → TextPlaced (read text) before r after
-      go (RowsSettled.refused m refusal said kept) = by_number m refl refusal (let z : ◌≡◌ {A = ℕ ⊎ (ℕ × ℕ × ℕ)} (inl n) (inl m) = cc in cc) kept
+      go (RowsSettled.refused m refusal said kept) = by_number m refl refusal (let z : ◌≡◌ {A = ℕ ⊎ (ℕ × ℕ × ℕ)} (inl (number_of fault)) (inl m) = cc in cc) kept
       go (RowsSettled.filled refusal said stands) = absurd (let z : ◌≡◌ {A = ℕ} 0 1 = cc in omega arith)
 
   -- what is filled are the rows of the text
-  pub rows_placed : {programs nodes places : ℕ} {r : TextRows} → f ≡ Filled programs nodes places
-      → r ≡ record { number = 0; line = 0; programs = programs; nodes = nodes; words = places * 8 } → TextPlaced (read text) before r after
+  pub rows_placed : {rows : Rows} {r : TextRows} → f ≡ Ok rows
+      → r ≡ record { number = 0; line = 0; programs = rows.programs; nodes = rows.nodes; words = rows.places * 8 }
+      → TextPlaced (read text) before r after
   unfolding rows_said rows_told
-  rows_placed {programs} {nodes} {places} {r} e told = go settled
+  rows_placed {rows} {r} e told = go settled
     where
       go : RowsSettled (value_of lines) before f after → TextPlaced (read text) before r after
       go (RowsSettled.refused m refusal said kept) = absurd (let z : ◌≡◌ {A = ℕ} 0 1 = cc in omega arith)
       go (RowsSettled.filled refusal said stands) =
           let few = (taken_given refusal refl).1 in
-          let all : ◌≡◌ {A = ℕ × ℕ × ℕ} (programs, nodes, places)
+          let all : ◌≡◌ {A = ℕ × ℕ × ℕ} (rows.programs, rows.nodes, rows.places)
           (length (programs_of lines), length (nodes_of lines), statements_in (nodes_of lines)) = rw (← same) cc in
-          let words : places * 8 ≡ 8 * statements_in (nodes_of lines) = let p = ap (λ (t : ℕ × ℕ × ℕ). t.2) all in omega arith in
+          let words : rows.places * 8 ≡ 8 * statements_in (nodes_of lines) = let p = ap (λ (t : ℕ × ℕ × ℕ). t.2) all in omega arith in
           placed lines is_read (ap is_too_many (sym same) ∙ few)
           (told ∙ rw (ap (λ (t : ℕ × ℕ × ℕ). t.0) all, ap (λ (t : ℕ × ℕ × ℕ). t.1) all, words) refl)
           (stands
           ∙ ap (λ (l : List Line). table_of (rows_of (nodes_of l)) ++ drop (8 * statements_in (nodes_of l)) before) same)
 
   -- so many places have no more than 4096 words
-  pub few_places : {programs nodes places : ℕ} → f ≡ Filled programs nodes places → places ≤ 512
+  pub few_places : {rows : Rows} → f ≡ Ok rows → rows.places ≤ 512
   few_places e = (whole_filled settled e).short
 
 -- ---- from the table of a text's lines on
@@ -114,7 +116,7 @@ module _ (text : List ℕ) {lines₀ : List ℕ} {t : TextTable} {lines : List �
           (ls, is_read, omega arith, ap (take (t.count * 8)) stands ∙ take_at (line_table ls) _ (t.count * 8) (omega arith))
 
   -- their rows are the text's
-  pub rows_read : (none_told : t.number ≡ 0) → {places₀ before : List ℕ} {f : Rows} {places after : List ℕ}
+  pub rows_read : (none_told : t.number ≡ 0) → {places₀ before : List ℕ} {f : Result Rows Fault} {places after : List ℕ}
       → LinesFilled (take (t.count * 8) lines) places₀ before f places after → RowsSettled (value_of (lines_read_lem none_told).0) before f after
   rows_read none_told filled =
       let l = lines_read_lem none_told in filled.settled l.0 l.3 (value_given text l.1)

@@ -9,6 +9,7 @@ ghost use Rattle.place_text.specs.Placed.{no_rows, TextPlaced};
 
 use place_row::{ROW_WORDS, ROWS, TABLE_WORDS};
 use place_table::Rows;
+use refusal::Fault;
 use value_tables::{LINE_TABLE, LINE_WORDS};
 
 // What a text gives: the number and the line of its refusal; or number 0, how many programs and nodes it has, and how many words the rows of its
@@ -41,7 +42,7 @@ fn line_rows(
     words: usize,
     places: &mut [u64; ROWS],
     rows: &mut [u64; TABLE_WORDS],
-) -> Rows
+) -> Result<Rows, Fault>
     requires { words ≤ length lines.now }
     ensures { LinesFilled (take words lines.now) places.old rows.old result places.new rows.new }
 {
@@ -68,20 +69,16 @@ pub fn text_rows(
     }
     let f = line_rows(lines, t.count * LINE_WORDS, places, rows);
     match f {
-        Rows::Refused(refusal) => {
-            return without_rows(refusal, 0);
+        Err(fault) => {
+            return without_rows(fault.number(), 0);
         }
-        Rows::Filled {
-            programs,
-            nodes,
-            places,
-        } => {
+        Ok(filled) => {
             return TextRows {
                 number: 0,
                 line: 0,
-                programs,
-                nodes,
-                words: places as usize * ROW_WORDS,
+                programs: filled.programs,
+                nodes: filled.nodes,
+                words: filled.places as usize * ROW_WORDS,
             };
         }
     }

@@ -1,5 +1,6 @@
 -- The printed report of a text, case by case.
-use Rattle.std.specs.Prelude.{false, ◌↔◌, ◌≡◌, ℕ, ◌-◌, ◌/◌, length, replicate}
+use Rattle.refusal.specs.declared.Fault.{Fault}
+use Rattle.std.specs.Prelude.{Result, false, ◌↔◌, ◌≡◌, ℕ, ◌-◌, ◌/◌, length, replicate}
 use mathlib.Core.List.{List, ◌++◌}
 use Rattle.std.proofs.Math.Option.{Option, none, some}
 use Rattle.std.proofs.Math.Path.{refl, subst}
@@ -20,7 +21,7 @@ use Rattle.spec_report.specs.Report.Report.{refusal, unfolding_refusal, robust, 
 use Rattle.law_report.specs.ShownWalk.{first_short}
 use Rattle.law_report.specs.One.{the_report, report_is}
 use Rattle.verdict_told.specs.declared.Verdict.{Verdict}
-use Rattle.verdict_told.specs.Told.{Told, told as told_by}
+use Rattle.verdict_told.specs.Told.{Told, told as told_by, told_by as numbered}
 use Rattle.verdict_of.specs.Verdict.{Word, Judged}
 use Rattle.verdict_of.specs.Verdict.Word.{robust as robust_word_lem, danger as danger_word_lem}
 use Rattle.verdict_of.specs.Verdict.Judged.{refused as refused_answer, judged as judged_answer}
@@ -105,9 +106,9 @@ module _ (text : List ℕ) {before : List ℕ} {told : TextVerdict} {after : Lis
       go (judged_text lines is_read v is said) = let z : ◌≡◌ {A = ℕ} 0 1 = cc in absurd (omega arith)
 
   -- P1, P2, P3: with an area of 65 steps the verdict
-  pub reported_judged : {v : Verdict} → told ≡ TextVerdict.Judged v → length before ≡ 260 → r ≡ printed_as (bytes_for (told_by v) after)
-      → Reported text r
-  reported_judged {v} e long printed = go answered
+  pub reported_judged : {v : Result Verdict Fault} {n : Result Verdict ℕ} → told ≡ TextVerdict.Judged v → length before ≡ 260
+      → numbered n ≡ told_by v → r ≡ printed_as (bytes_for (numbered n) after) → Reported text r
+  reported_judged {v} e long same_word printed = go answered
     where
       go : TextJudged (read text) before told after → Reported text r
       go (not_read_lem m l is_read is kept) = let z : ◌≡◌ {A = ℕ} 0 1 = cc in absurd (omega arith)
@@ -115,8 +116,8 @@ module _ (text : List ℕ) {before : List ℕ} {told : TextVerdict} {after : Lis
           let same : u ≡ v = cc in
           reported_as
           (judged_reported text (is_read ∙ ap accepted (sym (lines_of_value lines))) (value_given text is_read) before long
-          (subst (λ (x : Verdict). Judged (value_of lines) before (told_by x) after) same said))
-          printed
+          (subst (λ (x : Result Verdict Fault). Judged (value_of lines) before (told_by x) after) same said))
+          (printed ∙ ap (λ (t : Told). printed_as (bytes_for t after)) same_word)
 
 -- ---- nothing is free
 

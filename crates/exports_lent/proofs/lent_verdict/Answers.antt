@@ -1,4 +1,6 @@
 -- A refused text gives its word (stage-unread); else the verdict gives its own (stage-judged).
+use Rattle.std.proofs.Common.{ap, ◌∙◌}
+use Rattle.export_word.specs.Word.{verdict_word}
 use Rattle.exports_lent.specs.StageLaws.{stage_unread, stage_judged}
 use Rattle.exports_lent.proofs.lent_verdict.Goals as goal
 
@@ -10,4 +12,7 @@ returns-in-Unread c =
 pub returns-in-Judged : goal.returns-in-Judged
 returns-in-Judged c =
     let judged = c.text_verdict-told.ensures in
-    record { verdict_stage = stage_judged _ judged.text_judged c.in-Judged.is c.verdict_word.ensures; lent = judged.lent }
+    record {
+      verdict_stage = stage_judged _ judged.text_judged c.in-Judged.is (c.verdict_word.ensures ∙ ap verdict_word c.numbered.ensures);
+      lent = judged.lent;
+    }

@@ -17,46 +17,38 @@ returns-then-number-ne0 c =
 
 pub overflow_mul-t : goal.overflow_mul-t
 overflow_mul-t c =
-    let c3 = c in
-    let few = (lines_read_lem _ c3.read_table-t.ensures.text_tabled c3.if-number-ne0.false).2 in
+    let few = (lines_read_lem _ c.read_table-t.ensures.text_tabled c.if-number-ne0.false).2 in
     record { fits = omega arith }
 
 pub line_rows-f-requires : goal.line_rows-f-requires
 line_rows-f-requires c =
-    let c5 = c in
-    let few = (lines_read_lem _ c5.read_table-t.ensures.text_tabled c5.if-number-ne0.false).2 in
+    let few = (lines_read_lem _ c.read_table-t.ensures.text_tabled c.if-number-ne0.false).2 in
     omega arith
 
-pub returns-in-Refused : goal.returns-in-Refused
+pub returns-in-Err : goal.returns-in-Err
 unfolding Lent
-returns-in-Refused c =
-    let c4 = c in
-    let c10 = c4 in
-    let tabled = c10.read_table-t.ensures.text_tabled in
-    let lent = c10.read_table-t.ensures.lent in
-    let filled = c4.line_rows-f.ensures in record {
-      text_placed = rows_refused _ (lines_read_lem _ tabled c10.if-number-ne0.false).1 (rows_read _ tabled c10.if-number-ne0.false filled) c.in-Refused.is
-          c.without_rows-in-Refused.ensures;
+returns-in-Err c =
+    let tabled = c.read_table-t.ensures.text_tabled in
+    let lent = c.read_table-t.ensures.lent in
+    let filled = c.line_rows-f.ensures in record {
+      text_placed = rows_refused _ (lines_read_lem _ tabled c.if-number-ne0.false).1 (rows_read _ tabled c.if-number-ne0.false filled) c.in-Err.is
+          c.without_rows-in-Err.ensures;
       lent = (lent.0, lent.1, filled.lent);
     }
 
 pub overflow_mul-result : goal.overflow_mul-result
 overflow_mul-result c =
-    let c3 = c in
-    let c9 = c3 in
-    let tabled = c9.read_table-t.ensures.text_tabled in
-    let few = few_places _ (lines_read_lem _ tabled c9.if-number-ne0.false).1 (rows_read _ tabled c9.if-number-ne0.false c3.line_rows-f.ensures)
-    c.in-Filled.is in
+    let tabled = c.read_table-t.ensures.text_tabled in
+    let few = few_places _ (lines_read_lem _ tabled c.if-number-ne0.false).1 (rows_read _ tabled c.if-number-ne0.false c.line_rows-f.ensures)
+    c.in-Ok.is in
     record { fits = omega arith }
 
-pub returns-in-Filled : goal.returns-in-Filled
+pub returns-in-Ok : goal.returns-in-Ok
 unfolding Lent
-returns-in-Filled c =
-    let c3 = c in
-    let c9 = c3 in
-    let tabled = c9.read_table-t.ensures.text_tabled in
-    let lent = c9.read_table-t.ensures.lent in
-    let filled = c3.line_rows-f.ensures in record {
-      text_placed = rows_placed _ (lines_read_lem _ tabled c9.if-number-ne0.false).1 (rows_read _ tabled c9.if-number-ne0.false filled) c.in-Filled.is refl;
+returns-in-Ok c =
+    let tabled = c.read_table-t.ensures.text_tabled in
+    let lent = c.read_table-t.ensures.lent in
+    let filled = c.line_rows-f.ensures in record {
+      text_placed = rows_placed _ (lines_read_lem _ tabled c.if-number-ne0.false).1 (rows_read _ tabled c.if-number-ne0.false filled) c.in-Ok.is refl;
       lent = (lent.0, lent.1, filled.lent);
     }
