@@ -1,5 +1,5 @@
 -- Edges put into a list. Believed: `put_said` and `PutAs`.
-use Rattle.std.specs.Prelude.{◌≡◌, Bool, cond, ◌⊎◌, List, Result, Ok, Err, ◌++◌, map, ℕ, ◌+◌, ◌≤◌, ◌<◌, length, take, drop}
+use Rattle.std.specs.Prelude.{◌≡◌, Bool, cond, ◌⊎◌, List, Result, Ok, Err, ◌++◌, map, ℕ, ◌≤◌, ◌<◌, length, take, drop}
 use Rattle.std.proofs.Common.{inl, inr}
 use Rattle.spec_graph.specs.Edge as E
 use Rattle.edge_record.specs.declared.Edge.{Edge}
