@@ -201,7 +201,8 @@ module _ (table : List ℕ) (p : Row) where
     forwards_kept = λ limit words e.
         ap (kept_row limit row_forward_word table p words) (add-one j)
         ∙ ap (λ (l : List ℕ). kept_between limit p q l (row_forward_word p q)) (h.forwards_kept limit words e)
-        ∙ between_alike limit p q s (kept_between limit p s (kept_row limit row_forward_word table p words first) (forward_mark p f)) (row_forward_word p q)
+        ∙ between_alike limit p q s (kept_between limit p s (kept_row limit row_forward_word table p words first) (forward_mark p f))
+        (row_forward_word p q)
         run.node_is run.entries_are
         ∙ between_twice limit p s (kept_row limit row_forward_word table p words first) (forward_mark p f) (row_forward_word p q)
         (row_length limit row_forward_word table p words first ∙ e)
@@ -368,7 +369,8 @@ run_straight {table} {work} {n} {p} {at = at} rows worked h e filled =
     few = rows_most table rows
 
     go : ((along_of table n j (next_on table n j) ≡ next_on table n j * 8) × (next_on table n j < n)
-        × (goes_on (row_at table j) (row_at table (next_on table n j)) ≡ true)) ⊎ (along_of table n j (next_on table n j) ≡ 4096 + next_on table n j * 8)
+        × (goes_on (row_at table j) (row_at table (next_on table n j)) ≡ true))
+        ⊎ (along_of table n j (next_on table n j) ≡ 4096 + next_on table n j * 8)
         → at + 8 < 4096
     go (inl s) = let x = s.0 in let y = s.1 in omega (arith, straight, few)
     go (inr s) =
@@ -487,7 +489,8 @@ run_apart {table} {n = n} {p} {j = j} {next} known other e = record {
   later = let l = low in omega arith;
   inside = let l = next_inside table p known.rows known.inside known.chain in omega arith;
   chain = λ l. ap (chain_of table) e ∙ next_chain table p known.rows known.inside known.chain (omega arith);
-  kept = subst (λ (x : ℕ). RunKept table p j x 0 0 0 0) (sym e) (run_skip table p (next_on table n j) (omega (arith, low)) apart (run_none table p j));
+  kept = subst (λ (x : ℕ). RunKept table p j x 0 0 0 0) (sym e)
+      (run_skip table p (next_on table n j) (omega (arith, low)) apart (run_none table p j));
 }
   where
     low : j + 1 ≤ next_on table n j

@@ -15,8 +15,8 @@ returns c =
       rows_judged = judged_picked _ _ _ _ _ _ entry.requires.0 entry.requires.1 picked.pick_edges-c.ensures.picked_as
           found.find_walk-found.ensures.walk_answered c.judged.ensures;
       lent = (
-        picked.pick_edges-c.ensures.lent,
-        found.find_walk-found.ensures.lent ∙ picked.pick_edges-c.ensures.lent_2,
+        picked.pick_edges-c.ensures.next_lent,
+        found.find_walk-found.ensures.lent ∙ picked.pick_edges-c.ensures.work_lent,
         search rules,
         search rules,
       );

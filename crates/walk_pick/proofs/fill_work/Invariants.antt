@@ -9,7 +9,4 @@ use Rattle.walk_pick.specs.WorkLaws.{worked_none, worked_turn, worked_all, next_
 use Rattle.walk_pick.proofs.fill_work.Given as goal
 
 abbrev pub invariant-loop-j : goal.invariant-loop-j
-invariant-loop-j l = (l.j ≤ l.n) × Worked l.table l.n l.j l.work
-
-abbrev pub decreases-loop-j : goal.decreases-loop-j
-decreases-loop-j l = l.n - l.j
+invariant-loop-j l = Worked l.table l.n l.j l.work

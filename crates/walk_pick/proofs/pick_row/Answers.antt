@@ -23,51 +23,41 @@ loop-j-init c = row_started c.requires c.head_of-j.ensures
 pub pick_run-t-requires : goal.pick_run-t-requires
 pick_run-t-requires c =
     let known = c.requires in
-    let words = c in
     let inv = c.loop-j.invariant in
     let l = c.loop-j-test.true in
     let tables = row_tables known.forwards_for known.backs_for inv.2 in
     record {
-      known = record { rows = known.rows; worked = known.worked; left_is = words.left_words-l.ensures; inside = l; chain = inv.1 l };
-      never_is = words.never_back-never.ensures;
-      loose_is = words.kind_has-loose.ensures;
+      known = record { rows = known.rows; worked = known.worked; left_is = c.left_words-words.ensures; inside = l; chain = inv.1 l };
+      never_is = c.never_back-never.ensures;
+      loose_is = c.kind_has-loose.ensures;
       forwards_for = tables.0;
       backs_for = tables.1;
     }
 
 pub overflow_add-edges : goal.overflow_add-edges
 overflow_add-edges c =
-    let c6 = c in
-    let c12 = c6 in
-    let c18 = c12 in
-    let known = c18.requires in
+    let known = c.requires in
     let few = rows_most _ known.rows in
     let added = c.pick_run-t.ensures in
-    let h = row_most (row_run known.forwards_for known.backs_for c6.loop-j.invariant.2 added) in
+    let h = row_most (row_run known.forwards_for known.backs_for c.loop-j.invariant.2 added) in
     let l = added.ran.inside in
     record { fits = omega (arith, h.0) }
 
 pub overflow_add-edges-in-loop-j : goal.overflow_add-edges-in-loop-j
 overflow_add-edges-in-loop-j c =
-    let c6 = c in
-    let c12 = c6 in
-    let c18 = c12 in
-    let known = c18.requires in
+    let known = c.requires in
     let few = rows_most _ known.rows in
     let added = c.pick_run-t.ensures in
-    let h = row_most (row_run known.forwards_for known.backs_for c6.loop-j.invariant.2 added) in
+    let h = row_most (row_run known.forwards_for known.backs_for c.loop-j.invariant.2 added) in
     let l = added.ran.inside in
     record { fits = omega (arith, h.0) }
 
 pub overflow_add-back : goal.overflow_add-back
 overflow_add-back c =
-    let c6 = c in
-    let c12 = c6 in
-    let c18 = c12 in
-    let known = c18.requires in
+    let known = c.requires in
     let few = rows_most _ known.rows in
-    let added = c6.pick_run-t.ensures in
-    let h = row_most (row_run known.forwards_for known.backs_for c6.loop-j.invariant.2 added) in
+    let added = c.pick_run-t.ensures in
+    let h = row_most (row_run known.forwards_for known.backs_for c.loop-j.invariant.2 added) in
     let l = added.ran.inside in
     record { fits = omega (arith, h.1) }
 
@@ -81,14 +71,11 @@ loop-j-smaller c =
 
 pub loop-j-preserved : goal.loop-j-preserved
 loop-j-preserved c =
-    let c6 = c in
-    let c12 = c6 in
-    let c18 = c12 in
-    let known = c18.requires in
-    let added = c6.pick_run-t.ensures in (
+    let known = c.requires in
+    let added = c.pick_run-t.ensures in (
       added.ran.inside,
       added.ran.chain,
-      row_run known.forwards_for known.backs_for c6.loop-j.invariant.2 added,
+      row_run known.forwards_for known.backs_for c.loop-j.invariant.2 added,
     )
 
 pub returns : goal.returns

@@ -14,7 +14,4 @@ use Rattle.walk_pick.proofs.pick_rows.Given as goal
 
 abbrev pub invariant-loop-i : goal.invariant-loop-i
 invariant-loop-i l =
-    (l.i ≤ l.n) × RowsKept l.limit l.table l.n l.i l.forwards l.backs l.edges l.back
-
-abbrev pub decreases-loop-i : goal.decreases-loop-i
-decreases-loop-i l = l.n - l.i
+    RowsKept l.limit l.table l.n l.i l.forwards l.backs l.edges l.back

@@ -16,8 +16,5 @@ run_from-t-requires c =
 
 pub returns : goal.returns
 returns c =
-    let c6 = c in
-    let ran = c6 in
-    let start = ran in
-    run_added ran.run_from-t.ensures ran.whole_row-q.ensures start.requires.loose_is
-    refl c6.keep_forward.ensures refl c.keep_back.ensures
+    run_added c.run_from-t.ensures c.whole_row-q.ensures c.requires.loose_is
+    refl c.keep_forward.ensures refl c.keep_back.ensures

@@ -25,8 +25,6 @@ straight_of-straight-requires c =
 
 pub returns : goal.returns
 returns c =
-    let straight = c in
-    let made = straight in
     c.put_row.ensures
-    ∙ ap (row_put _ _) (work_words_lem _ _ _ _ made.along_of-along.ensures made.whole_row-q.ensures made.entered_words-e.ensures
-    straight.straight_of-straight.ensures)
+    ∙ ap (row_put _ _) (work_words_lem _ _ _ _ c.along_of-along.ensures c.whole_row-q.ensures c.entered_words-e.ensures
+    c.straight_of-straight.ensures)

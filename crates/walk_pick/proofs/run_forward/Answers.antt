@@ -25,8 +25,8 @@ loop-at-init c =
     let size = pre.0.worked.size in
     (omega arith, run_first pre.0.inside pre.0.chain pre.1 refl)
 
-pub straight_forward-s-requires : goal.straight_forward-s-requires
-straight_forward-s-requires c =
+pub straight_forward-far-requires : goal.straight_forward-far-requires
+straight_forward-far-requires c =
     let pre = c.requires in
     let inv = c.loop-at.invariant in
     (pre.0, pre.1, pre.2, record { inside = c.loop-at-test.true; last_inside = inv.0; run = inv.1 })
@@ -34,14 +34,13 @@ straight_forward-s-requires c =
 pub entered_at-q-requires : goal.entered_at-q-requires
 entered_at-q-requires c =
     let known = c.requires.0 in
-    let s = c.straight_forward-s.ensures.0 in
+    let s = c.straight_forward-far.ensures.0 in
     here_fits known.rows known.worked (here s.run s.inside)
 
 pub overflow_add-edges : goal.overflow_add-edges
 overflow_add-edges c =
-    let c5 = c in
-    let known = c5.requires.0 in
-    let s = c5.straight_forward-s.ensures.0 in
+    let known = c.requires.0 in
+    let s = c.straight_forward-far.ensures.0 in
     let h = here s.run s.inside in
     let few = rows_most _ known.rows in
     let l = h.inside in
@@ -51,27 +50,24 @@ overflow_add-edges c =
 
 pub along_at-at-requires : goal.along_at-at-requires
 along_at-at-requires c =
-    let c5 = c in
-    let known = c5.requires.0 in
-    let s = c5.straight_forward-s.ensures.0 in
+    let known = c.requires.0 in
+    let s = c.straight_forward-far.ensures.0 in
     here_fits known.rows known.worked (here s.run s.inside)
 
 pub loop-at-smaller : goal.loop-at-smaller
 loop-at-smaller c =
-    let c6 = c in
-    let known = c6.requires.0 in
-    let s = c6.straight_forward-s.ensures in
+    let known = c.requires.0 in
+    let s = c.straight_forward-far.ensures in
     let later = s.1 in
     let less = run_less known.rows known.worked (here s.0.run s.0.inside) c.along_at-at.ensures in
     omega (arith, less.0, less.1)
 
 pub loop-at-preserved : goal.loop-at-preserved
 loop-at-preserved c =
-    let c6 = c in
-    let pre = c6.requires in
+    let pre = c.requires in
     let known = pre.0 in
-    let far = c6.straight_forward-s.result in
-    let s = c6.straight_forward-s.ensures.0 in
+    let far = c.straight_forward-far.result in
+    let s = c.straight_forward-far.ensures.0 in
     let h = here s.run s.inside in
     let stands = c.forward_meets-f in
     let last = c.last_if-last.ensures in

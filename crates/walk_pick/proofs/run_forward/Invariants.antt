@@ -13,7 +13,7 @@ use Rattle.walk_pick.proofs.run_forward.Given as goal
 
 abbrev pub invariant-loop-at : goal.invariant-loop-at
 invariant-loop-at l =
-    (l.last + 8 ≤ length l.work) × RunAt l.table l.n l.p l.j l.at (last_mark l.work l.last l.edges) 0 l.edges 0
+    (l.last + 8 ≤ length l.s.work.now) × RunAt l.s.table.now l.s.count l.s.row l.j l.at (last_mark l.s.work.now l.last l.edges) 0 l.edges 0
 
 abbrev pub decreases-loop-at : goal.decreases-loop-at
 decreases-loop-at l = 8192 - l.at

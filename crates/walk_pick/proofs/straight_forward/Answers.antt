@@ -21,20 +21,19 @@ straight_at-straight-requires c =
 pub loop-straight-init : goal.loop-straight-init
 loop-straight-init c =
     let pre = c.requires in
-    (pre.3.last_inside, c.straight_at-straight.ensures, omega arith, pre.3.inside, λ p known same never begun. begun)
+    (pre.3.last_inside, c.straight_at-straight.ensures, omega arith, pre.3.inside, pre.3.run)
 
 pub entered_at-q-requires : goal.entered_at-q-requires
 entered_at-q-requires c =
     let pre = c.requires in
     let inv = c.loop-straight.invariant in
-    here_fits pre.0.rows pre.0.worked (here (inv.4 _ pre.0 pre.1 pre.2 pre.3.run) inv.3)
+    here_fits pre.0.rows pre.0.worked (here inv.4 inv.3)
 
 pub overflow_add-edges : goal.overflow_add-edges
 overflow_add-edges c =
-    let c5 = c in
-    let pre = c5.requires in
-    let inv = c5.loop-straight.invariant in
-    let h = here (inv.4 _ pre.0 pre.1 pre.2 pre.3.run) inv.3 in
+    let pre = c.requires in
+    let inv = c.loop-straight.invariant in
+    let h = here inv.4 inv.3 in
     let few = rows_most _ pre.0.rows in
     let l = h.inside in
     let most = run_most h.kept in
@@ -48,10 +47,9 @@ overflow_add-at c =
 
 pub straight_at-straight-requires-in-loop-straight : goal.straight_at-straight-requires-in-loop-straight
 straight_at-straight-requires-in-loop-straight c =
-    let c5 = c in
-    let pre = c5.requires in
-    let inv = c5.loop-straight.invariant in
-    let h = here (inv.4 _ pre.0 pre.1 pre.2 pre.3.run) inv.3 in
+    let pre = c.requires in
+    let inv = c.loop-straight.invariant in
+    let h = here inv.4 inv.3 in
     let on = run_straight pre.0.rows pre.0.worked h inv.1 c.loop-straight-test.true in
     let low = on.1 in
     let size = pre.0.worked.size in
@@ -65,25 +63,23 @@ loop-straight-smaller c =
 
 pub loop-straight-preserved : goal.loop-straight-preserved
 loop-straight-preserved c =
-    let test = c in
-    let turn = test.loop-straight in
+    let turn = c.loop-straight in
     let inv = turn.invariant in
-    let pre = test.requires in
+    let pre = c.requires in
     let stands = c.forward_meets-f in
-    let first = here (inv.4 _ pre.0 pre.1 pre.2 pre.3.run) inv.3 in
+    let first = here inv.4 inv.3 in
     let fits = here_fits pre.0.rows pre.0.worked first in
     let from = inv.2 in (
       last_fits _ stands.result turn.at turn.last c.last_if-last.ensures fits inv.0,
       c.straight_at-straight-in-loop-straight.ensures,
       omega arith,
-      (run_straight pre.0.rows pre.0.worked first inv.1 test.loop-straight-test.true).1,
-      λ p known same never begun.
-          let h = here (inv.4 p known same never begun) inv.3 in
+      (run_straight pre.0.rows pre.0.worked first inv.1 c.loop-straight-test.true).1,
+      let known = pre.0 in
           let entered = c.entered_at-q.ensures in
-          let on = run_straight known.rows known.worked h inv.1 test.loop-straight-test.true in
-          run_again known.rows known.worked h on.0
-          (told_forward known.worked known.left_is h entered stands.ensures)
-          (told_never known.worked known.left_is h entered never)
+          let on = run_straight known.rows known.worked first inv.1 c.loop-straight-test.true in
+          run_again known.rows known.worked first on.0
+          (told_forward known.worked known.left_is first entered stands.ensures)
+          (told_never known.worked known.left_is first entered pre.2)
           refl
           (last_turn _ stands.result turn.at turn.last _ c.last_if-last.ensures c.one_if-edges.ensures.0) refl
           c.one_if-edges.ensures.0 refl,
@@ -93,4 +89,4 @@ pub returns : goal.returns
 returns c =
     let pre = c.requires in
     let inv = c.loop-straight.invariant in
-    (record { inside = inv.3; last_inside = inv.0; run = inv.4 _ pre.0 pre.1 pre.2 pre.3.run }, inv.2)
+    (record { inside = inv.3; last_inside = inv.0; run = inv.4 }, inv.2)
