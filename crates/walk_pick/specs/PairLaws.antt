@@ -1,5 +1,5 @@
 -- What the code does with one row after the other.
-use Rattle.std.specs.Prelude.{◌≡◌, refl, Bool, true, false, cond, ◌&&◌, List, ◌++◌, ℕ, zero, suc, ◌+◌, ◌*◌, ◌≤◌, ◌<◌, eqb, ltb, length, get_or, take}
+use Rattle.std.specs.Prelude.{◌≡◌, refl, Bool, true, false, cond, ◌&&◌, List, ◌++◌, ℕ, zero, suc, ◌+◌, ◌*◌, ◌≤◌, ◌<◌, ltb, length, get_or, take}
 use Rattle.std.specs.Prelude.{drop, replicate}
 use Rattle.std.proofs.Common.{sym, ap, ap₂, subst, ◌∙◌, zero-le, suc-mul, add-one, arith, length-take-le, ext_get_or, ltb-true, le-ltb}
 use Rattle.std.proofs.lemmas.List.{length-replicate, get_or-replicate}

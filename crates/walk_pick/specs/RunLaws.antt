@@ -7,7 +7,7 @@ use mathlib.Core.List.{List}
 use Prim.Native.Nat.{ℕ, zero, suc, ◌+◌, ◌-◌, ◌*◌, ◌/◌, ◌%◌, ◌≤◌, ◌<◌, max, zero-le}
 use native.Mathlib.Omega.{arith}
 use Rattle.std.proofs.lemmas.Bool.{eqb-false}
-use Rattle.law_base.specs.BoolLaws.{decide, and_true, and_left}
+use Rattle.law_base.specs.BoolLaws.{decide, and_true}
 use Rattle.spec_base.specs.Basic.{meets}
 use Rattle.spec_graph.specs.Edge.{loosens}
 use Rattle.edge_kinds.specs.Kinds.{kind_facts, loose_bit}
@@ -17,15 +17,15 @@ use Rattle.place_next.specs.Chains.{chain_of, on_chain}
 use Rattle.place_next.specs.ChainLaws.{on_low, on_high, on_same, on_relation, rows_most}
 use Rattle.edge_pair.specs.declared.Left.{Left}
 use Rattle.edge_pair.specs.declared.Entered.{Entered}
-use Rattle.edge_pair.specs.PairWords.{left_of, entered_of, forward_words, back_words, never_back}
+use Rattle.edge_pair.specs.PairWords.{left_of, forward_words, back_words, never_back}
 use Rattle.edge_pair.specs.PairLaws.{forward_words_lem, back_words_lem, never_words}
 use Rattle.edge_word.specs.Coding.{forward_word, back_word}
 use Rattle.edge_count.specs.Slots.{pair_counts}
 use Rattle.walk_pick.specs.declared.Run.{Run}
 use Rattle.walk_pick.specs.Picks.{row_forward_word, row_back_word}
-use Rattle.walk_pick.specs.PickSteps.{kept_at, has_entries, kept_between, kept_pair, kept_row, sum_below, edges_at, back_at, row_sum, Tables, RowKept}
+use Rattle.walk_pick.specs.PickSteps.{kept_at, has_entries, kept_between, kept_row, sum_below, edges_at, back_at, row_sum, Tables, RowKept}
 use Rattle.walk_pick.specs.PairLaws.{entries_small, none_kept, sum_most, counts_few, loose_told}
-use Rattle.walk_pick.specs.PickStepLaws.{kept_at_lem, kept_length, between_length, row_length}
+use Rattle.walk_pick.specs.PickStepLaws.{kept_at_lem, kept_length, row_length}
 use Rattle.walk_pick.specs.Runs.{next_on, goes_on, along_of, mark_of, entered_at, last_mark, Worked, forward_mark, back_mark}
 use Rattle.walk_pick.specs.Runs.{RunKept, NotPast, InRun, Standing, RunAt, RunKnown, Ran, RunAdded, RowKnown}
 use Rattle.walk_pick.specs.WorkLaws.{worked_entered, worked_mark, worked_straight, worked_along, along_either, goes_on_lem}

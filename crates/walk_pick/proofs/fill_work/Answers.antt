@@ -1,10 +1,7 @@
 -- After j rows their words stand (worked-turn); the next row on a chain is known.
-use mathlib.Core.Path.{refl, sym, ◌∙◌}
-use Prim.Native.Nat.{◌-◌, ◌≤◌}
+use mathlib.Core.Path.{refl}
 use native.Mathlib.Omega.{arith}
-use borrow.Author.Rules.{rules}
 use Rattle.place_next.specs.ChainLaws.{rows_most}
-use Rattle.walk_pick.specs.Runs.{Worked}
 use Rattle.walk_pick.specs.WorkLaws.{worked_none, worked_turn, worked_all, next_most}
 use Rattle.walk_pick.proofs.fill_work.Goals as goal
 

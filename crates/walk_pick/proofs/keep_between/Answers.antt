@@ -2,7 +2,6 @@
 use Rattle.walk_pick.specs.PairLaws.{entries_small, between_in, left_out, right_out}
 use native.Mathlib.Omega.{arith}
 use mathlib.Core.Path.{sym, ◌∙◌}
-use borrow.Author.Rules.{rules}
 use Rattle.walk_pick.proofs.keep_between.Goals as goal
 
 pub overflow_mul-x : goal.overflow_mul-x

@@ -1,7 +1,6 @@
 -- A mark that is not 0 has its word, which is kept; 0 has the word 0, and that changes nothing (none_kept).
 use mathlib.Core.Path.{refl}
 use borrow.Author.Tests.{eq-eqb, ne_eqb}
-use borrow.Author.Rules.{rules}
 use Rattle.walk_pick.specs.PairLaws.{none_kept}
 use Rattle.walk_pick.proofs.keep_forward.Goals as goal
 

@@ -1,6 +1,6 @@
 -- The fronts of the two areas are tables for as many nodes as both have room for (front-tables); filled, with the rest of the areas behind, they
 -- are what is promised (picked-as).
-use mathlib.Core.Path.{refl, sym, ap, ◌∙◌}
+use mathlib.Core.Path.{sym, ap, ◌∙◌}
 use Prim.Native.Nat.{min}
 use lib.Seq.{length-take-le}
 use Rattle.walk_pick.specs.Picks.{room_in}

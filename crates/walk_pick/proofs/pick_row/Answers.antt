@@ -1,11 +1,6 @@
 -- From the first row of the chain on (row-begun) run after run is kept (row-run); past the last one that is the whole row (row_read).
-use mathlib.Core.Path.{◌≡◌, sym, ◌∙◌}
-use Prim.Native.Nat.{◌%◌, ◌-◌, ◌≤◌, ◌<◌}
 use native.Mathlib.Omega.{arith}
-use borrow.Author.Rules.{rules}
-use Rattle.place_next.specs.Chains.{chain_of}
 use Rattle.place_next.specs.ChainLaws.{rows_most}
-use Rattle.walk_pick.specs.PickSteps.{RowKept}
 use Rattle.walk_pick.specs.PairLaws.{row_whole, row_most, row_read}
 use Rattle.walk_pick.specs.PickStepLaws.{row_tables}
 use Rattle.walk_pick.specs.RunLaws.{row_run, row_started, head_few}

@@ -2,14 +2,11 @@
 -- and the numbers count their edges (rows-turn); after the last row they are filled (all-picked).
 use Rattle.edge_count.specs.SlotLaws.{rows_few}
 use Rattle.lent_words.specs.Lent.{Lent}
-use Rattle.walk_pick.specs.PickSteps.{RowsKept}
 use Rattle.walk_pick.specs.PairLaws.{rows_first, rows_turn, rows_most, row_most}
 use Rattle.walk_pick.specs.PickStepLaws.{rows_tables, all_picked}
 use Rattle.walk_pick.specs.WorkLaws.{next_known, heads_known}
-use borrow.Author.Rules.{rules}
 use native.Mathlib.Omega.{arith}
 use mathlib.Core.Path.{sym, ◌∙◌}
-use Prim.Native.Nat.{◌-◌, ◌≤◌}
 use Rattle.walk_pick.proofs.pick_rows.Goals as goal
 
 pub overflow_mul-limit : goal.overflow_mul-limit

@@ -1,6 +1,5 @@
 -- The run tells the marks of its last edges; their words are kept for the nodes of the two rows (run-added).
 use mathlib.Core.Path.{ap, refl}
-use borrow.Author.Rules.{rules}
 use Rattle.place_row.specs.declared.Row.{Row}
 use Rattle.walk_pick.specs.PairLaws.{row_whole}
 use Rattle.walk_pick.specs.RunLaws.{run_added}

@@ -1,7 +1,6 @@
 -- The words that are put are those of the row as one that is entered, with its mark and where its run goes on (work-words).
 use mathlib.Core.Path.{◌∙◌, ap}
 use native.Mathlib.Omega.{arith}
-use borrow.Author.Rules.{rules}
 use Rattle.place_next.specs.ChainLaws.{rows_most}
 use Rattle.word_rows.specs.Put.{row_put}
 use Rattle.walk_pick.specs.PairLaws.{row_whole}

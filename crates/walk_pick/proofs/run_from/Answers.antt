@@ -1,6 +1,5 @@
 -- The relation and the words of the row that is left decide which of the three ways the run is gone.
 use mathlib.Core.Path.{sym, ◌∙◌}
-use borrow.Author.Rules.{rules}
 use Rattle.walk_pick.proofs.run_from.Goals as goal
 
 pub run_forward-requires : goal.run_forward-requires

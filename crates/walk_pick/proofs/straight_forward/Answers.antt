@@ -1,15 +1,7 @@
 -- While the run goes on right after a row's words, the words of its next row stand there (run-straight), and the run is kept row by row (run-again).
-use mathlib.Core.Path.{◌≡◌, refl, ◌∙◌}
-use mathlib.Core.Bool.{true}
-use Prim.Native.Nat.{ℕ, ◌+◌, ◌-◌, ◌≤◌, ◌<◌}
+use mathlib.Core.Path.{refl}
 use native.Mathlib.Omega.{arith}
-use lib.ListN.{length, get_or}
-use borrow.Author.Rules.{rules}
-use Rattle.place_row.specs.declared.Row.{Row}
-use Rattle.place_row.specs.RowTable.{row_at}
 use Rattle.place_next.specs.ChainLaws.{rows_most}
-use Rattle.edge_pair.specs.PairWords.{never_back}
-use Rattle.walk_pick.specs.Runs.{RunAt, RunKnown, last_mark}
 use Rattle.walk_pick.specs.RunLaws.{here, here_fits, run_most, run_straight, run_again, last_turn, last_fits, told_forward, told_never}
 use Rattle.walk_pick.proofs.straight_forward.Goals as goal
 
