@@ -11,7 +11,6 @@ use Rattle.edge_pair.specs.declared.Left.{Left}
 use Rattle.edge_pair.specs.declared.Entered.{Entered}
 use Rattle.edge_pair.specs.PairWords.{left_of, entered_of, never_back}
 use Rattle.edge_word.specs.Coding.{forward_word, back_word}
-use Rattle.walk_pick.specs.declared.Leaving.{Leaving}
 use Rattle.walk_pick.specs.declared.Run.{Run}
 use Rattle.walk_pick.specs.declared.Stretch.{Stretch}
 use Rattle.walk_pick.specs.Picks.{row_forward_word, row_back_word}
@@ -125,10 +124,6 @@ pub record RunKnown (table : List ℕ) (n : ℕ) (p : Row) (l : Left) (work : Li
   pub left_is : l ≡ left_of p
   pub inside : j < n
   pub chain : chain_of table j ≡ p.relation % 64
-
--- the same of a row with what hangs on it
-abbrev pub RunFrom : Leaving → ℕ → Type 0
-RunFrom s j = RunKnown s.table.now s.count s.row s.words s.work.now j
 
 -- so far along a run without back edges, at a row of it
 pub record StretchAt (table : List ℕ) (n : ℕ) (p : Row) (work : List ℕ) (j : ℕ) (s : Stretch) : Type 0 where

@@ -8,15 +8,19 @@ ghost use Rattle.word_rows.specs.Put.{row_put};
 ghost use Rattle.spec_base.specs.Basic.{meets};
 ghost use Rattle.edge_pair.specs.PairWords.{forward_words, back_words, never_back};
 ghost use Rattle.walk_pick.specs.Picks.{PickedAs};
-ghost use Rattle.walk_pick.specs.PickSteps.{kept_at, kept_between, has_entries, RowAdded, RowsAdded, Tables, WholeRow};
+ghost use Rattle.walk_pick.specs.PickSteps.{kept_at, kept_between, has_entries, RowKept, RowAdded, RowsAdded, Tables, WholeRow};
 ghost use Rattle.walk_pick.specs.Runs.{goes_on, along_of, work_words, entered_at, last_mark, Worked, NextKnown};
-ghost use Rattle.walk_pick.specs.Runs.{RunFrom, StretchAt, Ran, PickKnown, RunAdded, RowKnown, TableKnown};
+ghost use Rattle.walk_pick.specs.Runs.{RunAdded, RowKnown, TableKnown};
+ghost use Rattle.walk_pick.specs.Leavings.{OnChain, Related, StretchOf, RanFrom, ChainAt};
 ghost use Rattle.place_row.specs.RowTable.{row_at, row_count};
+
+mod leaving;
 
 use edge_count::Counts;
 use edge_kinds::{LOOSE, kind_has, kind_of};
 use edge_pair::{Entered, Left, entered_words, left_words};
 use edge_word::{NODES, PLACES, back_word, forward_word};
+use leaving::Leaving;
 use place_fetch::row_count;
 use place_next::chain_rows;
 use place_row::{
@@ -43,19 +47,6 @@ struct Stretch {
     at: usize,
     last: usize,
     edges: usize,
-}
-
-// A row that edges leave, in its table with the words of all rows: what hangs on this row alone is worked out once for all rows that it meets. It is
-// told how many rows there are, its words as one that is left, whether back edges never leave it and whether it is loose (W4).
-#[derive(Clone, Copy)]
-struct Leaving<'a> {
-    table: &'a [u64],
-    count: usize,
-    work: &'a [u64],
-    row: Row,
-    words: Left,
-    never: bool,
-    loose: bool,
 }
 
 // Words of rows stand below this; past it stands where a chain goes on after a run.
@@ -281,9 +272,8 @@ fn last_mark(work: &[u64], last: usize, edges: usize) -> u64
 // The edges from a row to the rows of a run whose words stand right one after the other, but the last of these. The next place is added up and not
 // fetched, so that no row waits for the one before it. It stays a loop: how far it goes is told by the words that it comes to.
 fn straight_forward(s: &Leaving, j: usize, from: Stretch) -> Stretch
-    requires { RunFrom s.now j × (s.now.row.relation ≡ (row_at s.now.table.now j).relation) × (never_back s.now.words ≡ true)
-        × StretchAt s.now.table.now s.now.count s.now.row s.now.work.now j from }
-    ensures { StretchAt s.now.table.now s.now.count s.now.row s.now.work.now j result × (from.at ≤ result.at) }
+    requires { Related s.now j × (s.now.never ≡ true) × StretchOf s.now j from }
+    ensures { StretchOf s.now j result × (from.at ≤ result.at) }
 {
     let mut at = from.at;
     let mut last = from.last;
@@ -303,8 +293,8 @@ fn straight_forward(s: &Leaving, j: usize, from: Stretch) -> Stretch
 // The edges from a row to the rows of a run, where no back edge leaves it. No test hangs on what stands, so that nothing is guessed wrong. It stays a
 // loop: the words of a row tell where those of the next one stand.
 fn run_forward(s: &Leaving, j: usize) -> Run
-    requires { RunFrom s.now j × (s.now.row.relation ≡ (row_at s.now.table.now j).relation) × (never_back s.now.words ≡ true) }
-    ensures { Ran s.now.table.now s.now.count s.now.row j result }
+    requires { Related s.now j × (s.now.never ≡ true) }
+    ensures { RanFrom s.now j result }
 {
     let mut at = j * ROW_WORDS;
     let mut last: usize = 0;
@@ -329,8 +319,8 @@ fn run_forward(s: &Leaving, j: usize) -> Run
 
 // The edges from a row to the rows of a run. It stays a loop for the same reason.
 fn run_both(s: &Leaving, j: usize) -> Run
-    requires { RunFrom s.now j × (s.now.row.relation ≡ (row_at s.now.table.now j).relation) }
-    ensures { Ran s.now.table.now s.now.count s.now.row j result }
+    requires { Related s.now j }
+    ensures { RanFrom s.now j result }
 {
     let mut at = j * ROW_WORDS;
     let mut last: usize = 0;
@@ -360,8 +350,8 @@ fn run_both(s: &Leaving, j: usize) -> Run
 
 // Where the chain of row j goes on, which is of another relation than the row that is left.
 fn run_none(s: &Leaving, j: usize) -> Run
-    requires { RunFrom s.now j × (s.now.row.relation ≡ (row_at s.now.table.now j).relation → ⊥) }
-    ensures { Ran s.now.table.now s.now.count s.now.row j result }
+    requires { OnChain s.now j × (s.now.row.relation ≡ (row_at s.now.table.now j).relation → ⊥) }
+    ensures { RanFrom s.now j result }
 {
     let a = along_at(s.work, j * ROW_WORDS);
     if a < LAST {
@@ -384,8 +374,8 @@ fn run_none(s: &Leaving, j: usize) -> Run
 
 // The edges from a row to the rows of the run that begins with row j, of this relation.
 fn run_from(s: &Leaving, j: usize, relation: u64) -> Run
-    requires { RunFrom s.now j × (relation ≡ (row_at s.now.table.now j).relation) × (s.now.never ≡ never_back s.now.words) }
-    ensures { Ran s.now.table.now s.now.count s.now.row j result }
+    requires { OnChain s.now j × (relation ≡ (row_at s.now.table.now j).relation) }
+    ensures { RanFrom s.now j result }
 {
     if s.row.relation != relation {
         return run_none(s, j);
@@ -420,8 +410,7 @@ fn keep_back(words: &mut [u64], limit: usize, p: Row, q: Row, mark: u64)
 
 // Counts the edges from a row to the rows of the run that begins with row j, and keeps their words. Tells the next row on the chain.
 fn pick_run(s: &Leaving, limit: usize, j: usize, forwards: &mut [u64], backs: &mut [u64]) -> Run
-    requires { PickKnown s.now.table.now s.now.count s.now.row s.now.words s.now.never s.now.loose limit s.now.work.now j
-        forwards.old backs.old }
+    requires { OnChain s.now j × Tables limit forwards.old × Tables limit backs.old }
     ensures { RunAdded s.now.table.now s.now.count s.now.row limit j forwards.old backs.old forwards.new backs.new result }
 {
     let q = whole_row(s.table, j);
@@ -439,8 +428,33 @@ fn head_of(heads: &[u16; place_next::CHAINS], relation: u64) -> usize
     heads[(relation % place_next::CHAINS as u64) as usize] as usize
 }
 
-// Counts the edges from row i to each of the n rows, and keeps their words. Only the rows on its chain are met. It stays a loop: a run tells where
-// the next one begins.
+// Counts the edges from a row to the rows on its chain, of which the first is given, and keeps their words. It stays a loop: a run tells where the next
+// one begins.
+fn pick_chain(
+    s: &Leaving,
+    first: usize,
+    limit: usize,
+    forwards: &mut [u64],
+    backs: &mut [u64],
+) -> Counts
+    requires { ChainAt s.now limit first forwards.old backs.old forwards.old backs.old 0 0 × Tables limit forwards.old
+        × Tables limit backs.old }
+    ensures { RowKept limit s.now.table.now s.now.row s.now.count forwards.old backs.old forwards.new backs.new
+        result.edges result.back }
+{
+    let mut edges: usize = 0;
+    let mut back: usize = 0;
+    let mut j = first;
+    while j < s.count {
+        let t = pick_run(s, limit, j, forwards, backs);
+        edges += t.edges + t.turned;
+        back += t.turned;
+        j = t.next;
+    }
+    Counts { edges, back }
+}
+
+// Counts the edges from row i to each of the n rows, and keeps their words. Only the rows on its chain are met.
 fn pick_row(
     table: &[u64],
     n: usize,
@@ -454,29 +468,21 @@ fn pick_row(
     requires { RowKnown table.now n heads.now work.now i limit forwards.old backs.old }
     ensures { RowAdded table.now n i limit forwards.old backs.old forwards.new backs.new result }
 {
-    let p = whole_row(table, i);
-    let loose = kind_has(p.kind, LOOSE);
-    let words = left_words(p);
+    let row = whole_row(table, i);
+    let words = left_words(row);
     let never = never_back(words);
+    let loose = kind_has(row.kind, LOOSE);
     let s = Leaving {
         table,
         count: n,
         work,
-        row: p,
+        row,
         words,
         never,
         loose,
     };
-    let mut edges: usize = 0;
-    let mut back: usize = 0;
-    let mut j = head_of(heads, p.relation);
-    while j < n {
-        let t = pick_run(&s, limit, j, forwards, backs);
-        edges += t.edges + t.turned;
-        back += t.turned;
-        j = t.next;
-    }
-    Counts { edges, back }
+    let first = head_of(heads, row.relation);
+    pick_chain(&s, first, limit, forwards, backs)
 }
 
 // Counts the edges of a table, and fills tables for so many nodes.

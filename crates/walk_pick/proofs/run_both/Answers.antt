@@ -4,13 +4,14 @@ use mathlib.Core.Path.{refl}
 use native.Mathlib.Omega.{arith}
 use Rattle.place_next.specs.ChainLaws.{rows_most}
 use Rattle.walk_pick.specs.Runs.{last_mark}
+use Rattle.walk_pick.specs.Leavings.{known_of}
 use Rattle.walk_pick.specs.RunLaws.{here, here_fits, run_first, run_most, run_less, run_again, run_end, last_turn, last_fits}
 use Rattle.walk_pick.specs.RunLaws.{told_forward, told_back}
 use Rattle.walk_pick.proofs.run_both.Goals as goal
 
 pub overflow_mul-at : goal.overflow_mul-at
 overflow_mul-at c =
-    let known = c.requires.0 in
+    let known = known_of c.args.s.now c.args.j c.requires.0 in
     let few = rows_most _ known.rows in
     let l = known.inside in
     record { fits = omega arith }
@@ -18,20 +19,21 @@ overflow_mul-at c =
 pub loop-at-init : goal.loop-at-init
 unfolding last_mark
 loop-at-init c =
-    let size = c.requires.0.worked.size in
-    (omega arith, omega arith, run_first c.requires.0.inside c.requires.0.chain c.requires.1 refl)
+    let known = known_of c.args.s.now c.args.j c.requires.0 in
+    let size = known.worked.size in
+    (omega arith, omega arith, run_first known.inside known.chain c.requires.1 refl)
 
 pub entered_at-q-requires : goal.entered_at-q-requires
 entered_at-q-requires c =
-    let known = c.requires in
+    let known = known_of c.args.s.now c.args.j c.requires.0 in
     let h = here c.loop-at.invariant.2 c.loop-at-test.true in
-    here_fits known.0.rows known.0.worked h
+    here_fits known.rows known.worked h
 
 pub overflow_add-edges : goal.overflow_add-edges
 overflow_add-edges c =
-    let known = c.requires in
+    let known = known_of c.args.s.now c.args.j c.requires.0 in
     let h = here c.loop-at.invariant.2 c.loop-at-test.true in
-    let few = rows_most _ known.0.rows in
+    let few = rows_most _ known.rows in
     let l = h.inside in
     let most = run_most h.kept in
     let one = c.one_if-edges.ensures.1 in
@@ -39,9 +41,9 @@ overflow_add-edges c =
 
 pub overflow_add-turned : goal.overflow_add-turned
 overflow_add-turned c =
-    let known = c.requires in
+    let known = known_of c.args.s.now c.args.j c.requires.0 in
     let h = here c.loop-at.invariant.2 c.loop-at-test.true in
-    let few = rows_most _ known.0.rows in
+    let few = rows_most _ known.rows in
     let l = h.inside in
     let most = run_most h.kept in
     let one = c.one_if-turned.ensures.1 in
@@ -49,15 +51,15 @@ overflow_add-turned c =
 
 pub along_at-at-requires : goal.along_at-at-requires
 along_at-at-requires c =
-    let known = c.requires in
+    let known = known_of c.args.s.now c.args.j c.requires.0 in
     let h = here c.loop-at.invariant.2 c.loop-at-test.true in
-    here_fits known.0.rows known.0.worked h
+    here_fits known.rows known.worked h
 
 pub loop-at-smaller : goal.loop-at-smaller
 loop-at-smaller c =
-    let known = c.requires in
+    let known = known_of c.args.s.now c.args.j c.requires.0 in
     let h = here c.loop-at.invariant.2 c.loop-at-test.true in
-    let less = run_less known.0.rows known.0.worked h c.along_at-at.ensures in
+    let less = run_less known.rows known.worked h c.along_at-at.ensures in
     omega (arith, less.0, less.1)
 
 pub loop-at-preserved : goal.loop-at-preserved
@@ -66,12 +68,11 @@ loop-at-preserved c =
     let inv = turn.invariant in
     let stands = c.forward_meets-f in
     let back = c.back_meets-b in
-    let pre = c.requires in
-    let fits = here_fits pre.0.rows pre.0.worked (here inv.2 c.loop-at-test.true) in (
+    let known = known_of c.args.s.now c.args.j c.requires.0 in
+    let fits = here_fits known.rows known.worked (here inv.2 c.loop-at-test.true) in (
       last_fits _ stands.result turn.at turn.last c.last_if-last.ensures fits inv.0,
       last_fits _ back.result turn.at turn.last_back c.last_if-last_back.ensures fits inv.1,
-      let known = pre.0 in
-          let h = here inv.2 c.loop-at-test.true in
+      let h = here inv.2 c.loop-at-test.true in
           let entered = c.entered_at-q.ensures in
           run_again known.rows known.worked h c.along_at-at.ensures
           (told_forward known.worked known.left_is h entered stands.ensures)
@@ -90,6 +91,5 @@ last_mark-back-requires c = c.loop-at.invariant.1
 
 pub returns : goal.returns
 returns c =
-    let known = c.requires in
     rw (c.last_mark-forward.ensures, c.last_mark-back.ensures)
-    (run_end known.0.rows c.loop-at.invariant.2 c.loop-at-test.false)
+    (run_end c.args.s.now.counted c.loop-at.invariant.2 c.loop-at-test.false)
