@@ -13,6 +13,7 @@ use kind_pair::pair_code;
 use place_fetch::{row_at, row_count};
 use place_row::Row;
 
+// No edges.
 fn no_edges() -> Counts
     ensures { result ≡ nothing_counted }
 {
@@ -29,9 +30,7 @@ fn count_pair(p: Row, q: Row, from: u64, to: u64) -> Counts
     if to <= q.node {
         return no_edges();
     }
-    let k = p.kind;
-    let l = q.kind;
-    let code = pair_code(k, l);
+    let code = pair_code(p.kind, q.kind);
     pair_counts(forward_stands(code, p, q), back_stands(code, p, q))
 }
 
@@ -40,17 +39,13 @@ fn count_entering(table: &[u64], p: Row, from: u64, to: u64) -> Counts
     ensures { Few 1024 (row_entering table.now p from to) result }
 {
     let n = row_count(table);
-    let mut edges: usize = 0;
-    let mut back: usize = 0;
-    let mut j: usize = 0;
-    while j < n {
+    let mut counts = no_edges();
+    for j in 0..n {
         let q = row_at(table, j);
         let c = count_pair(p, q, from, to);
-        edges += c.edges;
-        back += c.back;
-        j += 1;
+        counts = counts.plus(c);
     }
-    Counts { edges, back }
+    counts
 }
 
 // The edges that leave row i, if it is of a node in the first range, and enter a node in the second.
@@ -72,14 +67,10 @@ pub fn count_between(table: &[u64], a: u64, b: u64, c: u64, d: u64) -> Counts
     ensures { result ≡ counts_between a b c d (table_edges table.now) }
 {
     let n = row_count(table);
-    let mut edges: usize = 0;
-    let mut back: usize = 0;
-    let mut i: usize = 0;
-    while i < n {
+    let mut counts = no_edges();
+    for i in 0..n {
         let t = count_row(table, i, a, b, c, d);
-        edges += t.edges;
-        back += t.back;
-        i += 1;
+        counts = counts.plus(t);
     }
-    Counts { edges, back }
+    counts
 }

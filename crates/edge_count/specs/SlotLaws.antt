@@ -1,7 +1,7 @@
 -- Laws of slots.
 use Rattle.std.specs.Prelude.{◌≡◌, refl, Bool, cond, List, eqb, ltb}
 use Rattle.std.proofs.Math.Path.{sym, ap, ap₂}
-use Rattle.std.proofs.Common.{◌∙◌, add-zero, add-suc, arith, add-one}
+use Rattle.std.proofs.Common.{◌∙◌, add-zero, add-suc, arith, add-one, mod-eq_of_lt}
 use Prim.Native.Nat.{ℕ, zero, suc, ◌+◌, ◌-◌, ◌*◌, ◌/◌, ◌%◌, ◌≤◌, ◌<◌}
 use Rattle.std.proofs.Math.Bool.{true, false}
 use borrow.Author.Tests.{eq-eqb, ne_eqb, lt-ltb, le-ltb}
@@ -12,7 +12,7 @@ use Rattle.place_row.specs.RowTable.{row_at, row_count, row_forward, row_back, r
 use Rattle.edge_count.specs.declared.Counts.{Counts}
 use Rattle.edge_record.specs.Coded.{coded}
 use Rattle.edge_count.specs.Slots.{left_row, right_row}
-use Rattle.edge_count.specs.Slots.{stands_at, slot_edge, edge_at, one, pair_counts, back_one, edges_below, back_below, counts_below}
+use Rattle.edge_count.specs.Slots.{stands_at, slot_edge, edge_at, one, pair_counts, counts_plus, back_one, edges_below, back_below, counts_below}
 
 -- a table has at most 512 rows
 pub rows_small : (table : List ℕ) → row_count table ≤ 512
@@ -70,6 +70,12 @@ pair_most forward back e =
     let f = one_le forward in
     let b = one_le back in
     (rw e (omega arith), rw e b)
+
+-- where no sum passes 64 bits, counts are added as numbers
+pub plus_parts : (a b : Counts) {r : Counts} → r ≡ counts_plus a b → a.edges + b.edges < 18446744073709551616 → a.back + b.back < 18446744073709551616
+    → (r.edges ≡ a.edges + b.edges) × (r.back ≡ a.back + b.back)
+plus_parts a b e h l =
+    (ap (λ (c : Counts). c.edges) e ∙ mod-eq_of_lt h, ap (λ (c : Counts). c.back) e ∙ mod-eq_of_lt l)
 
 -- no more edges than slots
 edges_below_le : (table : List ℕ) (x : ℕ) → edges_below table x ≤ x
@@ -203,6 +209,31 @@ row_counted table i j edges back e f g =
     ap₂ (λ (a b : ℕ). record { edges = a; back = b })
     (f ∙ sym past.0 ∙ ap (edges_below table) whole)
     (g ∙ sym past.1 ∙ ap (back_below table) whole)
+
+-- counts before a row are those up to its first slot
+pub counts_start : (table : List ℕ) (i : ℕ) (before : Counts) → before ≡ counts_below table (i * 1024)
+    → before ≡ counts_below table (i * 1024 + 0 * 2)
+counts_start table i before e = e ∙ ap (counts_below table) (sym (add-zero (i * 1024)))
+
+-- the counts up to a pair's slots and those of the pair are the counts up to the next pair's: no sum passes 64 bits
+pub counts_pair : (table : List ℕ) (n i j : ℕ) (rows : n ≡ row_count table) (left : i < n) (inside : j < n) (counts : Counts) {c r : Counts}
+    → counts ≡ counts_below table (i * 1024 + j * 2) → c ≡ pair_counts (row_forward (row_at table i) (row_at table j)) (row_back (row_at table i) (row_at table j))
+    → r ≡ counts_plus counts c → r ≡ counts_below table (i * 1024 + (j + 1) * 2)
+unfolding counts_below
+counts_pair table n i j rows left inside counts {c} {r} e told is =
+    let edges = pair_edges table n i j rows inside counts.edges (ap (λ (x : Counts). x.edges) e) told in
+    let back = pair_back table n i j rows inside counts.back (ap (λ (x : Counts). x.back) e) told in
+    let most = rows_few table n rows in
+    let some = edges_below_le table (i * 1024 + (j + 1) * 2) in
+    let less = back_below_le table (i * 1024 + (j + 1) * 2) in
+    is ∙ ap₂ (λ (a b : ℕ). record { edges = a; back = b }) (mod-eq_of_lt (omega arith) ∙ edges) (mod-eq_of_lt (omega arith) ∙ back)
+
+-- a row's counts are those up to the table's last row
+pub counts_row : (table : List ℕ) (i j : ℕ) (counts : Counts) → j ≡ row_count table → counts ≡ counts_below table (i * 1024 + j * 2)
+    → counts ≡ counts_below table (i * 1024 + 1024)
+unfolding counts_below
+counts_row table i j counts e f =
+    f ∙ row_counted table i j (edges_below table (i * 1024 + j * 2)) (back_below table (i * 1024 + j * 2)) e refl refl
 
 -- the rows counted before the first row, and before the row after a row
 pub counts_none : (table : List ℕ) → ◌≡◌ {A = Counts} (record { edges = 0; back = 0 }) (counts_below table (0 * 1024))

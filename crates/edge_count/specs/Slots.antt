@@ -58,6 +58,10 @@ one b = cond b 1 0
 unfoldable pub pair_counts : Bool → Bool → Counts
 pair_counts forward back = record { edges = one forward + one back; back = one back }
 
+-- the sum of two counts, as numbers of 64 bits
+abbrev pub counts_plus : Counts → Counts → Counts
+counts_plus a b = record { edges = (a.edges + b.edges) % 18446744073709551616; back = (a.back + b.back) % 18446744073709551616 }
+
 abbrev pub back_one : Bool → ℕ → ℕ
 back_one b x = cond b (cond (eqb (x % 2) 0) 0 1) 0
 

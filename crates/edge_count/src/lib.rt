@@ -3,17 +3,29 @@
 #![tactic(auto)]
 
 ghost use Rattle.std.specs.Prelude.{◌≡◌, ◌+◌, ◌*◌, ◌<◌, leb, length};
-ghost use Rattle.edge_count.specs.Slots.{table_edges, table_counts, pair_counts, counts_below, CountedTo};
+ghost use Rattle.edge_count.specs.Slots.{table_edges, table_counts, pair_counts, counts_plus, counts_below, CountedTo};
 
 use edge_test::{back_stands, forward_stands};
 use kind_table::{code_to, codes_from};
 use place_fetch::{row_at, row_count};
 
 // How many edges there are, and how many of them are back edges.
-#[derive(Clone, Copy)]
+#[derive(Clone, Copy, Debug, PartialEq, Eq)]
 pub struct Counts {
     pub edges: usize,
     pub back: usize,
+}
+
+impl Counts {
+    // These counts and more of them. They are told modulo 2^64, for any counts; those of a table are far below.
+    pub fn plus(self, more: Counts) -> Counts
+        ensures { result ≡ counts_plus self more }
+    {
+        Counts {
+            edges: self.edges.wrapping_add(more.edges),
+            back: self.back.wrapping_add(more.back),
+        }
+    }
 }
 
 // How many edges stand between two rows, and how many of them are back edges, by whether a forward and a back edge does.
@@ -38,21 +50,15 @@ fn count_row(table: &[u64], n: usize, i: usize, before: Counts) -> Counts
     ensures { result ≡ counts_below table.now (i * 1024 + 1024) }
 {
     let p = row_at(table, i);
-    let k = p.kind;
-    let codes = codes_from(k);
-    let mut edges = before.edges;
-    let mut back = before.back;
-    let mut j: usize = 0;
-    while j < n {
+    let codes = codes_from(p.kind);
+    let mut counts = before;
+    for j in 0..n {
         let q = row_at(table, j);
-        let l = q.kind;
-        let code = code_to(&codes, l);
+        let code = code_to(&codes, q.kind);
         let c = pair_counts(forward_stands(code, p, q), back_stands(code, p, q));
-        edges += c.edges;
-        back += c.back;
-        j += 1;
+        counts = counts.plus(c);
     }
-    Counts { edges, back }
+    counts
 }
 
 // How many edges a table has, and how many of them are back edges. Rows past the 512th are not looked at: no workload has more.
@@ -61,10 +67,8 @@ pub fn count_edges(table: &[u64]) -> Counts
 {
     let n = row_count(table);
     let mut counts = Counts { edges: 0, back: 0 };
-    let mut i: usize = 0;
-    while i < n {
+    for i in 0..n {
         counts = count_row(table, n, i, counts);
-        i += 1;
     }
     counts
 }

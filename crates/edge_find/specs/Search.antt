@@ -1,5 +1,5 @@
 -- The first edge from a slot on, and what the parts of the search for it answer.
-use Rattle.std.specs.Prelude.{Bool, true, false, cond, List, ◌≡◌, ℕ, ◌+◌, ◌%◌, ◌<◌, eqb}
+use Rattle.std.specs.Prelude.{Bool, true, false, cond, List, Option, None, Some, ◌≡◌, ℕ, ◌+◌, ◌%◌, ◌<◌, eqb}
 use Rattle.std.proofs.Math.ListN.{get_elem?}
 use Rattle.std.specs.Int.Count.{ones_in, count_trailing_zeros}
 use Rattle.spec_graph.specs.Graph as G
@@ -7,7 +7,7 @@ use Rattle.spec_graph.specs.Edge.{Letter}
 use Rattle.spec_graph.specs.Edge.Letter.{A, B, C, D, E}
 use Rattle.place_row.specs.declared.Row.{Row}
 use Rattle.place_row.specs.RowTable.{row_shared}
-use Rattle.edge_record.specs.declared.Found.{Found}
+use Rattle.edge_record.specs.declared.Edge.{Edge}
 use Rattle.edge_record.specs.Coded.{found_as}
 use Rattle.edge_test.specs.Letters.{letter_between}
 use Rattle.edge_count.specs.Slots.{table_edges, edges_below, next_slot}
@@ -28,7 +28,7 @@ shared_by letter p q = row_shared (letter_from letter) p q
 
 -- no edge so far: slot x is the next to look at
 abbrev pub nothing_to : ℕ → EdgeStep
-nothing_to x = record { slot = x; found = Found.Absent }
+nothing_to x = record { slot = x; found = None }
 
 -- the edge in slot x with these bytes for its flow and its letter, where there is a letter
 unfoldable pub step_in : ℕ → ℕ → ℕ → Row → Row → EdgeStep
@@ -36,7 +36,7 @@ step_in x flow letter p q =
     cond (eqb letter 0) (nothing_to (x + 1))
     (record {
       slot = x;
-      found = Found.There (record {
+      found = Some (record {
         node = p.node;
         leaves = p.place;
         into = q.node;
@@ -54,9 +54,9 @@ step_at x p q =
     cond (eqb (x % 2) 0) (step_in x 0x66 (letter_between G.Flow.forward p q) p q) (step_in x 0x62 (letter_between G.Flow.back p q) p q)
 
 -- an edge is found
-abbrev pub is_there : Found → Bool
-is_there (Found.There e) = true
-is_there Found.Absent = false
+abbrev pub is_there : Option Edge → Bool
+is_there (Some e) = true
+is_there None = false
 
 -- from slot x on: the answer, or a later slot with the same answer
 pub record Looked (table : List ℕ) (x : ℕ) (r : EdgeStep) : Type 0 where

@@ -1,9 +1,9 @@
 -- Laws of the search for an edge.
-use Rattle.std.specs.Prelude.{◌≡◌, Bool, length}
+use Rattle.std.specs.Prelude.{◌≡◌, Bool, None, Some, length}
 use Rattle.std.proofs.Math.Path.{refl, sym, ap, ap₂, subst}
 use Rattle.std.proofs.Common.{◌∙◌, add-zero, zero-add, add-suc, suc-add, add-one, eq-eqb, ne_eqb}
 use Rattle.std.proofs.Math.Bool.{true, false, cond}
-use Rattle.std.proofs.Math.Option.{Option, none, some}
+use Rattle.std.proofs.Math.Option as L
 use mathlib.Core.List.{List, [], ◌∷◌, ◌++◌, flat_map}
 use Prim.Native.Nat.{ℕ, zero, suc, ◌+◌, ◌-◌, ◌*◌, ◌/◌, ◌%◌, ◌^◌, ◌≤◌, ◌<◌}
 use Rattle.std.proofs.Math.Decide.{dec_le, ℕ_discrete}
@@ -21,7 +21,6 @@ use Rattle.place_row.specs.RowTable.{row_at, row_count, row_forward, row_back, r
 use Rattle.place_row.specs.RowTableLaws.{ones_in_ones}
 use Rattle.edge_find.specs.declared.EdgeStep.{EdgeStep}
 use Rattle.edge_record.specs.declared.Edge.{Edge}
-use Rattle.edge_record.specs.declared.Found.{Found}
 use Rattle.edge_record.specs.Coded.{flow_byte, coded, found_as}
 use Rattle.edge_count.specs.Slots.{table_edges, slots, left_row, right_row}
 use Rattle.edge_count.specs.Slots.{stands_at, slot_edge, edge_at, next_from, next_slot, one, edges_below}
@@ -58,7 +57,7 @@ pub step_made : (x flow letter : ℕ) (p q : Row) (m : ℕ)
     → ◌≡◌ {A = EdgeStep}
     (record {
       slot = x;
-      found = Found.There (record {
+      found = Some (record {
         node = p.node;
         leaves = p.place;
         into = q.node;
@@ -75,7 +74,7 @@ step_made x flow letter p q m there e small =
     simp (ne_eqb letter 0 there)
     (λ i. record {
       slot = x;
-      found = Found.There (record {
+      found = Some (record {
         node = p.node;
         leaves = p.place;
         into = q.node;
@@ -89,7 +88,7 @@ step_made x flow letter p q m there e small =
 
 -- the step with a letter of its own
 step_letter : (x : ℕ) (flow : G.Flow) (p q : Row) (l : E.Letter) → row_letter flow p q ≡ l
-    → step_in x (flow_byte flow) (byte_of l) p q ≡ record { slot = x; found = Found.There (coded (row_edge flow p q)) }
+    → step_in x (flow_byte flow) (byte_of l) p q ≡ record { slot = x; found = Some (coded (row_edge flow p q)) }
 unfolding step_in letter_from coded row_edge
 step_letter x flow p q E.Letter.A e = rw e
 step_letter x flow p q E.Letter.B e = rw e
@@ -150,7 +149,7 @@ module _ (table : List ℕ) where
 
   -- the edge in a slot has the number of the edges before it
   pub number_here : (x : ℕ) → x < slots table → stands_at table x ≡ true
-      → get_elem? (table_edges table) (edges_below table x) ≡ some (slot_edge table x)
+      → get_elem? (table_edges table) (edges_below table x) ≡ L.some (slot_edge table x)
   unfolding flat_map slot_edges
   number_here x h e =
       ap₂ (λ (l : List E.Edge) (k : ℕ). get_elem? l k) parts (edges_below_lem table x ∙ sym (add-zero (length before)))
@@ -174,10 +173,10 @@ module _ (table : List ℕ) where
   -- ---- the first edge from a slot on
 
   pub edge_here : (x : ℕ) → x < slots table → stands_at table x ≡ true
-      → ◌≡◌ {A = EdgeStep} (record { slot = x; found = Found.There (edge_at table x) }) (edge_from table x)
+      → ◌≡◌ {A = EdgeStep} (record { slot = x; found = Some (edge_at table x) }) (edge_from table x)
   unfolding edge_from edge_at found_as
   edge_here x h e =
-      ap₂ (λ (a : Option E.Edge) (s : ℕ). record { slot = s; found = found_as a })
+      ap₂ (λ (a : L.Option E.Edge) (s : ℕ). record { slot = s; found = found_as a })
       (sym (number_here x h e)) (sym (next_here x h e))
 
   pub edge_skip : (x y : ℕ) → x ≤ y → y ≤ slots table → ((z : ℕ) → x ≤ z → z < y → stands_at table z ≡ false)
@@ -197,7 +196,7 @@ module _ (table : List ℕ) where
       let m = below_more (slots table) (x - slots table) in
       let e = ap (edges_below table) s in
       let a = below_all in
-      ap₂ (λ (a : Option E.Edge) (s : ℕ). record { slot = s; found = found_as a })
+      ap₂ (λ (a : L.Option E.Edge) (s : ℕ). record { slot = s; found = found_as a })
       (sym (get_elem?_past (table_edges table) (edges_below table x) (omega arith))) (sym (next_end x h))
 
   -- ---- looking at a slot
@@ -262,7 +261,7 @@ module _ (table : List ℕ) where
               (left_row table x) (right_row table x))
           go true t =
               let is = step_letter x flow (left_row table x) (right_row table x) _ refl in
-              subst (Looked table x) (sym (is ∙ ap (λ (e : Edge). record { slot = x; found = Found.There e }) f)) (record {
+              subst (Looked table x) (sym (is ∙ ap (λ (e : Edge). record { slot = x; found = Some e }) f)) (record {
                 here = λ u. edge_here x (within left) t;
                 later = λ u. absurd (true_false refl u);
               })

@@ -5,7 +5,7 @@
 ghost use Rattle.std.specs.Prelude.{◌≡◌, ◌<◌};
 ghost use Rattle.edge_find.specs.Search.{shared_by, nothing_to, step_in, step_at, is_there, edge_from, Looked};
 
-use edge_record::{Edge, Found};
+use edge_record::Edge;
 use edge_test::{back_letter, forward_letter};
 use kind_pair::pair_code;
 use place_fetch::{row_at, row_count};
@@ -15,7 +15,7 @@ use place_row::{ROW_SLOTS, ROW_WORDS, Row, SLOTS};
 #[derive(Clone, Copy)]
 pub struct EdgeStep {
     pub slot: usize,
-    pub found: Found,
+    pub found: Option<Edge>,
 }
 
 // What the two sets of a letter share.
@@ -35,8 +35,7 @@ pub fn shared_by(letter: u8, p: Row, q: Row) -> u64
 fn nothing_to(slot: usize) -> EdgeStep
     ensures { result ≡ nothing_to slot }
 {
-    let found = Found::Absent;
-    EdgeStep { slot, found }
+    EdgeStep { slot, found: None }
 }
 
 // The edge between two rows with this flow and letter, in its slot; with no letter, the next slot.
@@ -58,8 +57,10 @@ fn step_with(slot: usize, flow: u8, letter: u8, p: Row, q: Row) -> EdgeStep
         flow,
         letter,
     };
-    let found = Found::There(edge);
-    EdgeStep { slot, found }
+    EdgeStep {
+        slot,
+        found: Some(edge),
+    }
 }
 
 // The edge in a slot of two rows; where none stands, the next slot. Even slots are those of forward edges.
@@ -105,11 +106,7 @@ fn look_at(table: &[u64], slot: usize) -> EdgeStep
 fn is_found(step: EdgeStep) -> bool
     ensures { result ≡ is_there step.found }
 {
-    let found = step.found;
-    match found {
-        Found::There(_) => true,
-        Found::Absent => false,
-    }
+    step.found.is_some()
 }
 
 // The first edge from a slot on: from 0, and from after each edge's slot, it gives all edges of a table in order.

@@ -1,6 +1,7 @@
 -- Laws of cursors: what stands between two rows, and which slots a step passes over.
-use Rattle.std.specs.Prelude.{◌≡◌, Bool, true, false, cond, not, ◌&&◌, ◌||◌, List, map, ℕ, ◌+◌, ◌-◌, ◌*◌, ◌/◌, ◌%◌, ◌^◌, ◌≤◌, ◌<◌, eqb, length}
-use Rattle.std.proofs.Math.Path.{refl, sym, ap, ap₂}
+use Rattle.std.specs.Prelude.{◌≡◌, Bool, true, false, cond, not, ◌&&◌, ◌||◌, List, None, Some, map, ℕ, ◌+◌, ◌-◌, ◌*◌, ◌/◌, ◌%◌, ◌^◌, ◌≤◌, ◌<◌, eqb, length}
+use Rattle.std.proofs.Math.Path.{refl, sym, ap, ap₂, subst}
+use Rattle.std.proofs.lemmas.Option.{none-some, same_Some}
 use Rattle.std.proofs.Common.{◌∙◌, mod-eq_of_lt, add-one, eq-eqb, ne_eqb}
 use Rattle.std.proofs.Math.Option.{some}
 use Rattle.std.proofs.Math.Nat.{add-zero}
@@ -34,7 +35,7 @@ use Rattle.place_next.specs.ChainLaws.{on_low, on_high, on_same, on_relation}
 use Rattle.place_link.specs.Links.{kind_word, next_in, first_in, LinkedTold}
 use Rattle.edge_put.specs.Cursors.{words_in, row_in, row_start, past_all, first_row, next_row, at_pair, nothing_at, edge_by, back_shared, back_is}
 use Rattle.edge_put.specs.Cursors.{row_after, slot_of, Inside, LinksIn, LookedAt, Begun}
-use Rattle.edge_put.specs.Cursors.{Pending, Standing, BackNext, Open, Paired, Stepped, Passed}
+use Rattle.edge_put.specs.Cursors.{Pending, Standing, BackNext, Open, Paired, Found, Stepped, Passed}
 
 -- a row is told by its words
 words_back : (p : Row) → row_in (words_in p) ≡ p
@@ -141,7 +142,7 @@ back_forward p q =
 
 -- ---- rows looked at
 
-module _ (table : List ℕ) (n linked i : ℕ) (rows : n ≡ row_count table) (links : LinksIn table linked) where
+module _ (table : List ℕ) (n : ℕ) (linked : Bool) (i : ℕ) (rows : n ≡ row_count table) (links : LinksIn table linked) where
   -- on a chain: the first row from some row on
   on_chain_lem : (c from : ℕ) → c ≡ chain_of table i → from ≤ n → LookedAt table n linked i from (on_chain table (row_count table) c from)
   on_chain_lem c from e l =
@@ -153,34 +154,32 @@ module _ (table : List ℕ) (n linked i : ℕ) (rows : n ≡ row_count table) (l
         chain = λ _ h. on_same table c (row_count table) from (omega arith) ∙ e;
       }
 
-  looked_next : (j : ℕ) → j < n → ((linked ≡ 0 → ⊥) → chain_of table j ≡ chain_of table i)
+  looked_next : (j : ℕ) → j < n → (linked ≡ true → chain_of table j ≡ chain_of table i)
       → LookedAt table n linked i (j + 1) (next_row table linked j)
   unfolding next_row
-  looked_next j l on = go (ℕ_discrete linked 0)
+  looked_next j l on = go linked refl
     where
-      go : Dec (linked ≡ 0) → LookedAt table n linked i (j + 1) (cond (eqb linked 0) (j + 1) (next_in (kind_word table j)))
-      go (yes e) = rw (eq-eqb linked 0 e) (record {
+      go : (b : Bool) → linked ≡ b → LookedAt table n linked i (j + 1) (cond b (next_in (kind_word table j)) (j + 1))
+      go false e = record {
         low = omega arith;
         high = omega arith;
         others = λ z a b same. omega arith;
-        chain = λ z h. absurd (z e);
-      })
-      go (no z) =
-          rw (ne_eqb linked 0 z, (links z).next j (omega arith)) (on_chain_lem (chain_of table j) (j + 1) (on z) (omega arith))
+        chain = λ t h. absurd (true_false t e);
+      }
+      go true e = rw ((links e).next j (omega arith)) (on_chain_lem (chain_of table j) (j + 1) (on e) (omega arith))
 
   looked_first : i < n → LookedAt table n linked i 0 (first_row table linked i)
   unfolding first_row
-  looked_first l = go (ℕ_discrete linked 0)
+  looked_first l = go linked refl
     where
-      go : Dec (linked ≡ 0) → LookedAt table n linked i 0 (cond (eqb linked 0) 0 (first_in (kind_word table i)))
-      go (yes e) = rw (eq-eqb linked 0 e) (record {
+      go : (b : Bool) → linked ≡ b → LookedAt table n linked i 0 (cond b (first_in (kind_word table i)) 0)
+      go false e = record {
         low = omega arith;
         high = omega arith;
         others = λ z a b same. omega arith;
-        chain = λ z h. absurd (z e);
-      })
-      go (no z) =
-          rw (ne_eqb linked 0 z, (links z).first i (omega arith)) (on_chain_lem (chain_of table i) 0 refl (omega arith))
+        chain = λ t h. absurd (true_false t e);
+      }
+      go true e = rw ((links e).first i (omega arith)) (on_chain_lem (chain_of table i) 0 refl (omega arith))
 
 -- ---- slots of two rows
 
@@ -273,8 +272,8 @@ module _ (table : List ℕ) where
   rows_whole e l = omega arith
 
   -- a row's first place
-  stands_first : (n linked i first : ℕ) → n ≡ row_count table → LinksIn table linked → i < n → first ≤ n
-      → ((linked ≡ 0 → ⊥) → first < n → chain_of table first ≡ chain_of table i) → Standing table (row_start table n linked i first)
+  stands_first : (n : ℕ) (linked : Bool) (i first : ℕ) → n ≡ row_count table → LinksIn table linked → i < n → first ≤ n
+      → (linked ≡ true → first < n → chain_of table first ≡ chain_of table i) → Standing table (row_start table n linked i first)
   unfolding row_start
   stands_first n linked i first rows links l inside chain = record {
     rows = rows;
@@ -293,12 +292,12 @@ module _ (table : List ℕ) where
     few = omega arith;
     inside = omega arith;
     row = λ l. absurd (omega arith);
-    links = λ z. absurd (z refl);
-    chain = λ z. absurd (z refl);
+    links = λ t. absurd (true_false t refl);
+    chain = λ t. absurd (true_false t refl);
     pending = λ e. absurd (e refl);
   }
 
-  pub start_made : (n linked i j : ℕ) (p : Row) {kind : ℕ} → p ≡ row_at table i → kind ≡ kind_number p.kind
+  pub start_made : (n : ℕ) (linked : Bool) (i j : ℕ) (p : Row) {kind : ℕ} → p ≡ row_at table i → kind ≡ kind_number p.kind
       → ◌≡◌ {A = Cursor}
       (record {
         n = n;
@@ -322,7 +321,7 @@ module _ (table : List ℕ) where
 
   -- the place before the first edge, or past the last
   module _ (n : ℕ) {fits : Bool} (rows : n ≡ row_count table) where
-    pub start_first : {linked : ℕ} {c : Cursor} → LinksIn table linked → fits ≡ true → 0 < n → c ≡ row_start table n linked 0 0
+    pub start_first : {linked : Bool} {c : Cursor} → LinksIn table linked → fits ≡ true → 0 < n → c ≡ row_start table n linked 0 0
         → Begun table fits c
     unfolding row_start
     start_first {linked = linked} links h l e = rw (e, h) (record {
@@ -339,7 +338,7 @@ module _ (table : List ℕ) where
 
   -- another pair of the same row
   stands_pair : (c : Cursor) (j back : ℕ) → Standing table c → c.i < c.n → j ≤ c.n
-      → ((c.linked ≡ 0 → ⊥) → j < c.n → chain_of table j ≡ chain_of table c.i)
+      → (c.linked ≡ true → j < c.n → chain_of table j ≡ chain_of table c.i)
       → ((back ≡ 0 → ⊥) → (j < c.n) × (back ≡ back_is (row_in c.w) (row_at table j)))
       → Standing table (at_pair c j back)
   stands_pair c j back s left h on told = record {
@@ -360,7 +359,7 @@ module _ (table : List ℕ) where
       go (no e) = let m = most in let x = slot_back (at_pair c j back) e in let l = (told e).0 in omega arith
 
   -- no edge to rows of other relations
-  over_others : (n linked i from to : ℕ) → n ≡ row_count table → i < n → LookedAt table n linked i from to
+  over_others : (n : ℕ) (linked : Bool) (i from to : ℕ) → n ≡ row_count table → i < n → LookedAt table n linked i from to
       → edges_below table (i * 1024 + to * 2 + 0) ≡ edges_below table (i * 1024 + from * 2 + 0)
   over_others n linked i from to rows left looked =
       let few = rows_most rows in let a = looked.low in let b = looked.high in
@@ -413,11 +412,11 @@ module _ (table : List ℕ) where
         → e ≡ edge_by 0x62 c.back m p q
         → onto ≡ next_row table c.linked c.j
         → d ≡ at_pair c onto 0
-        → Passed table c (record { there = true; edge = e; cursor = d })
+        → Passed table c (record { edge = Some e; cursor = d })
     passed_back p q m e onto d left right is small made next_is d_is = rw (d_is, next_is) (record {
       stands = stands_next c s pend.left pend.right;
-      found = λ _. record { edge = edge_is; after = after_is };
-      ended = λ t. absurd (true_false refl t);
+      found = λ x t. subst (λ (y : Edge). Found table c y (at_pair c (next_row table c.linked c.j) 0)) (same_Some e x t) told;
+      ended = λ t. absurd (none-some e (sym t));
     })
       where
         p₀ : Row
@@ -451,6 +450,9 @@ module _ (table : List ℕ) where
             ∙ below_next table (c.i * 1024 + c.j * 2 + 1)
             (slot_stands table c.n c.i c.j s.rows pend.left pend.right G.Flow.back ∙ stands)
             ∙ ap (λ (x : ℕ). edges_below table x + 1) (sym (slot_back c next.there))
+
+        told : Found table c e (at_pair c (next_row table c.linked c.j) 0)
+        told = record { edge = edge_is; after = after_is }
 
   -- two rows
   module _ (c : Cursor) (pair : Paired table c) where
@@ -501,7 +503,7 @@ module _ (table : List ℕ) where
       pub stepped_none : (onto : ℕ) (d : Cursor) (r : Step) → letter ≡ 0 → onto ≡ after → d ≡ at_pair c onto 0 → r ≡ nothing_at d → Stepped table c r
       stepped_none onto d r none onto_is d_is e = rw (e, d_is, onto_is) (record {
         stands = stands_on;
-        found = λ t. absurd (true_false t refl);
+        found = λ x t. absurd (none-some x t);
         skipped = λ _. record {
           none = refl;
           later = let h = (on_next c st pair.ready.left pair.right).low in omega arith;
@@ -527,11 +529,13 @@ module _ (table : List ℕ) where
           → back ≡ back_is p q
           → next ≡ row_after table c.linked c.j back
           → d ≡ at_pair c next back
-          → Stepped table c (record { there = true; edge = e; cursor = d })
+          → Stepped table c (record { edge = Some e; cursor = d })
       stepped_forward m back next e d there is small made back_is_lem next_is d_is = rw (d_is, next_is) (record {
         stands = go_stands (ℕ_discrete back 0);
-        found = λ _. record { edge = edge_is; after = go (ℕ_discrete back 0) };
-        skipped = λ t. absurd (true_false refl t);
+        found = λ x t.
+            subst (λ (y : Edge). Found table c y (at_pair c (row_after table c.linked c.j back) back)) (same_Some e x t)
+            (record { edge = edge_is; after = go (ℕ_discrete back 0) });
+        skipped = λ t. absurd (none-some e (sym t));
       })
         where
           stands : row_stands G.Flow.forward p₀ q₀ ≡ true
@@ -615,7 +619,7 @@ module _ (table : List ℕ) where
       unfolding row_start
       stepped_row f d r first_is start_is e = rw (e, start_is, first_is) (record {
         stands = stands_first c.n c.linked i₁ first sta.rows sta.links on looked.high looked.chain;
-        found = λ t. absurd (true_false t refl);
+        found = λ x t. absurd (none-some x t);
         skipped = λ _. record {
           none = refl;
           later = let few = rows_most sta.rows in let h = sta.inside in omega arith;
@@ -626,7 +630,7 @@ module _ (table : List ℕ) where
     pub stepped_past : (d : Cursor) (r : Step) → c.n ≤ i₁ → d ≡ past_all c.n → r ≡ nothing_at d → Stepped table c r
     stepped_past d r over is e = rw (e, is) (record {
       stands = stands_over c.n sta.rows;
-      found = λ t. absurd (true_false t refl);
+      found = λ x t. absurd (none-some x t);
       skipped = λ _. record {
         none = refl;
         later = let few = rows_most sta.rows in let h = sta.inside in let l = ready.left in omega arith;
@@ -642,24 +646,24 @@ module _ (table : List ℕ) where
     pub none : d.back ≡ 0
     pub below : edges_below table (slot_of d) ≡ edges_below table (slot_of c)
 
-  pub onward_step : (c d : Cursor) (r : Step) → Onward c d → Stepped table d r → r.there ≡ false → Onward c r.cursor
+  pub onward_step : (c d : Cursor) (r : Step) → Onward c d → Stepped table d r → r.edge ≡ None → Onward c r.cursor
   onward_step c d r o s t = record { stands = s.stands; none = (s.skipped t).none; below = (s.skipped t).below ∙ o.below }
 
-  pub onward_found : (c d : Cursor) (r : Step) → Onward c d → Stepped table d r → r.there ≡ true → Passed table c r
-  onward_found c d r o s t = record {
+  pub onward_found : (c d : Cursor) (r : Step) → Onward c d → Stepped table d r → (e : Edge) → r.edge ≡ Some e → Passed table c r
+  onward_found c d r o s e t = record {
     stands = s.stands;
-    found = λ _. record {
-      edge = ap (get_elem? (map coded (table_edges table))) (sym o.below) ∙ (s.found t).edge;
-      after = (s.found t).after ∙ ap (λ (k : ℕ). k + 1) o.below;
+    found = λ x u. record {
+      edge = ap (get_elem? (map coded (table_edges table))) (sym o.below) ∙ (s.found x u).edge;
+      after = (s.found x u).after ∙ ap (λ (k : ℕ). k + 1) o.below;
     };
-    ended = λ f. absurd (true_false t f);
+    ended = λ n. absurd (none-some e (sym n ∙ t));
   }
 
   pub onward_end : (c d : Cursor) (r : Step) → Onward c d → d.n ≤ d.i → r ≡ nothing_at d → Passed table c r
   unfolding slots
   onward_end c d r o past e = rw e (record {
     stands = o.stands;
-    found = λ t. absurd (true_false t refl);
+    found = λ x t. absurd (none-some x t);
     ended = λ _. sym o.below ∙ ap (edges_below table) last ∙ below_all table;
   })
     where
@@ -675,8 +679,8 @@ module _ (table : List ℕ) where
 
 -- ---- links
 
-pub links_told : {table : List ℕ} {r : Bool} → LinkedTold table r → r ≡ true → LinksIn table 1
-links_told h e _ = (h.held e).1
+pub links_told : {table : List ℕ} {r : Bool} → LinkedTold table r → LinksIn table r
+links_told h e = (h.held e).1
 
-pub links_none : (table : List ℕ) → LinksIn table 0
-links_none table z = absurd (z refl)
+pub links_none : (table : List ℕ) → LinksIn table false
+links_none table t = absurd (true_false t refl)

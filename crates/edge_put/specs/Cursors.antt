@@ -1,5 +1,5 @@
 -- The edges of a table one after the other: where the next is looked for, and what a step tells.
-use Rattle.std.specs.Prelude.{◌≡◌, Bool, true, false, cond, List, map, ℕ, ◌+◌, ◌*◌, ◌%◌, ◌≤◌, ◌<◌, eqb, length}
+use Rattle.std.specs.Prelude.{◌≡◌, Bool, true, false, cond, List, None, Some, map, ℕ, ◌+◌, ◌*◌, ◌%◌, ◌≤◌, ◌<◌, eqb, length}
 use Rattle.std.proofs.Math.Option.{some}
 use Rattle.std.specs.Int.Bits.{bit_and}
 use Rattle.std.specs.Int.Count.{ones, count_trailing_zeros}
@@ -44,7 +44,7 @@ row_in w = record {
 }
 
 -- row i left, of which row j may be entered first
-unfoldable pub row_start : List ℕ → ℕ → ℕ → ℕ → ℕ → Cursor
+unfoldable pub row_start : List ℕ → ℕ → Bool → ℕ → ℕ → Cursor
 row_start table n linked i j = record { n = n; i = i; j = j; back = 0; linked = linked; w = words_in (row_at table i) }
 
 -- all rows left
@@ -54,16 +54,16 @@ past_all n = record {
   i = n;
   j = 0;
   back = 0;
-  linked = 0;
+  linked = false;
   w = record { node = 0; place = 0; kind = 0; relation = 0; reads = 0; writes = 0; tests = 0; keys = 0 };
 }
 
 -- the first row to be looked at for row i, and the row after row j: where rows are linked, those on the chain
-unfoldable pub first_row : List ℕ → ℕ → ℕ → ℕ
-first_row table linked i = cond (eqb linked 0) 0 (first_in (kind_word table i))
+unfoldable pub first_row : List ℕ → Bool → ℕ → ℕ
+first_row table linked i = cond linked (first_in (kind_word table i)) 0
 
-unfoldable pub next_row : List ℕ → ℕ → ℕ → ℕ
-next_row table linked j = cond (eqb linked 0) (j + 1) (next_in (kind_word table j))
+unfoldable pub next_row : List ℕ → Bool → ℕ → ℕ
+next_row table linked j = cond linked (next_in (kind_word table j)) (j + 1)
 
 -- the same row left, another row that may be entered
 abbrev pub at_pair : Cursor → ℕ → ℕ → Cursor
@@ -71,11 +71,7 @@ at_pair c j back = record { n = c.n; i = c.i; j = j; back = back; linked = c.lin
 
 -- no edge so far
 abbrev pub nothing_at : Cursor → Step
-nothing_at cursor = record {
-  there = false;
-  edge = record { node = 0; leaves = 0; into = 0; enters = 0; sharing = 0; lowest = 0; flow = 0; letter = 0 };
-  cursor = cursor;
-}
+nothing_at cursor = record { edge = None; cursor = cursor }
 
 -- an edge with this flow and the letter in this word between two rows, whose sets share m
 abbrev pub edge_by : ℕ → ℕ → ℕ → Row → Row → Edge
@@ -99,7 +95,7 @@ abbrev pub back_is : Row → Row → ℕ
 back_is p q = letter_between G.Flow.back p q
 
 -- the row to look at next
-abbrev pub row_after : List ℕ → ℕ → ℕ → ℕ → ℕ
+abbrev pub row_after : List ℕ → Bool → ℕ → ℕ → ℕ
 row_after table linked j back = cond (eqb back 0) (next_row table linked j) j
 
 -- the slot that is looked at next
@@ -112,16 +108,16 @@ pub record Inside (table : List ℕ) (j : ℕ) : Type 0 where
   pub few : j < 512
   pub whole : j * 8 + 8 ≤ length table
 
--- where a word says that rows are linked, they are
-abbrev pub LinksIn : List ℕ → ℕ → Type 0
-LinksIn table linked = (linked ≡ 0 → ⊥) → Links table
+-- where it is said that rows are linked, they are
+abbrev pub LinksIn : List ℕ → Bool → Type 0
+LinksIn table linked = linked ≡ true → Links table
 
 -- row r is looked at for row i after those below `from`: the rows between are of other relations
-pub record LookedAt (table : List ℕ) (n linked i from r : ℕ) : Type 0 where
+pub record LookedAt (table : List ℕ) (n : ℕ) (linked : Bool) (i from r : ℕ) : Type 0 where
   pub low : from ≤ r
   pub high : r ≤ n
   pub others : (z : ℕ) → from ≤ z → z < r → (row_at table i).relation ≡ (row_at table z).relation → ⊥
-  pub chain : (linked ≡ 0 → ⊥) → r < n → chain_of table r ≡ chain_of table i
+  pub chain : linked ≡ true → r < n → chain_of table r ≡ chain_of table i
 
 -- ---- where the next edge is looked for
 
@@ -138,7 +134,7 @@ pub record Standing (table : List ℕ) (c : Cursor) : Type 0 where
   pub inside : c.j ≤ c.n
   pub row : c.i < c.n → row_in c.w ≡ row_at table c.i
   pub links : LinksIn table c.linked
-  pub chain : (c.linked ≡ 0 → ⊥) → c.i < c.n → c.j < c.n → chain_of table c.j ≡ chain_of table c.i
+  pub chain : c.linked ≡ true → c.i < c.n → c.j < c.n → chain_of table c.j ≡ chain_of table c.i
   pub pending : (c.back ≡ 0 → ⊥) → Pending table c
 
 pub record BackNext (table : List ℕ) (c : Cursor) : Type 0 where
@@ -158,9 +154,9 @@ pub record Paired (table : List ℕ) (c : Cursor) : Type 0 where
 -- ---- what a step tells
 
 -- the edge after those below a slot is told, and one more is below the slot of the cursor after it
-pub record Found (table : List ℕ) (c : Cursor) (r : Step) : Type 0 where
-  pub edge : get_elem? (map coded (table_edges table)) (edges_below table (slot_of c)) ≡ some r.edge
-  pub after : edges_below table (slot_of r.cursor) ≡ edges_below table (slot_of c) + 1
+pub record Found (table : List ℕ) (c : Cursor) (is : Edge) (d : Cursor) : Type 0 where
+  pub edge : get_elem? (map coded (table_edges table)) (edges_below table (slot_of c)) ≡ some is
+  pub after : edges_below table (slot_of d) ≡ edges_below table (slot_of c) + 1
 
 -- no edge stands up to a later slot
 pub record Skipped (table : List ℕ) (c d : Cursor) : Type 0 where
@@ -170,14 +166,14 @@ pub record Skipped (table : List ℕ) (c d : Cursor) : Type 0 where
 
 pub record Stepped (table : List ℕ) (c : Cursor) (r : Step) : Type 0 where
   pub stands : Standing table r.cursor
-  pub found : r.there ≡ true → Found table c r
-  pub skipped : r.there ≡ false → Skipped table c r.cursor
+  pub found : (e : Edge) → r.edge ≡ Some e → Found table c e r.cursor
+  pub skipped : r.edge ≡ None → Skipped table c r.cursor
 
 -- the next edge, or that all edges are below the slot
 pub record Passed (table : List ℕ) (c : Cursor) (r : Step) : Type 0 where
   pub stands : Standing table r.cursor
-  pub found : r.there ≡ true → Found table c r
-  pub ended : r.there ≡ false → edges_below table (slot_of c) ≡ length (table_edges table)
+  pub found : (e : Edge) → r.edge ≡ Some e → Found table c e r.cursor
+  pub ended : r.edge ≡ None → edges_below table (slot_of c) ≡ length (table_edges table)
 
 -- before the first edge, or past the last
 pub record Begun (table : List ℕ) (fits : Bool) (c : Cursor) : Type 0 where

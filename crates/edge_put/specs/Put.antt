@@ -1,10 +1,10 @@
 -- Edges put into a list. Believed: `put_said` and `PutAs`.
-use Rattle.std.specs.Prelude.{◌≡◌, Bool, cond, ◌⊎◌, List, ◌++◌, map, ℕ, ◌+◌, ◌≤◌, ◌<◌, length, take, drop}
+use Rattle.std.specs.Prelude.{◌≡◌, Bool, cond, ◌⊎◌, List, Result, Ok, Err, ◌++◌, map, ℕ, ◌≤◌, ◌<◌, length, take, drop}
 use Rattle.std.proofs.Common.{inl, inr}
 use Rattle.spec_graph.specs.Edge as E
 use Rattle.edge_record.specs.declared.Edge.{Edge}
-use Rattle.edge_put.specs.declared.Put.{Put}
-use Rattle.edge_put.specs.declared.Put.TheVariants.{All, Refused}
+use Rattle.refusal.specs.declared.Fault.{Fault}
+use Rattle.refusal.specs.Numbers.{number_of}
 use Rattle.edge_record.specs.Coded.{coded}
 use Rattle.edge_count.specs.Slots.{table_edges}
 
@@ -17,16 +17,16 @@ abbrev pub put_first : List Edge → List Edge → ℕ → List Edge
 put_first list area k = take k list ++ drop k area
 
 -- the answer where k edges are put: all, or none where they do not fit
-unfoldable pub answer_for : Bool → ℕ → Put
-answer_for fits k = cond fits (All k) (Refused 20)
+unfoldable pub answer_for : Bool → ℕ → Result ℕ Fault
+answer_for fits k = cond fits (Ok k) (Err Fault.Area)
 
 -- N3: what the answer says: a refusal's number, or how many edges are put
-unfoldable pub put_said : Put → ℕ ⊎ ℕ
-put_said (Refused number) = inl number
-put_said (All count) = inr count
+unfoldable pub put_said : Result ℕ Fault → ℕ ⊎ ℕ
+put_said (Err fault) = inl (number_of fault)
+put_said (Ok count) = inr count
 
 -- S20: an area shorter than the edges is left as it was; else they stand at its front, and the rest of it is as it was (E5, E6)
-pub data PutAs (edges : List E.Edge) (area : List Edge) (r : Put) (after : List Edge) : Type 0 where
+pub data PutAs (edges : List E.Edge) (area : List Edge) (r : Result ℕ Fault) (after : List Edge) : Type 0 where
   short : length area < length edges → put_said r ≡ inl 20 → after ≡ area → PutAs edges area r after
   put : length edges ≤ length area → put_said r ≡ inr (length edges) → after ≡ map coded edges ++ drop (length edges) area
       → PutAs edges area r after

@@ -1,10 +1,10 @@
 -- Laws of edges put one after the other.
-use Rattle.std.specs.Prelude.{◌≡◌, Bool, ℕ, zero, suc, ◌+◌, ◌*◌, ◌≤◌, ◌<◌, leb, set}
+use Rattle.std.specs.Prelude.{◌≡◌, Bool, Result, Ok, Err, ℕ, zero, suc, ◌+◌, ◌*◌, ◌≤◌, ◌<◌, leb, set}
 use Rattle.std.proofs.Math.Path.{refl, sym, ap, subst}
 use Rattle.std.proofs.Common.{◌∙◌, not-suc-le-zero, le_of_suc-le-suc, add-one, length-append, length-drop, length-take-le}
 use Rattle.std.proofs.Math.Bool.{true, false, cond}
 use Rattle.std.proofs.Math.Logic.{inr}
-use Rattle.std.proofs.Math.Option.{none, some}
+use Rattle.std.proofs.Math.Option.{some}
 use mathlib.Core.List.{List, [], ◌∷◌, ◌++◌}
 use native.Mathlib.Omega.{arith}
 use Rattle.std.proofs.Math.ListN.{length, take, drop, get_elem?}
@@ -18,10 +18,8 @@ use Rattle.edge_record.specs.declared.Edge.{Edge}
 use Rattle.edge_record.specs.Coded.{coded}
 use Rattle.edge_count.specs.Slots.{table_edges, slots, edges_below}
 use Rattle.edge_find.specs.SearchLaws.{below_all}
-use Rattle.edge_put.specs.declared.Put.{Put}
-use Rattle.edge_put.specs.declared.Put.TheVariants.{All, Refused}
+use Rattle.refusal.specs.declared.Fault.{Fault}
 use Rattle.edge_put.specs.declared.Cursor.{Cursor}
-use Rattle.edge_put.specs.declared.Step.{Step}
 use Rattle.edge_put.specs.Cursors.{slot_of, Begun, Standing, Found}
 use Rattle.edge_put.specs.CursorLaws.{below_most}
 use Rattle.edge_put.specs.Put.{records, put_first, answer_for, put_said, PutAs}
@@ -60,7 +58,7 @@ module _ (table : List ℕ) (fits : Bool) where
       go true = going refl refl
       go false = over refl (let a = below_all table in omega arith) refl
 
-  module _ (c : Cursor) (r : Step) (k : ℕ) (kept : Kept table fits (slot_of c) k) (found : Found table c r) where
+  module _ (c : Cursor) (e : Edge) (d : Cursor) (k : ℕ) (kept : Kept table fits (slot_of c) k) (found : Found table c e d) where
     abbrev before : ℕ
     before = edges_below table (slot_of c)
 
@@ -68,19 +66,19 @@ module _ (table : List ℕ) (fits : Bool) where
     there = let h = get_elem?_lt (records table) before found.edge in let m = length-map (table_edges table) coded in omega arith
 
     -- the edge that is found has the next number
-    pub kept_edge : get_elem? (records table) k ≡ some r.edge
+    pub kept_edge : get_elem? (records table) k ≡ some e
     kept_edge = go kept
       where
-        go : Kept table fits (slot_of c) k → get_elem? (records table) k ≡ some r.edge
-        go (going f e) = ap (get_elem? (records table)) (sym e) ∙ found.edge
-        go (over f e z) = absurd (let h = there in omega arith)
+        go : Kept table fits (slot_of c) k → get_elem? (records table) k ≡ some e
+        go (going f b) = ap (get_elem? (records table)) (sym b) ∙ found.edge
+        go (over f b z) = absurd (let h = there in omega arith)
 
-    pub kept_more : Kept table fits (slot_of r.cursor) (k + 1)
+    pub kept_more : Kept table fits (slot_of d) (k + 1)
     kept_more = go kept
       where
-        go : Kept table fits (slot_of c) k → Kept table fits (slot_of r.cursor) (k + 1)
-        go (going f e) = going f (found.after ∙ ap (λ (j : ℕ). j + 1) e)
-        go (over f e z) = absurd (let h = there in omega arith)
+        go : Kept table fits (slot_of c) k → Kept table fits (slot_of d) (k + 1)
+        go (going f b) = going f (found.after ∙ ap (λ (j : ℕ). j + 1) b)
+        go (over f b z) = absurd (let h = there in omega arith)
 
 module _ (table : List ℕ) (area : List Edge) where
   abbrev edges : List E.Edge
@@ -102,15 +100,15 @@ module _ (table : List ℕ) (area : List Edge) where
   kept_few c k s (over f e z) = (omega arith, omega arith)
 
   -- an edge that is found is one of all, and there is room for it
-  pub kept_below : (c : Cursor) (r : Step) (k : ℕ) → Kept table fit (slot_of c) k → Found table c r → (k < length edges) × (k < length area)
-  kept_below c r k kept found = go kept
+  pub kept_below : (c : Cursor) (e : Edge) (d : Cursor) (k : ℕ) → Kept table fit (slot_of c) k → Found table c e d → (k < length edges) × (k < length area)
+  kept_below c e d k kept found = go kept
     where
       go : Kept table fit (slot_of c) k → (k < length edges) × (k < length area)
-      go (going f e) =
-          let h = there table fit c r k kept found in
+      go (going f b) =
+          let h = there table fit c e d k kept found in
           let l = leb-true (length edges) (length area) f in
           (omega arith, omega arith)
-      go (over f e z) = absurd (let h = there table fit c r k kept found in omega arith)
+      go (over f b z) = absurd (let h = there table fit c e d k kept found in omega arith)
 
   pub put_length : (c : Cursor) (k : ℕ) → Standing table c → Kept table fit (slot_of c) k → length (put_first (records table) area k) ≡ length area
   put_length c k s kept =
@@ -123,17 +121,17 @@ module _ (table : List ℕ) (area : List Edge) where
   put_more k e h n = set_front (records table) area k e h n ∙ ap (put_first (records table) area) (sym (add-one k))
 
   -- where no edge comes any more, they are put as they have to be
-  pub put_ended : (c : Cursor) (k : ℕ) (r : Put) → Kept table fit (slot_of c) k → edges_below table (slot_of c) ≡ length edges → r ≡ answer_for fit k
+  pub put_ended : (c : Cursor) (k : ℕ) (r : Result ℕ Fault) → Kept table fit (slot_of c) k → edges_below table (slot_of c) ≡ length edges → r ≡ answer_for fit k
       → PutAs edges area r (put_first (records table) area k)
   unfolding answer_for put_said
   put_ended c k r (going f b) ended e =
       let all : k ≡ length edges = sym b ∙ ended in
       put (leb-true (length edges) (length area) f)
-      (ap put_said (e ∙ ap (λ (t : Bool). cond t (All k) (Refused 20)) f) ∙ ap inr all)
+      (ap put_said (e ∙ ap (λ (t : Bool). cond t (Ok k) (Err Fault.Area)) f) ∙ ap inr all)
       (ap (put_first (records table) area) all
       ∙ ap (λ (l : List Edge). l ++ drop (length edges) area)
       (ap (λ (j : ℕ). take j (records table)) (sym (length-map edges coded)) ∙ take-length (records table)))
   put_ended c k r (over f b z) ended e =
       short (leb-false (length edges) (length area) f)
-      (ap put_said (e ∙ ap (λ (t : Bool). cond t (All k) (Refused 20)) f))
+      (ap put_said (e ∙ ap (λ (t : Bool). cond t (Ok k) (Err Fault.Area)) f))
       (ap (put_first (records table) area) z)

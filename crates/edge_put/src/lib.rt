@@ -1,12 +1,12 @@
 // The edges of a table, one after the other, put into the caller's list.
 #![tactic(auto)]
 
-ghost use Rattle.std.specs.Prelude.{◌≡◌, ◌+◌, ◌*◌, ◌≤◌, ◌<◌, length};
+ghost use Rattle.std.specs.Prelude.{◌≡◌};
 ghost use Rattle.kind_table.specs.Codes.{code_of};
 ghost use Rattle.place_row.specs.RowTable.{row_at};
 ghost use Rattle.edge_count.specs.Slots.{table_edges};
 ghost use Rattle.edge_put.specs.Cursors.{row_in, row_start, past_all, first_row, next_row, at_pair, nothing_at, edge_by, back_shared, back_is, row_after};
-ghost use Rattle.edge_put.specs.Cursors.{Inside, LinksIn, Begun, Standing, BackNext, Open, Paired, Stepped, Passed};
+ghost use Rattle.edge_put.specs.Cursors.{Inside, Begun, Standing, BackNext, Open, Paired, Stepped, Passed};
 ghost use Rattle.edge_put.specs.Put.{answer_for, PutAs};
 
 use edge_count::fits_in;
@@ -15,16 +15,10 @@ use edge_kinds::{LOOSE, kind_has, kind_number, kind_of};
 use edge_record::Edge;
 use edge_test::{back_letter, forward_letter};
 use kind_pair::pair_code;
-use place_fetch::row_count;
+use place_fetch::{row_count, row_of};
 use place_link::{FIRST, NEXT, NEXTS, rows_linked};
-use place_row::{KEYS, KIND, PLACE, READS, RELATION, ROW_WORDS, Row, TESTS, WRITES};
-
-// What becomes of edges that are put: all of them are, so many; or the number of the refusal, and none is.
-#[derive(Clone, Copy)]
-pub enum Put {
-    All(usize),
-    Refused(u8),
-}
+use place_row::{KIND, ROW_WORDS, Row};
+use refusal::Fault;
 
 // The words of a row, the kind by its number: all of one size, so that keeping them costs no copying of what lies between.
 #[derive(Clone, Copy)]
@@ -40,43 +34,32 @@ struct Words {
 }
 
 // A place in the order of a table's edges: row i of n with its words, and the rows from j on are still to be looked at as those that an edge from
-// it enters. Where `back` is not 0 it is the letter of the back edge to row j, which comes next. Where `linked` is not 0 the rows are linked, and
-// those of other chains are passed over.
+// it enters. Where `back` is not 0 it is the letter of the back edge to row j, which comes next. Where the rows are linked those of other chains are
+// passed over.
 #[derive(Clone, Copy)]
 struct Cursor {
     n: usize,
     i: usize,
     j: usize,
     back: u64,
-    linked: u64,
+    linked: bool,
     w: Words,
 }
 
-// The edge that comes next, if one is there, and the place after it; else a place before which no edge comes.
+// The edge that comes next and the place after it; where there is no edge, a place before which none comes.
 #[derive(Clone, Copy)]
 struct Step {
-    there: bool,
-    edge: Edge,
+    edge: Option<Edge>,
     cursor: Cursor,
 }
 
-// Row number j of a table, where it is whole.
+// Row number j of a table, which is whole.
 fn row_whole(table: &[u64], j: usize) -> Row
-    requires { j * 8 + 8 ≤ length table.now }
+    requires { Inside table.now j }
     ensures { result ≡ row_at table.now j }
 {
-    let b = j * ROW_WORDS;
-    let k = kind_of(table[b + KIND]);
-    Row {
-        node: table[b],
-        place: table[b + PLACE],
-        kind: k,
-        relation: table[b + RELATION],
-        reads: table[b + READS],
-        writes: table[b + WRITES],
-        tests: table[b + TESTS],
-        keys: table[b + KEYS],
-    }
+    let (rows, _) = table.as_chunks::<ROW_WORDS>();
+    row_of(&rows[j])
 }
 
 // The row that words tell.
@@ -97,7 +80,7 @@ fn row_in(w: Words) -> Row
 }
 
 // Row i left, of which row j may be entered first.
-fn row_start(table: &[u64], n: usize, linked: u64, i: usize, j: usize) -> Cursor
+fn row_start(table: &[u64], n: usize, linked: bool, i: usize, j: usize) -> Cursor
     requires { Inside table.now i }
     ensures { result ≡ row_start table.now n linked i j }
 {
@@ -143,31 +126,31 @@ fn past_all(n: usize) -> Cursor
         i: n,
         j: 0,
         back: 0,
-        linked: 0,
+        linked: false,
         w,
     }
 }
 
 // The first row to be looked at for the edges that leave row i.
-fn row_first(table: &[u64], linked: u64, i: usize) -> usize
+fn row_first(table: &[u64], linked: bool, i: usize) -> usize
     requires { Inside table.now i }
     ensures { result ≡ first_row table.now linked i }
 {
-    if linked == 0 {
-        return 0;
+    if linked {
+        return (table[i * ROW_WORDS + KIND] / FIRST) as usize;
     }
-    (table[i * ROW_WORDS + KIND] / FIRST) as usize
+    0
 }
 
 // The row to be looked at after row j.
-fn row_next(table: &[u64], linked: u64, j: usize) -> usize
+fn row_next(table: &[u64], linked: bool, j: usize) -> usize
     requires { Inside table.now j }
     ensures { result ≡ next_row table.now linked j }
 {
-    if linked == 0 {
-        return j + 1;
+    if linked {
+        return (table[j * ROW_WORDS + KIND] / NEXT % NEXTS) as usize;
     }
-    (table[j * ROW_WORDS + KIND] / NEXT % NEXTS) as usize
+    j + 1
 }
 
 // The same row left, another row that may be entered.
@@ -184,21 +167,7 @@ fn at_pair(c: Cursor, j: usize, back: u64) -> Cursor
 fn nothing_at(cursor: Cursor) -> Step
     ensures { result ≡ nothing_at cursor }
 {
-    let edge = Edge {
-        node: 0,
-        leaves: 0,
-        into: 0,
-        enters: 0,
-        sharing: 0,
-        lowest: 0,
-        flow: 0,
-        letter: 0,
-    };
-    Step {
-        there: false,
-        edge,
-        cursor,
-    }
+    Step { edge: None, cursor }
 }
 
 // The edge between two rows with this flow and the letter in this word, whose sets share m.
@@ -241,8 +210,7 @@ fn back_step(table: &[u64], c: Cursor) -> Step
     let edge = edge_by(b'b', letter, m, p, q);
     let cursor = at_pair(c, row_next(table, c.linked, j), 0);
     Step {
-        there: true,
-        edge,
+        edge: Some(edge),
         cursor,
     }
 }
@@ -260,7 +228,7 @@ fn back_told(code: u32, p: Row, q: Row) -> u64
 }
 
 // The row to look at next: the same where a back edge comes next.
-fn row_after(table: &[u64], linked: u64, j: usize, back: u64) -> usize
+fn row_after(table: &[u64], linked: bool, j: usize, back: u64) -> usize
     requires { Inside table.now j }
     ensures { result ≡ row_after table.now linked j back }
 {
@@ -291,8 +259,7 @@ fn pair_step(table: &[u64], c: Cursor) -> Step
     let back = back_told(code, p, q);
     let cursor = at_pair(c, row_after(table, c.linked, j, back), back);
     Step {
-        there: true,
-        edge,
+        edge: Some(edge),
         cursor,
     }
 }
@@ -325,22 +292,12 @@ fn next_edge(table: &[u64], c: Cursor) -> Step
     let mut d = c;
     while d.i < d.n {
         let step = look_on(table, d);
-        if step.there {
-            return step;
+        match step.edge {
+            Some(_) => return step,
+            None => d = step.cursor,
         }
-        d = step.cursor;
     }
     nothing_at(d)
-}
-
-// 1 where the rows of a table are linked, else 0.
-fn links_in(table: &[u64]) -> u64
-    ensures { LinksIn table.now result }
-{
-    if rows_linked(table) {
-        return 1;
-    }
-    0
 }
 
 // Before the first edge; where they do not fit, past the last.
@@ -350,25 +307,25 @@ fn start_for(table: &[u64], fits: bool) -> Cursor
     let n = row_count(table);
     if fits {
         if 0 < n {
-            return row_start(table, n, links_in(table), 0, 0);
+            return row_start(table, n, rows_linked(table), 0, 0);
         }
     }
     past_all(n)
 }
 
 // The answer where k edges are put: all, or none because they do not fit.
-fn answered(fits: bool, k: usize) -> Put
+fn answered(fits: bool, k: usize) -> Result<usize, Fault>
     ensures { result ≡ answer_for fits k }
 {
     if fits {
-        return Put::All(k);
+        return Ok(k);
     }
-    Put::Refused(20)
+    Err(Fault::Area)
 }
 
-// Puts the edges of a table at the front of an area that has room for them; the rest of the area stays as it was, and so does all of an
-// area that is too short. Rows past the 512th are not looked at: no workload has more.
-pub fn put_edges<'b, 'a>(table: &'b [u64], out: &'a mut [Edge]) -> Put
+// Puts the edges of a table at the front of an area that has room for them, and answers how many they are; the rest of the area stays as it was, and
+// so does all of an area that is too short. Rows past the 512th are not looked at: no workload has more.
+pub fn put_edges<'b, 'a>(table: &'b [u64], out: &'a mut [Edge]) -> Result<usize, Fault>
     ensures { PutAs (table_edges table.now) out.old result out.new }
 {
     let fits = fits_in(table, out.len());
@@ -376,10 +333,10 @@ pub fn put_edges<'b, 'a>(table: &'b [u64], out: &'a mut [Edge]) -> Put
     let mut k: usize = 0;
     loop {
         let step = next_edge(table, c);
-        if !step.there {
+        let Some(edge) = step.edge else {
             break;
-        }
-        out[k] = step.edge;
+        };
+        out[k] = edge;
         c = step.cursor;
         k += 1;
     }

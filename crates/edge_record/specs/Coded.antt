@@ -1,11 +1,9 @@
 -- Which edge a record stands for (E5, E6). Believed: `flow_byte`, `letter_byte`, `coded` and `found_as`.
-use Rattle.std.proofs.Math.Option.{Option, none, some}
-use Rattle.std.specs.Prelude.{ℕ}
+use Rattle.std.proofs.Math.Option as L
+use Rattle.std.specs.Prelude.{ℕ, Option, None, Some}
 use Rattle.spec_graph.specs.Graph as G
 use Rattle.spec_graph.specs.Edge as E
 use Rattle.edge_record.specs.declared.Edge.{Edge}
-use Rattle.edge_record.specs.declared.Found.{Found}
-use Rattle.edge_record.specs.declared.Found.TheVariants.{There, Absent}
 
 -- the byte of a flow: f or b
 abbrev pub flow_byte : G.Flow → ℕ
@@ -34,6 +32,6 @@ coded e = record {
 }
 
 -- E5: one edge asked for by its number, or that there is none
-unfoldable pub found_as : Option E.Edge → Found
-found_as none = Absent
-found_as (some e) = There (coded e)
+unfoldable pub found_as : L.Option E.Edge → Option Edge
+found_as L.none = None
+found_as (L.some e) = Some (coded e)

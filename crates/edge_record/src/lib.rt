@@ -4,7 +4,7 @@
 // An edge: node and place left, node and place entered, how many attributes its sets share and the lowest of them, flow and letter.
 // Numbers only, so that a caller in another language can own a list of edges: flow is b'f' or b'b', letter b'A' to b'E'.
 #[repr(C)]
-#[derive(Clone, Copy)]
+#[derive(Clone, Copy, Debug, PartialEq, Eq)]
 pub struct Edge {
     pub node: u64,
     pub leaves: u64,
@@ -14,11 +14,4 @@ pub struct Edge {
     pub lowest: u32,
     pub flow: u8,
     pub letter: u8,
-}
-
-// The edge asked for, or that there is none.
-#[derive(Clone, Copy)]
-pub enum Found {
-    There(Edge),
-    Absent,
 }

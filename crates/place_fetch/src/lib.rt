@@ -1,7 +1,7 @@
 // Rows fetched from a table of places: eight words to a row.
 #![tactic(auto)]
 
-ghost use Rattle.std.specs.Prelude.{◌≡◌, ◌+◌, ◌*◌, ◌≤◌, ◌<◌, length, get_or};
+ghost use Rattle.std.specs.Prelude.{◌≡◌, ◌+◌, ◌*◌, ◌<◌, get_or};
 ghost use Rattle.place_row.specs.RowTable.{row_at, row_count};
 
 use edge_kinds::kind_of;
@@ -11,29 +11,22 @@ use place_row::{KEYS, KIND, NODE, PLACE, READS, RELATION, ROW_WORDS, ROWS, Row, 
 pub fn row_count(table: &[u64]) -> usize
     ensures { result ≡ row_count table.now }
 {
-    let n = table.len() / ROW_WORDS;
-    if n < ROWS {
-        return n;
-    }
-    ROWS
+    (table.len() / ROW_WORDS).min(ROWS)
 }
 
-// Row number i, where it is whole.
-fn whole_row(table: &[u64], i: usize) -> Row
-    requires { i * 8 + 8 ≤ length table.now }
-    ensures { result ≡ row_at table.now i }
+// The row that eight words tell. Who knows that a row is whole takes its words as a chunk of the table, and no word is looked up past a test.
+pub fn row_of(words: &[u64; ROW_WORDS]) -> Row
+    ensures { result ≡ row_at words.now 0 }
 {
-    let b = i * ROW_WORDS;
-    let k = kind_of(table[b + KIND]);
     Row {
-        node: table[b],
-        place: table[b + PLACE],
-        kind: k,
-        relation: table[b + RELATION],
-        reads: table[b + READS],
-        writes: table[b + WRITES],
-        tests: table[b + TESTS],
-        keys: table[b + KEYS],
+        node: words[NODE],
+        place: words[PLACE],
+        kind: kind_of(words[KIND]),
+        relation: words[RELATION],
+        reads: words[READS],
+        writes: words[WRITES],
+        tests: words[TESTS],
+        keys: words[KEYS],
     }
 }
 
@@ -57,14 +50,14 @@ fn row_word(table: &[u64], i: usize, k: usize) -> u64
 pub fn row_at(table: &[u64], i: usize) -> Row
     ensures { result ≡ row_at table.now i }
 {
-    if i < table.len() / ROW_WORDS {
-        return whole_row(table, i);
+    let (rows, _) = table.as_chunks::<ROW_WORDS>();
+    if i < rows.len() {
+        return row_of(&rows[i]);
     }
-    let k = kind_of(row_word(table, i, KIND));
     Row {
         node: row_word(table, i, NODE),
         place: row_word(table, i, PLACE),
-        kind: k,
+        kind: kind_of(row_word(table, i, KIND)),
         relation: row_word(table, i, RELATION),
         reads: row_word(table, i, READS),
         writes: row_word(table, i, WRITES),

@@ -45,11 +45,9 @@ pub fn link_rows(table: &mut [u64], next: &mut [u64])
         return;
     }
     let heads = chain_rows(table, next);
-    let mut j: usize = 0;
-    while j < n {
+    for j in 0..n {
         let word = row_link(table, next, &heads, j);
         table[j * ROW_WORDS + KIND] = word;
-        j += 1;
     }
 }
 
@@ -58,13 +56,11 @@ fn links_held(table: &[u64], next: &[u64], heads: &[u16; CHAINS], n: usize) -> b
     requires { Chains table.now next.now heads.now n }
     ensures { LinksTold table.now result }
 {
-    let mut j: usize = 0;
-    while j < n {
+    for j in 0..n {
         let word = row_link(table, next, heads, j);
         if table[j * ROW_WORDS + KIND] != word {
             return false;
         }
-        j += 1;
     }
     true
 }

@@ -1,41 +1,32 @@
--- A number past the last edge has none (found_none). Else i edges stand in the slots below `from`, each step passes one more, and after k of them
--- the next is number k (found_at).
-use mathlib.Core.Path.{◌≡◌, ◌∙◌}
-use Prim.Native.Nat.{◌-◌, ◌≤◌}
-use native.Mathlib.Nat.{le_antisymm}
-use native.Mathlib.Omega.{arith}
-use Rattle.edge_count.specs.Slots.{edges_below}
-use Rattle.edge_number.specs.NumberLaws.{ahead_first, found_at, found_none}
-use borrow.Author.Rules.{rules}
+-- Where the edge with number i is not there, no later number has one (absent_later). Else the edges after its slot are those with higher numbers
+-- (next_numbered), and after k of them the next is number k (found_is).
+use Rattle.std.proofs.Common.{◌≡◌, ◌∙◌, arith}
+use Rattle.edge_number.specs.NumberLaws.{ahead_first, found_ahead, found_is, absent_later, next_numbered}
+use Rattle.edge_number.specs.Numbers.{Numbered}
 use Rattle.edge_number.proofs.edge_of_number.Goals as goal
-
-pub returns-then-n-k : goal.returns-then-n-k
-returns-then-n-k c =
-    let past = c.if-n-k.true in
-    found_none _ _ _ c.edge_count-n.ensures (omega arith)
+use Rattle.edge_number.proofs.edge_of_number.Goals.{In_ok-step}
 
 pub loop-i-init : goal.loop-i-init
-loop-i-init c = (omega arith, ahead_first _)
+loop-i-init c = ahead_first _
 
-pub edge_next-step-requires : goal.edge_next-step-requires
-edge_next-step-requires c =
-    let c3 = c in
-    record {
-      below = c.loop-i.invariant.1;
-      there = let e = c3.edge_count-n.ensures in let l = c.if-n-k.false in let m = c.loop-i-test.true in omega arith;
-    }
+pub returns-in_err-step : goal.returns-in_err-step
+returns-in_err-step c =
+    let none = absent_later _ _ _ _ c.loop-i.invariant c.edge_from-step.ensures c.args.k (omega arith) c.in_err-step.was in
+    cc
+
+-- the edge that is found has number i
+numbered : (c : In_ok-step) → Numbered c.args.table.now c.loop-i.i c.edge_from-step.result.slot c.in_ok-step.field-0
+numbered c =
+    next_numbered _ _ _ _ (found_ahead _ _ _ _ c.loop-i.invariant c.edge_from-step.ensures _ c.in_ok-step.was) c.edge_from-step.ensures _
+    c.in_ok-step.was
 
 pub overflow_add-from : goal.overflow_add-from
-overflow_add-from c = let h = c.edge_next-step.ensures.few in record { fits = omega arith }
+overflow_add-from c = let h = (numbered (goal.at.overflow_add-from c).In_ok-step).few in record { fits = omega arith }
 
 pub loop-i-preserved : goal.loop-i-preserved
-loop-i-preserved c = (omega arith, c.edge_next-step.ensures.after)
-
-pub edge_next-last-requires : goal.edge_next-last-requires
-edge_next-last-requires c = record {
-  below = c.loop-i.invariant.1 ∙ le_antisymm c.loop-i.invariant.0 c.loop-i-test.false;
-  there = let e = c.edge_count-n.ensures in let l = c.if-n-k.false in omega arith;
-}
+loop-i-preserved c = (numbered (goal.at.loop-i-preserved c).In_ok-step).after
 
 pub returns : goal.returns
-returns c = found_at _ _ _ c.edge_next-last.ensures
+returns c =
+    let same : c.loop-i.i ≡ c.args.k = omega arith in
+    found_is _ _ _ _ (c.loop-i.invariant ∙ same) c.edge_from.ensures

@@ -1,10 +1,9 @@
 -- The back edge stands between the two rows with the letter that the cursor holds, and the next row comes after it (passed-back).
 use Rattle.edge_put.specs.CursorLaws.{back_inside, passed_back}
-use borrow.Author.Rules.{rules}
 use Rattle.edge_put.proofs.back_step.Goals as goal
 
 pub row_whole-q-requires : goal.row_whole-q-requires
-row_whole-q-requires c = (back_inside _ _ c.requires).whole
+row_whole-q-requires c = back_inside _ _ c.requires
 
 pub row_next-requires : goal.row_next-requires
 row_next-requires c = back_inside _ _ c.requires

@@ -4,7 +4,6 @@ use Rattle.edge_kinds.specs.KindLaws.{told, answer}
 use Rattle.spec_graph.specs.Graph as G
 use Rattle.edge_test.specs.LetterLaws.{letter_told}
 use Rattle.edge_put.specs.CursorLaws.{back_none}
-use borrow.Author.Rules.{rules}
 use Rattle.edge_put.proofs.back_told.Goals as goal
 
 pub returns-then-kind_has : goal.returns-then-kind_has

@@ -1,6 +1,5 @@
 -- Past the last row the next is left (stepped-row), if there is one (stepped-past); else the pair's edge is told.
 use Rattle.edge_put.specs.CursorLaws.{row_fits, next_inside, stepped_row, stepped_past}
-use borrow.Author.Rules.{rules}
 use Rattle.edge_put.proofs.look_on.Goals as goal
 
 pub overflow_add-i : goal.overflow_add-i
@@ -8,8 +7,7 @@ overflow_add-i c = record { fits = row_fits _ _ c.requires c.if-n-c.true }
 
 pub returns-then-n-i : goal.returns-then-n-i
 returns-then-n-i c =
-    let c2 = c in
-    stepped_past _ _ c2.requires c2.if-n-c.true _ _ c2.if-n-i.true
+    stepped_past _ _ c.requires c.if-n-c.true _ _ c.if-n-i.true
     c.past_all.ensures c.nothing_at.ensures
 
 pub row_first-first-requires : goal.row_first-first-requires
@@ -18,13 +16,11 @@ row_first-first-requires c =
 
 pub row_start-requires : goal.row_start-requires
 row_start-requires c =
-    let c1 = c in
-    next_inside _ _ c1.requires c1.if-n-c.true c1.if-n-i.false
+    next_inside _ _ c.requires c.if-n-c.true c.if-n-i.false
 
 pub returns-then-n-c : goal.returns-then-n-c
 returns-then-n-c c =
-    let c3 = c in
-    stepped_row _ _ c3.requires c3.if-n-c.true c3.if-n-i.false _ _ _
+    stepped_row _ _ c.requires c.if-n-c.true c.if-n-i.false _ _ _
     c.row_first-first.ensures c.row_start.ensures c.nothing_at-then-n-c.ensures
 
 pub pair_step-requires : goal.pair_step-requires

@@ -1,10 +1,8 @@
 -- A back edge that is to come is the next. Else each step passes over slots in which no edge stands (onward-step), until one finds an edge
 -- (onward-found) or all rows are left (onward-end).
 use mathlib.Core.Path.{refl}
-use Prim.Native.Nat.{◌+◌, ◌-◌, ◌*◌}
 use native.Mathlib.Omega.{arith}
-use Rattle.edge_put.specs.CursorLaws.{Onward, onward_step, onward_found, onward_end, onward_high}
-use borrow.Author.Rules.{rules}
+use Rattle.edge_put.specs.CursorLaws.{onward_step, onward_found, onward_end, onward_high}
 use Rattle.edge_put.proofs.next_edge.Goals as goal
 
 pub back_step-requires : goal.back_step-requires
@@ -16,22 +14,20 @@ loop-d-init c = record { stands = c.requires; none = c.if-c-ne0.false; below = r
 pub look_on-step-requires : goal.look_on-step-requires
 look_on-step-requires c = let o = c.loop-d.invariant in record { stands = o.stands; none = o.none; left = c.loop-d-test.true }
 
-pub returns-then-step : goal.returns-then-step
-returns-then-step c = onward_found _ _ _ _ c.loop-d.invariant c.look_on-step.ensures c.if-step.true
+pub returns-in-Some : goal.returns-in-Some
+returns-in-Some c = onward_found _ _ _ _ c.loop-d.invariant c.look_on-step.ensures _ c.in-Some.is
 
 pub loop-d-smaller : goal.loop-d-smaller
 loop-d-smaller c =
-    let c2 = c in
-    let o = c2.loop-d.invariant in
-    let s = c2.look_on-step.ensures in
-    let high = onward_high _ _ _ (onward_step _ _ _ _ o s c.if-step.false) in
-    let later = (s.skipped c.if-step.false).later in
+    let o = c.loop-d.invariant in
+    let s = c.look_on-step.ensures in
+    let high = onward_high _ _ _ (onward_step _ _ _ _ o s c.in-None.is) in
+    let later = (s.skipped c.in-None.is).later in
     omega (arith, high, later)
 
 pub loop-d-preserved : goal.loop-d-preserved
 loop-d-preserved c =
-    let c2 = c in
-    onward_step _ _ _ _ c2.loop-d.invariant c2.look_on-step.ensures c.if-step.false
+    onward_step _ _ _ _ c.loop-d.invariant c.look_on-step.ensures c.in-None.is
 
 pub returns : goal.returns
 returns c =

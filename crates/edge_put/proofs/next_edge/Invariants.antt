@@ -1,10 +1,7 @@
 -- A back edge that is to come is the next. Else each step passes over slots in which no edge stands (onward-step), until one finds an edge
 -- (onward-found) or all rows are left (onward-end).
-use mathlib.Core.Path.{refl}
 use Prim.Native.Nat.{◌+◌, ◌-◌, ◌*◌}
-use native.Mathlib.Omega.{arith}
-use Rattle.edge_put.specs.CursorLaws.{Onward, onward_step, onward_found, onward_end, onward_high}
-use borrow.Author.Rules.{rules}
+use Rattle.edge_put.specs.CursorLaws.{Onward}
 use Rattle.edge_put.proofs.next_edge.Given as goal
 
 abbrev pub invariant-loop-d : goal.invariant-loop-d

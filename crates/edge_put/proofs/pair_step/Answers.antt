@@ -2,13 +2,11 @@
 use Rattle.spec_graph.specs.Graph as G
 use Rattle.edge_test.specs.LetterLaws.{letter_told}
 use Rattle.edge_put.specs.CursorLaws.{pair_inside, stepped_none, stepped_forward}
-use mathlib.Core.Path.{ap, ◌∙◌}
-use Prim.Native.Nat.{ℕ}
-use borrow.Author.Rules.{rules}
+use mathlib.Core.Path.{◌∙◌}
 use Rattle.edge_put.proofs.pair_step.Goals as goal
 
 pub row_whole-q-requires : goal.row_whole-q-requires
-row_whole-q-requires c = (pair_inside _ _ c.requires).whole
+row_whole-q-requires c = pair_inside _ _ c.requires
 
 pub row_next-requires : goal.row_next-requires
 row_next-requires c = pair_inside _ _ c.requires

@@ -1,77 +1,76 @@
-use Rattle.std.proofs.Common.{◌≡◌, ◌+◌, ◌<◌, length, arith, ◌∙◌, ap, sym, subst, true, Bool, ℕ, List}
+use Rattle.std.specs.Prelude.{Result}
+use Rattle.std.proofs.Common.{◌≡◌, ◌+◌, ◌<◌, length, arith, ◌∙◌, ap, sym, subst, Bool, ℕ, List}
 use Rattle.std.proofs.Math.Dec.{leb}
 use Rattle.std.proofs.Math.ListN.{set}
-use borrow.Author.Tests.{not-true, not-false}
 use Rattle.edge_record.specs.declared.Edge.{Edge}
 use Rattle.edge_count.specs.Slots.{table_edges, edges_below}
 use Rattle.edge_put.specs.declared.Cursor.{Cursor}
-use Rattle.edge_put.specs.declared.Put.{Put}
-use Rattle.edge_put.specs.declared.Step.{Step}
-use Rattle.edge_put.specs.Cursors.{slot_of, Begun, Standing, Found, Passed}
+use Rattle.refusal.specs.declared.Fault.{Fault}
+use Rattle.edge_put.specs.Cursors.{slot_of, Begun, Standing, Found}
 use Rattle.edge_put.specs.Put.{records, put_first, answer_for, PutAs}
-use Rattle.edge_put.specs.PutLaws.{Kept, kept_start, kept_more, kept_edge, kept_few, kept_below, put_none, put_length, put_more, put_ended}
+use Rattle.edge_put.specs.PutLaws.{Kept, kept_start, kept_more, kept_edge, kept_below, put_none, put_length, put_more, put_ended}
 use Rattle.edge_put.proofs.put_edges.Goals as goal
 
 -- whether the edges fit
 abbrev fit : List ℕ → List Edge → Bool
 fit table area = leb (length (table_edges table)) (length area)
 
-pub loop-step-init : goal.loop-step-init
-loop-step-init c = record {
+pub loop-edge-init : goal.loop-edge-init
+loop-edge-init c = record {
   stands = c.start_for-c.ensures.stands;
   kept = kept_start _ _ _ (subst (λ (b : Bool). Begun c.args.table.now b c.start_for-c.result) c.fits_in-fits.ensures c.start_for-c.ensures);
   put = sym (put_none c.args.table.now c.args.out.now);
 }
 
 -- an edge that is found has a place in the area
-room : (table : List ℕ) (area out : List Edge) (c : Cursor) (k : ℕ) (r : Step) → Standing table c → Kept table (fit table area) (slot_of c) k
-    → out ≡ put_first (records table) area k → Found table c r → (k < length (table_edges table)) × (k < length out)
-room table area out c k r s kept put found =
-    let b = kept_below table area c r k kept found in
+room : (table : List ℕ) (area out : List Edge) (c : Cursor) (k : ℕ) (x : Edge) (d : Cursor) → Standing table c → Kept table (fit table area) (slot_of c) k
+    → out ≡ put_first (records table) area k → Found table c x d → (k < length (table_edges table)) × (k < length out)
+room table area out c k x d s kept put found =
+    let b = kept_below table area c x d k kept found in
     let same = put_length table area c k s kept in
     let e = ap (λ (l : List Edge). length l) put in
     (b.0, omega (arith, b.1, same, e))
 
 pub offset_bounds-out-k : goal.offset_bounds-out-k
 offset_bounds-out-k c =
-    let b = room _ _ _ _ _ _ c.loop-step.invariant.stands c.loop-step.invariant.kept c.loop-step.invariant.put
-    (c.next_edge-step.ensures.found (not-false _ c.if-not-step.false)) in
+    let b = room _ _ _ _ _ _ _ c.loop-edge.invariant.stands c.loop-edge.invariant.kept c.loop-edge.invariant.put
+    (c.next_edge-step.ensures.found _ c.in-Some.is) in
     omega (arith, b.1)
 
 pub bounds-out-k : goal.bounds-out-k
 bounds-out-k c =
-    (room _ _ _ _ _ _ c.loop-step.invariant.stands c.loop-step.invariant.kept c.loop-step.invariant.put
-    (c.next_edge-step.ensures.found (not-false _ c.if-not-step.false))).1
+    (room _ _ _ _ _ _ _ c.loop-edge.invariant.stands c.loop-edge.invariant.kept c.loop-edge.invariant.put
+    (c.next_edge-step.ensures.found _ c.in-Some.is)).1
 
 pub overflow_add-k : goal.overflow_add-k
 overflow_add-k c =
-    let b = room _ _ _ _ _ _ c.loop-step.invariant.stands c.loop-step.invariant.kept c.loop-step.invariant.put
-    (c.next_edge-step.ensures.found (not-false _ c.if-not-step.false)) in
+    let b = room _ _ _ _ _ _ _ c.loop-edge.invariant.stands c.loop-edge.invariant.kept c.loop-edge.invariant.put
+    (c.next_edge-step.ensures.found _ c.in-Some.is) in
     omega (arith, b.1)
 
-pub loop-step-smaller : goal.loop-step-smaller
-loop-step-smaller c =
-    let b = room _ _ _ _ _ _ c.loop-step.invariant.stands c.loop-step.invariant.kept c.loop-step.invariant.put
-    (c.next_edge-step.ensures.found (not-false _ c.if-not-step.false)) in
+pub loop-edge-smaller : goal.loop-edge-smaller
+loop-edge-smaller c =
+    let b = room _ _ _ _ _ _ _ c.loop-edge.invariant.stands c.loop-edge.invariant.kept c.loop-edge.invariant.put
+    (c.next_edge-step.ensures.found _ c.in-Some.is) in
     omega (arith, b.0)
 
 -- one edge more at the front
-more : (table : List ℕ) (area out : List Edge) (c : Cursor) (k : ℕ) (r : Step) → Kept table (fit table area) (slot_of c) k
-    → out ≡ put_first (records table) area k → Found table c r → set out k r.edge ≡ put_first (records table) area (k + 1)
-more table area out c k r kept put found =
-    ap (λ (l : List Edge). set l k r.edge) put
-    ∙ put_more table area k r.edge (kept_below table area c r k kept found).1 (kept_edge table (fit table area) c r k kept found)
+more : (table : List ℕ) (area out : List Edge) (c : Cursor) (k : ℕ) (x : Edge) (d : Cursor) → Kept table (fit table area) (slot_of c) k
+    → out ≡ put_first (records table) area k → Found table c x d → set out k x ≡ put_first (records table) area (k + 1)
+more table area out c k x d kept put found =
+    ap (λ (l : List Edge). set l k x) put
+    ∙ put_more table area k x (kept_below table area c x d k kept found).1 (kept_edge table (fit table area) c x d k kept found)
 
-pub loop-step-preserved : goal.loop-step-preserved
-loop-step-preserved c =
-    let found = c.next_edge-step.ensures.found (not-false _ c.if-not-step.false) in record {
+pub loop-edge-preserved : goal.loop-edge-preserved
+loop-edge-preserved c =
+    let found = c.next_edge-step.ensures.found _ c.in-Some.is in record {
       stands = c.next_edge-step.ensures.stands;
-      kept = kept_more _ _ _ _ _ c.loop-step.invariant.kept found;
-      put = more _ _ _ _ _ _ c.loop-step.invariant.kept c.loop-step.invariant.put found;
+      kept = kept_more _ _ _ _ _ _ c.loop-edge.invariant.kept found;
+      put = more _ _ _ _ _ _ _ c.loop-edge.invariant.kept c.loop-edge.invariant.put found;
     }
 
 -- no edge comes any more
-ended : (table : List ℕ) (area out : List Edge) (c : Cursor) (k : ℕ) (r : Put) {fits : Bool} → Kept table (fit table area) (slot_of c) k
+ended : (table : List ℕ) (area out : List Edge) (c : Cursor) (k : ℕ) (r : Result ℕ Fault) {fits : Bool} → Kept table (fit table area) (slot_of c) k
     → out ≡ put_first (records table) area k → edges_below table (slot_of c) ≡ length (table_edges table) → fits ≡ fit table area
     → r ≡ answer_for fits k → PutAs (table_edges table) area r out
 ended table area out c k r kept put over f e =
@@ -80,5 +79,5 @@ ended table area out c k r kept put over f e =
 
 pub returns : goal.returns
 returns c =
-    ended _ _ _ c.loop-step.c _ _ c.loop-step.invariant.kept c.loop-step.invariant.put (c.next_edge-step.ensures.ended (not-true _ c.if-not-step.true))
+    ended _ _ _ c.loop-edge.c _ _ c.loop-edge.invariant.kept c.loop-edge.invariant.put (c.next_edge-step.ensures.ended c.in_default.is)
     c.fits_in-fits.ensures c.answered.ensures

@@ -8,12 +8,12 @@ use Rattle.edge_put.specs.Put.{records, put_first}
 use Rattle.edge_put.specs.PutLaws.{Kept}
 use Rattle.edge_put.proofs.put_edges.Given as goal
 
-abbrev pub invariant-loop-step : goal.invariant-loop-step
-invariant-loop-step l = record {
+abbrev pub invariant-loop-edge : goal.invariant-loop-edge
+invariant-loop-edge l = record {
   stands : Standing l.table l.c;
   kept : Kept l.table (leb (length (table_edges l.table)) (length l.fn.out)) (slot_of l.c) l.k;
   put : l.out ≡ put_first (records l.table) l.fn.out l.k;
 }
 
-abbrev pub decreases-loop-step : goal.decreases-loop-step
-decreases-loop-step l = length (table_edges l.table) - l.k
+abbrev pub decreases-loop-edge : goal.decreases-loop-edge
+decreases-loop-edge l = length (table_edges l.table) - l.k

@@ -1,7 +1,6 @@
 -- The next row where no back edge is to come, else the same.
 use borrow.Author.Tests.{eq-eqb, ne_eqb}
 use mathlib.Core.Path.{sym, ◌∙◌}
-use borrow.Author.Rules.{rules}
 use Rattle.edge_put.proofs.row_after.Goals as goal
 
 pub returns-then-back-eq0 : goal.returns-then-back-eq0

@@ -1,5 +1,4 @@
 -- Each field is its word, and the kind is the one that its number names.
-use borrow.Author.Rules.{rules}
 use Rattle.edge_put.proofs.row_in.Goals as goal
 
 pub returns : goal.returns

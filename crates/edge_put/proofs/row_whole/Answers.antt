@@ -1,9 +1,10 @@
--- The row's eight words lie within the table, so each field is read where `row_at` has it, and `kind_of` tells the kind.
--- The answers stand in the order of the code; `search rules` finds those that are plain.
-use Rattle.place_row.specs.RowTable.{row_at}
-use borrow.Author.Rules.{rules}
+-- The row's eight words are a chunk of the table (chunked_row).
+use Rattle.std.proofs.Common.{◌∙◌, arith}
+use Rattle.place_fetch.specs.FetchLaws.{chunked_row}
 use Rattle.edge_put.proofs.row_whole.Goals as goal
 
+pub bounds-rows-j : goal.bounds-rows-j
+bounds-rows-j c = let h = c.requires.whole in let e = c.as_chunks.ensures.front_len in omega arith
+
 pub returns : goal.returns
-unfolding row_at
-returns c = simp (← c.kind_of-k.ensures)
+returns c = c.row_of.ensures ∙ chunked_row _ _ _ _ c.as_chunks.ensures.front (let h = c.requires.whole in omega arith)

@@ -2,8 +2,7 @@
 use Rattle.edge_put.proofs.start_for.Goals.{then-fits+else-n-gt0, else-fits}
 use native.Mathlib.Omega.{arith}
 use Rattle.law_base.specs.BoolLaws.{true_false}
-use Rattle.edge_put.specs.CursorLaws.{inside_table, start_first, start_past}
-use borrow.Author.Rules.{rules}
+use Rattle.edge_put.specs.CursorLaws.{inside_table, links_told, start_first, start_past}
 use Rattle.edge_put.proofs.start_for.Goals as goal
 
 pub row_start-requires : goal.row_start-requires
@@ -11,9 +10,7 @@ row_start-requires c = inside_table _ _ 0 c.row_count-n.ensures c.if-n-gt0.true
 
 pub returns-then-n-gt0 : goal.returns-then-n-gt0
 returns-then-n-gt0 c =
-    let c2 = c in
-    start_first _ _ c2.row_count-n.ensures c.links_in.ensures c2.if-fits.true c2.if-n-gt0.true
-    c.row_start.ensures
+    start_first _ _ c.row_count-n.ensures (links_told c.rows_linked.ensures) c.if-fits.true c.if-n-gt0.true c.row_start.ensures
 
 pub returns : goal.returns
 returns c =

@@ -1,10 +1,8 @@
 -- The chains of the rows are told first; each turn links one row by them (linking-more).
 use Rattle.lent_words.specs.Lent.{Lent}
-use Rattle.place_link.specs.LinkLaws.{Linking, chains_made, linking_start, linking_ready, linking_more, linking_end, not_few, not_many}
-use borrow.Author.Rules.{rules}
+use Rattle.place_link.specs.LinkLaws.{chains_made, linking_start, linking_ready, linking_more, linking_end, not_few, not_many}
 use native.Mathlib.Omega.{arith}
 use mathlib.Core.Path.{refl}
-use Prim.Native.Nat.{◌-◌}
 use Rattle.place_link.proofs.link_rows.Goals as goal
 
 pub returns-then-n-lt-FEW : goal.returns-then-n-lt-FEW
@@ -39,10 +37,6 @@ offset_bounds-table-j c = let h = (linking_ready c.loop-j.invariant
 pub bounds-table-j : goal.bounds-table-j
 bounds-table-j c = let h = (linking_ready c.loop-j.invariant
     c.loop-j-test.true).whole in omega arith
-
-pub overflow_add-j : goal.overflow_add-j
-overflow_add-j c = let h = (linking_ready c.loop-j.invariant
-    c.loop-j-test.true).few in record { fits = omega arith }
 
 pub loop-j-preserved : goal.loop-j-preserved
 loop-j-preserved c = linking_more c.loop-j.invariant c.loop-j-test.true _

@@ -1,9 +1,6 @@
 -- From the first row on each word is held against what linking makes of it (link-held, link-not).
-use Rattle.place_link.specs.LinkLaws.{Chains, LinksTo, link_here, link_held, link_not, links_more, links_all, links_unlike}
-use borrow.Author.Rules.{rules}
+use Rattle.place_link.specs.LinkLaws.{link_here, link_held, link_not, links_more, links_all, links_unlike}
 use native.Mathlib.Omega.{arith}
-use mathlib.Core.Path.{refl}
-use Prim.Native.Nat.{◌-◌, ◌≤◌}
 use Rattle.place_link.proofs.links_held.Goals as goal
 
 pub loop-j-init : goal.loop-j-init
@@ -30,11 +27,6 @@ returns-then-table-j c =
     links_unlike _
     (link_not c.loop-j.invariant.0 _ c.loop-j-test.true c.row_link-word.ensures
     c.if-table-j.true)
-
-pub overflow_add-j-in-loop-j : goal.overflow_add-j-in-loop-j
-overflow_add-j-in-loop-j c =
-    let h = (link_here c.loop-j.invariant.0 _ c.loop-j-test.true).few in
-    record { fits = omega arith }
 
 pub loop-j-preserved : goal.loop-j-preserved
 loop-j-preserved c =

@@ -1,5 +1,4 @@
 -- What is read is there, and the links are small.
-use borrow.Author.Rules.{rules}
 use native.Mathlib.Omega.{arith}
 use Rattle.place_link.proofs.row_link.Goals as goal
 

@@ -2,7 +2,6 @@
 use lib.ListN.{length-replicate}
 use Rattle.place_next.specs.ChainLaws.{rows_most}
 use Rattle.place_link.specs.LinkLaws.{chains_made, told_few, told_links}
-use borrow.Author.Rules.{rules}
 use Prim.Native.Nat.{ℕ}
 use native.Mathlib.Omega.{arith}
 use Rattle.place_link.proofs.rows_linked.Goals as goal
