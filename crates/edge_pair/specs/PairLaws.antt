@@ -1,11 +1,11 @@
 -- The words of two rows tell the edges between them as the rules do: a meeting of a union is a meeting of a part, and what is left is a table of
 -- tests over two kinds, computed.
-use Rattle.std.specs.Prelude.{Bool, true, false, cond, not, ◌&&◌, ◌||◌, ◌⊎◌, ◌≡◌, refl, ℕ, eqb}
-use Rattle.std.proofs.Common.{inl, inr, ⊎_elim, sym, ap, ap₂, ◌∙◌, eqb-true, eq-eqb, ne_eqb}
+use Rattle.std.specs.Prelude.{Bool, true, false, cond, not, ◌&&◌, ◌||◌, ◌≡◌, refl, ℕ, eqb}
+use Rattle.std.proofs.Common.{⊎_elim, sym, ap, ap₂, ◌∙◌, eqb-true, eq-eqb, ne_eqb}
 use Rattle.std.specs.Int.Bits.{bit_and, bit_or}
 use Rattle.std.proofs.lemmas.Bool.{eqb-false}
 use Rattle.spec_base.specs.Basic.{has, meets}
-use Rattle.law_base.specs.BoolLaws.{same_test, and_true, and_of, or_true, or_left, or_right, or_false, not_true, not_false}
+use Rattle.law_base.specs.BoolLaws.{same_test, and_true, or_true, or_left, or_right, or_false, not_true, not_false}
 use Rattle.law_base.specs.BoolLaws.{not_of_true, not_of_false}
 use Rattle.law_base.specs.SetLaws.{has_bit_or, has_nonzero, nonzero_has, meets_has, has_meets, meets_comm}
 use Rattle.spec_text.specs.declared.StatementKind.{StatementKind}

@@ -220,7 +220,8 @@ module _ (nodes : List Node) where
         entry_from u v h k = go (decide (ltb u (length nodes))) (between_from (row_stands flow) code (rows_of nodes) u v)
           where
             go : (ltb u (length nodes) ≡ true) ⊎ (ltb u (length nodes) ≡ false)
-                → (between flow_word (rows_of nodes) u v ≡ 0) ⊎ From (row_stands flow) code (rows_of nodes) u v (between flow_word (rows_of nodes) u v)
+                → (between flow_word (rows_of nodes) u v ≡ 0)
+                ⊎ From (row_stands flow) code (rows_of nodes) u v (between flow_word (rows_of nodes) u v)
                 → (entry (words_between flow_word (length nodes) (rows_of nodes)) u v ≡ 0)
                 ⊎ ((s : Place) × (t : Place) × (s.number ≡ u) × (t.number ≡ v) × Memᴰ s (places_of 0 nodes)
                 × ((graph_of nodes).edge s.number s.place t.number t.place flow ≡ true)

@@ -3,7 +3,7 @@ use Rattle.std.specs.Prelude.{true, false, ◌≡◌, ℕ, ◌*◌, ◌/◌, ◌
 use Rattle.refusal.specs.declared.Fault.{Fault}
 use Rattle.refusal.specs.declared.Fault.TheVariants.{Unfoldings}
 use Rattle.refusal.specs.Numbers.{number_of as number_of_fault}
-use Rattle.refusal.specs.NumberLaws.{number_settles}
+use Rattle.refusal.specs.Refusing.{same_fault}
 use mathlib.Core.List.{List, ◌++◌}
 use Rattle.std.proofs.Math.Path.{refl, ap}
 use Rattle.std.proofs.Common.{sym, ap₂, subst, ◌∙◌, arith, length-append, ltb-false}
@@ -141,7 +141,7 @@ word_of (Told.danger c steps) = Verdict.Danger (record { programs = c.programs; 
 -- an answer is settled by what it tells
 same_told : (v w : Result Verdict Fault) → told v ≡ told w → v ≡ w
 unfolding word_of
-same_told (Err f) (Err g) e = let number : number_of_fault f ≡ number_of_fault g = cc in ap Err (number_settles f g number)
+same_told (Err f) (Err g) e = let number : number_of_fault f ≡ number_of_fault g = cc in ap Err (same_fault f g number)
 same_told (Err f) (Ok (Verdict.Robust c)) e = cc
 same_told (Err f) (Ok (Verdict.Danger c steps)) e = cc
 same_told (Ok (Verdict.Robust c)) (Err f) e = cc

@@ -1,8 +1,8 @@
 -- No step into a node without a row counts, but into the one at which the walk ends.
-use Rattle.std.specs.Prelude.{◌≡◌, Bool, true, false, cond, ◌||◌, List, eqb, ltb, length, get_or, take, replicate}
+use Rattle.std.specs.Prelude.{◌≡◌, Bool, false, cond, ◌||◌, List, ltb, length, get_or, take, replicate}
 use Rattle.std.proofs.Math.Path.{refl, sym}
 use Rattle.std.proofs.Common.{ap, ap₂, subst, ◌∙◌, arith, length-take-le}
-use Prim.Native.Nat.{ℕ, zero, suc, ◌+◌, ◌*◌, ◌/◌, ◌%◌, ◌≤◌, ◌<◌, min}
+use Prim.Native.Nat.{ℕ, zero, suc, ◌+◌, ◌*◌, ◌≤◌, ◌<◌, min}
 use Rattle.std.proofs.Math.Decide.{dec_lt}
 use Rattle.std.proofs.lemmas.List.{length-replicate}
 use Rattle.std.proofs.Math.ListN.{get_or-eq_default}
@@ -10,7 +10,6 @@ use borrow.Author.Tests.{ne_eqb, lt-ltb, le-ltb}
 use Rattle.spec_base.specs.Basic.{has, meets}
 use Rattle.law_base.specs.SetLaws.{has_empty, has_bit_or, meets_empty}
 use Rattle.pick_laws.specs.declared.Going.{Going}
-use Rattle.pick_laws.specs.Demands.{only_if}
 use Rattle.walk_nodes.specs.Nodes.{rows_in, enters_at, nodes_into}
 use Rattle.walk_reach.specs.Layers.{joined_row, rows_filled, joined_rows, wide_at, Written}
 use Rattle.walk_reach.specs.FilledLaws.{filled_at}

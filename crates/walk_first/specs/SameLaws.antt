@@ -16,7 +16,7 @@ use Rattle.walk_limit.specs.Limits.{starting_limit_at, limit_at, limit_among, li
 use Rattle.step_word.specs.declared.Taken.{Taken}
 use Rattle.step_word.specs.StepWord.{step_of}
 use Rattle.walk_step.specs.LeastStep.{least_step}
-use Rattle.walk_first.specs.FirstSteps.{Prepared, prepared, taken, step_taken, going_on, steps_from}
+use Rattle.walk_first.specs.FirstSteps.{prepared, taken, step_taken, going_on, steps_from}
 
 -- lists of the same numbers
 list_same : (f h : ℕ → ℕ) (n : ℕ) → ((y : ℕ) → y < n → f y ≡ h y) → list_below f n ≡ list_below h n

@@ -1,5 +1,6 @@
 -- What the code does with one row after the other.
-use Rattle.std.specs.Prelude.{◌≡◌, refl, Bool, true, false, cond, ◌&&◌, List, ◌++◌, ℕ, zero, suc, ◌+◌, ◌*◌, ◌≤◌, ◌<◌, eqb, ltb, length, get_or, take, drop, replicate}
+use Rattle.std.specs.Prelude.{◌≡◌, refl, Bool, true, false, cond, ◌&&◌, List, ◌++◌, ℕ, zero, suc, ◌+◌, ◌*◌, ◌≤◌, ◌<◌, ltb, length, get_or, take}
+use Rattle.std.specs.Prelude.{drop, replicate}
 use Rattle.std.proofs.Common.{sym, ap, ap₂, subst, ◌∙◌, zero-le, suc-mul, add-one, arith, length-take-le, ext_get_or, ltb-true, le-ltb}
 use Rattle.std.proofs.lemmas.List.{length-replicate, get_or-replicate}
 use Rattle.spec_base.specs.Basic.{meets}
@@ -99,7 +100,8 @@ rows_most {table = table} {n} {i} few h =
     each : (k : ℕ) → (row_sum edges_at table (row_at table k) n ≤ 1024) × (row_sum back_at table (row_at table k) n ≤ 1024)
     each k =
         let p = row_at table k in
-        let e = sum_most (λ j. edges_at p (row_at table j)) 2 (λ j. (counts_few (row_forward p (row_at table j)) (row_back p (row_at table j))).0) n in
+        let e = sum_most (λ j. edges_at p (row_at table j)) 2
+        (λ j. (counts_few (row_forward p (row_at table j)) (row_back p (row_at table j))).0) n in
         let b = sum_most (λ j. back_at p (row_at table j)) 2 (λ j. (counts_few (row_forward p (row_at table j)) (row_back p (row_at table j))).1) n in
         (omega arith, omega arith)
 

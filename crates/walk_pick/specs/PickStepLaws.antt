@@ -1,7 +1,9 @@
 -- The tables filled pair after pair hold the greatest words, and the edges counted row after row are those of the table.
-use Rattle.std.specs.Prelude.{◌≡◌, Bool, true, false, cond, ◌&&◌, ◌⊎◌, eqb, ltb, length, get_or, set, drop}
+use Rattle.std.specs.Prelude.{◌≡◌, Bool, true, false, cond, ◌&&◌, ◌⊎◌, eqb, ltb, length, get_or, set}
 use Rattle.std.proofs.Math.Path.{refl, sym, ap, ap₂, fun_ext}
-use Rattle.std.proofs.Common.{◌∙◌, inl, inr, le_antisymm, not-suc-le-zero, le_of_suc-le-suc, add-zero, zero-add, suc-add, add-suc, length-set, length-drop, length-append, get_or-set_same, get_or-set_other, ext_get_or, eqb-true, eq-eqb, ltb-true, ltb-false, lt-ltb}
+use Rattle.std.proofs.Common.{◌∙◌, inl, inr, le_antisymm, not-suc-le-zero, le_of_suc-le-suc, add-zero, zero-add, suc-add, add-suc, length-set}
+use Rattle.std.proofs.Common.{length-append, get_or-set_same, get_or-set_other, ext_get_or, eqb-true, eq-eqb, ltb-true, ltb-false}
+use Rattle.std.proofs.Common.{lt-ltb}
 use mathlib.Core.List.{List, [], ◌∷◌, ◌++◌, map, flat_map}
 use Prim.Native.Nat.{ℕ, zero, suc, ◌+◌, ◌*◌, ◌/◌, ◌%◌, ◌≤◌, ◌<◌, max}
 use native.Mathlib.Omega.{arith}
@@ -17,10 +19,9 @@ use Rattle.place_row.specs.declared.Row.{Row}
 use Rattle.place_row.specs.RowTable.{row_at, row_count, row_forward, row_back, row_edge, row_edges, table_rows, edges_of_rows}
 use Rattle.law_base.specs.FlatLaws.{flat_map_map}
 use Rattle.edge_count.specs.Slots.{table_edges, table_counts, pair_counts}
-use Rattle.edge_count.specs.declared.Counts.{Counts}
-use Rattle.walk_pick.specs.Picks.{row_forward_word, row_back_word, greatest, stands_in, word_for, between, words_between, room_in, filled_for}
-use Rattle.walk_pick.specs.Picks.{PickedAs}
-use Rattle.walk_pick.specs.PickSteps.{kept_at, has_entries, kept_between, kept_pair, kept_row, kept_rows, sum_below, edges_at, back_at, row_sum, rows_sum}
+use Rattle.walk_pick.specs.Picks.{row_forward_word, row_back_word, greatest, stands_in, word_for, between, words_between}
+use Rattle.walk_pick.specs.PickSteps.{kept_at, has_entries, kept_between, kept_pair, kept_row, kept_rows, sum_below, edges_at, back_at, row_sum}
+use Rattle.walk_pick.specs.PickSteps.{rows_sum}
 use Rattle.walk_pick.specs.PickSteps.{Tables, RowKept, RowsKept, RowsAdded}
 
 -- ---- the greatest of one number more

@@ -7,7 +7,7 @@ use mathlib.Core.List.{List}
 use Prim.Native.Nat.{ℕ, zero, suc, ◌+◌, ◌-◌, ◌*◌, ◌/◌, ◌%◌, ◌≤◌, ◌<◌, max, zero-le}
 use native.Mathlib.Omega.{arith}
 use Rattle.std.proofs.lemmas.Bool.{eqb-false}
-use Rattle.law_base.specs.BoolLaws.{decide, and_true, and_left}
+use Rattle.law_base.specs.BoolLaws.{decide, and_true}
 use Rattle.spec_base.specs.Basic.{meets}
 use Rattle.spec_graph.specs.Edge.{loosens}
 use Rattle.edge_kinds.specs.Kinds.{kind_facts, loose_bit}
@@ -17,15 +17,15 @@ use Rattle.place_next.specs.Chains.{chain_of, on_chain}
 use Rattle.place_next.specs.ChainLaws.{on_low, on_high, on_same, on_relation, rows_most}
 use Rattle.edge_pair.specs.declared.Left.{Left}
 use Rattle.edge_pair.specs.declared.Entered.{Entered}
-use Rattle.edge_pair.specs.PairWords.{left_of, entered_of, forward_words, back_words, never_back}
+use Rattle.edge_pair.specs.PairWords.{left_of, forward_words, back_words, never_back}
 use Rattle.edge_pair.specs.PairLaws.{forward_words_lem, back_words_lem, never_words}
 use Rattle.edge_word.specs.Coding.{forward_word, back_word}
 use Rattle.edge_count.specs.Slots.{pair_counts}
 use Rattle.walk_pick.specs.declared.Run.{Run}
 use Rattle.walk_pick.specs.Picks.{row_forward_word, row_back_word}
-use Rattle.walk_pick.specs.PickSteps.{kept_at, has_entries, kept_between, kept_pair, kept_row, sum_below, edges_at, back_at, row_sum, Tables, RowKept}
+use Rattle.walk_pick.specs.PickSteps.{kept_at, has_entries, kept_between, kept_row, sum_below, edges_at, back_at, row_sum, Tables, RowKept}
 use Rattle.walk_pick.specs.PairLaws.{entries_small, none_kept, sum_most, counts_few, loose_told}
-use Rattle.walk_pick.specs.PickStepLaws.{kept_at_lem, kept_length, between_length, row_length}
+use Rattle.walk_pick.specs.PickStepLaws.{kept_at_lem, kept_length, row_length}
 use Rattle.walk_pick.specs.Runs.{next_on, goes_on, along_of, mark_of, entered_at, last_mark, Worked, forward_mark, back_mark}
 use Rattle.walk_pick.specs.Runs.{RunKept, NotPast, InRun, Standing, RunAt, RunKnown, Ran, RunAdded, RowKnown}
 use Rattle.walk_pick.specs.WorkLaws.{worked_entered, worked_mark, worked_straight, worked_along, along_either, goes_on_lem}
@@ -201,7 +201,8 @@ module _ (table : List ℕ) (p : Row) where
     forwards_kept = λ limit words e.
         ap (kept_row limit row_forward_word table p words) (add-one j)
         ∙ ap (λ (l : List ℕ). kept_between limit p q l (row_forward_word p q)) (h.forwards_kept limit words e)
-        ∙ between_alike limit p q s (kept_between limit p s (kept_row limit row_forward_word table p words first) (forward_mark p f)) (row_forward_word p q)
+        ∙ between_alike limit p q s (kept_between limit p s (kept_row limit row_forward_word table p words first) (forward_mark p f))
+        (row_forward_word p q)
         run.node_is run.entries_are
         ∙ between_twice limit p s (kept_row limit row_forward_word table p words first) (forward_mark p f) (row_forward_word p q)
         (row_length limit row_forward_word table p words first ∙ e)
@@ -368,7 +369,8 @@ run_straight {table} {work} {n} {p} {at = at} rows worked h e filled =
     few = rows_most table rows
 
     go : ((along_of table n j (next_on table n j) ≡ next_on table n j * 8) × (next_on table n j < n)
-        × (goes_on (row_at table j) (row_at table (next_on table n j)) ≡ true)) ⊎ (along_of table n j (next_on table n j) ≡ 4096 + next_on table n j * 8)
+        × (goes_on (row_at table j) (row_at table (next_on table n j)) ≡ true))
+        ⊎ (along_of table n j (next_on table n j) ≡ 4096 + next_on table n j * 8)
         → at + 8 < 4096
     go (inl s) = let x = s.0 in let y = s.1 in omega (arith, straight, few)
     go (inr s) =
@@ -487,7 +489,8 @@ run_apart {table} {n = n} {p} {j = j} {next} known other e = record {
   later = let l = low in omega arith;
   inside = let l = next_inside table p known.rows known.inside known.chain in omega arith;
   chain = λ l. ap (chain_of table) e ∙ next_chain table p known.rows known.inside known.chain (omega arith);
-  kept = subst (λ (x : ℕ). RunKept table p j x 0 0 0 0) (sym e) (run_skip table p (next_on table n j) (omega (arith, low)) apart (run_none table p j));
+  kept = subst (λ (x : ℕ). RunKept table p j x 0 0 0 0) (sym e)
+      (run_skip table p (next_on table n j) (omega (arith, low)) apart (run_none table p j));
 }
   where
     low : j + 1 ≤ next_on table n j

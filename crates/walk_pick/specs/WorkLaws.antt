@@ -1,8 +1,9 @@
 -- The words to work in: put row by row, and read as what they are.
 use Rattle.std.specs.Prelude.{◌≡◌, Bool, true, false, cond, ◌&&◌, ◌⊎◌, List, [], ◌∷◌, ◌++◌, eqb, ltb, length, take, drop}
 use Rattle.std.proofs.Math.Path.{refl, sym, ap}
-use Rattle.std.proofs.Common.{ap₂, subst, ◌∙◌, inl, inr, add-zero, arith, length-take-le, get_or-append-add, get_or-take, eqb-true, ltb-true, lt-ltb, le-ltb}
-use Prim.Native.Nat.{ℕ, ◌+◌, ◌*◌, ◌%◌, ◌≤◌, ◌<◌}
+use Rattle.std.proofs.Common.{ap₂, subst, ◌∙◌, inl, inr, add-zero, arith, length-take-le, get_or-append-add, get_or-take, eqb-true, ltb-true, lt-ltb}
+use Rattle.std.proofs.Common.{le-ltb}
+use Prim.Native.Nat.{ℕ, ◌+◌, ◌*◌, ◌≤◌, ◌<◌}
 use Rattle.std.proofs.Math.Decide.{ℕ_discrete}
 use Rattle.std.proofs.Math.ListN.{get_or, get_or-append}
 use Rattle.law_base.specs.BoolLaws.{decide, and_true}

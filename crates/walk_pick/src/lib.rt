@@ -8,15 +8,19 @@ ghost use Rattle.word_rows.specs.Put.{row_put};
 ghost use Rattle.spec_base.specs.Basic.{meets};
 ghost use Rattle.edge_pair.specs.PairWords.{forward_words, back_words, never_back};
 ghost use Rattle.walk_pick.specs.Picks.{PickedAs};
-ghost use Rattle.walk_pick.specs.PickSteps.{kept_at, kept_between, has_entries, RowAdded, RowsAdded, Tables, WholeRow};
+ghost use Rattle.walk_pick.specs.PickSteps.{kept_at, kept_between, has_entries, RowKept, RowAdded, RowsAdded, Tables, WholeRow};
 ghost use Rattle.walk_pick.specs.Runs.{goes_on, along_of, work_words, entered_at, last_mark, Worked, NextKnown};
-ghost use Rattle.walk_pick.specs.Runs.{RunKnown, StretchAt, Ran, PickKnown, RunAdded, RowKnown, TableKnown};
+ghost use Rattle.walk_pick.specs.Runs.{RunAdded, RowKnown, TableKnown};
+ghost use Rattle.walk_pick.specs.Leavings.{OnChain, Related, StretchOf, RanFrom, ChainAt};
 ghost use Rattle.place_row.specs.RowTable.{row_at, row_count};
+
+mod leaving;
 
 use edge_count::Counts;
 use edge_kinds::{LOOSE, kind_has, kind_of};
 use edge_pair::{Entered, Left, entered_words, left_words};
 use edge_word::{NODES, PLACES, back_word, forward_word};
+use leaving::Leaving;
 use place_fetch::row_count;
 use place_next::chain_rows;
 use place_row::{
@@ -51,16 +55,15 @@ const LAST: usize = TABLE_WORDS;
 const END: u64 = TABLE_WORDS as u64;
 
 // Whether tables for so many nodes have room for a row's edges: its node is below the limit and its place below 1024.
+#[tactic(auto, unfolding(crate::specs::PickSteps::has_entries))]
 fn has_entries(p: Row, limit: usize) -> bool
     ensures { result ≡ has_entries limit p }
 {
-    if p.node < limit as u64 {
-        return p.place < PLACES;
-    }
-    false
+    p.node < limit as u64 && p.place < PLACES
 }
 
 // Keeps at x the greater of the word that stands there and the word given.
+#[tactic(auto, unfolding(crate::specs::PickSteps::kept_at))]
 fn keep_word(words: &mut [u64], x: usize, word: u64)
     requires { x < length words.old }
     ensures { words.new ≡ kept_at words.old x word }
@@ -84,6 +87,7 @@ fn keep_between(words: &mut [u64], limit: usize, p: Row, q: Row, word: u64)
 }
 
 // Row number j, which is whole.
+#[tactic(auto, unfolding(place_row::specs::RowTable::row_at))]
 fn whole_row(table: &[u64], j: usize) -> Row
     requires { WholeRow table.now j }
     ensures { result ≡ row_at table.now j }
@@ -103,19 +107,11 @@ fn whole_row(table: &[u64], j: usize) -> Row
 }
 
 // Whether a row goes on a run of the row before it on its chain.
+#[tactic(auto, unfolding(crate::specs::Runs::goes_on))]
 fn goes_on(p: Row, q: Row) -> bool
     ensures { result ≡ goes_on p q }
 {
-    if p.node != q.node {
-        return false;
-    }
-    if p.relation != q.relation {
-        return false;
-    }
-    if p.place < q.place {
-        return q.place < PLACES;
-    }
-    false
+    p.node == q.node && p.relation == q.relation && p.place < q.place && q.place < PLACES
 }
 
 // Where the words of row k stand, the next on the chain of row j: past all words where it does not go on its run.
@@ -140,10 +136,7 @@ fn straight_of(along: u64, at: usize) -> u64
     requires { at ≤ 4096 }
     ensures { result ≡ cond (eqb along (at + 8)) 1 0 }
 {
-    if along == (at + ROW_WORDS) as u64 {
-        return 1;
-    }
-    0
+    u64::from(along == (at + ROW_WORDS) as u64)
 }
 
 // The words of row j, whose next on its chain is row k.
@@ -175,11 +168,9 @@ fn fill_work(table: &[u64], n: usize, next: &[u64], work: &mut [u64])
     requires { NextKnown table.now n next.now work.old }
     ensures { Worked table.now n n work.new }
 {
-    let mut j: usize = 0;
-    while j < n {
+    for j in 0..n {
         let k = next[j] as usize;
         put_work(table, n, j, k, work);
-        j += 1;
     }
 }
 
@@ -187,23 +178,18 @@ fn fill_work(table: &[u64], n: usize, next: &[u64], work: &mut [u64])
 fn last_if(stands: bool, at: usize, before: usize) -> usize
     ensures { result ≡ cond stands at before }
 {
-    if stands {
-        return at;
-    }
-    before
+    if stands { at } else { before }
 }
 
 // One where an edge stands.
 fn one_if(stands: bool) -> usize
     ensures { (result ≡ cond stands 1 0) × (result ≤ 1) }
 {
-    if stands {
-        return 1;
-    }
-    0
+    usize::from(stands)
 }
 
 // Whether a forward edge stands between rows of one relation with these words.
+#[tactic(auto, unfolding(edge_pair::specs::PairWords::forward_words))]
 fn forward_meets(l: Left, q: Entered) -> bool
     ensures { result ≡ forward_words l q }
 {
@@ -211,6 +197,7 @@ fn forward_meets(l: Left, q: Entered) -> bool
 }
 
 // Whether no back edge leaves a row with these words, whatever it enters.
+#[tactic(auto, unfolding(edge_pair::specs::PairWords::never_back))]
 fn never_back(l: Left) -> bool
     ensures { result ≡ never_back l }
 {
@@ -221,13 +208,11 @@ fn never_back(l: Left) -> bool
 fn apart(x: u64, y: u64, word: u64) -> u64
     ensures { result ≡ cond (meets x y) 0 word }
 {
-    if x & y != 0 {
-        return 0;
-    }
-    word
+    if x & y != 0 { 0 } else { word }
 }
 
 // Whether a back edge stands between rows of one relation with these words: E holds, or D for a select that no key shields.
+#[tactic(auto, unfolding(edge_pair::specs::PairWords::back_words))]
 fn back_meets(l: Left, q: Entered) -> bool
     ensures { result ≡ back_words l q }
 {
@@ -236,6 +221,7 @@ fn back_meets(l: Left, q: Entered) -> bool
 }
 
 // The words of a row as one that is entered, from the words to work in.
+#[tactic(auto, unfolding(crate::specs::Runs::entered_at))]
 fn entered_at(work: &[u64], at: usize) -> Entered
     requires { at + 8 ≤ length work.now }
     ensures { result ≡ entered_at work.now at }
@@ -272,6 +258,7 @@ fn straight_at(work: &[u64], at: usize) -> u64
 
 // The mark of the last row that so many edges enter: 0 where there are none. It is fetched once a run, and not where each edge stands: so the mark is
 // no branch in the pass along the run, which keeps only where the words of the last row stand.
+#[tactic(auto, unfolding(crate::specs::Runs::last_mark))]
 fn last_mark(work: &[u64], last: usize, edges: usize) -> u64
     requires { last + 8 ≤ length work.now }
     ensures { result ≡ last_mark work.now last edges }
@@ -282,55 +269,45 @@ fn last_mark(work: &[u64], last: usize, edges: usize) -> u64
     mark_at(work, last)
 }
 
-// The edges from row p to the rows of a run whose words stand right one after the other, but the last of these. The next place is added up and not
-// fetched, so that no row waits for the one before it.
-fn straight_forward(
-    table: &[u64],
-    n: usize,
-    p: Row,
-    l: Left,
-    work: &[u64],
-    j: usize,
-    from: usize,
-    before: usize,
-    count: usize,
-) -> Stretch
-    requires { RunKnown table.now n p l work.now j × (p.relation ≡ (row_at table.now j).relation) × (never_back l ≡ true)
-        × StretchAt table.now n p work.now j (record { at = from; last = before; edges = count }) }
-    ensures { StretchAt table.now n p work.now j result × (from ≤ result.at) }
+// The edges from a row to the rows of a run whose words stand right one after the other, but the last of these. The next place is added up and not
+// fetched, so that no row waits for the one before it. It stays a loop: how far it goes is told by the words that it comes to.
+fn straight_forward(s: &Leaving, j: usize, from: Stretch) -> Stretch
+    requires { Related s.now j × (s.now.never ≡ true) × StretchOf s.now j from }
+    ensures { StretchOf s.now j result × (from.at ≤ result.at) }
 {
-    let mut at = from;
-    let mut last = before;
-    let mut edges = count;
-    let mut straight = straight_at(work, at);
+    let mut at = from.at;
+    let mut last = from.last;
+    let mut edges = from.edges;
+    let mut straight = straight_at(s.work, at);
     while 0 < straight {
-        let q = entered_at(work, at);
-        let f = forward_meets(l, q);
+        let q = entered_at(s.work, at);
+        let f = forward_meets(s.words, q);
         last = last_if(f, at, last);
         edges += one_if(f);
         at += ROW_WORDS;
-        straight = straight_at(work, at);
+        straight = straight_at(s.work, at);
     }
     Stretch { at, last, edges }
 }
 
-// The edges from row p to the rows of a run, where no back edge leaves p. No test hangs on what stands, so that nothing is guessed wrong.
-fn run_forward(table: &[u64], n: usize, p: Row, l: Left, work: &[u64], j: usize) -> Run
-    requires { RunKnown table.now n p l work.now j × (p.relation ≡ (row_at table.now j).relation) × (never_back l ≡ true) }
-    ensures { Ran table.now n p j result }
+// The edges from a row to the rows of a run, where no back edge leaves it. No test hangs on what stands, so that nothing is guessed wrong. It stays a
+// loop: the words of a row tell where those of the next one stand.
+fn run_forward(s: &Leaving, j: usize) -> Run
+    requires { Related s.now j × (s.now.never ≡ true) }
+    ensures { RanFrom s.now j result }
 {
     let mut at = j * ROW_WORDS;
     let mut last: usize = 0;
     let mut edges: usize = 0;
     while at < LAST {
-        let s = straight_forward(table, n, p, l, work, j, at, last, edges);
-        let q = entered_at(work, s.at);
-        let f = forward_meets(l, q);
-        last = last_if(f, s.at, s.last);
-        edges = s.edges + one_if(f);
-        at = along_at(work, s.at);
+        let far = straight_forward(s, j, Stretch { at, last, edges });
+        let q = entered_at(s.work, far.at);
+        let f = forward_meets(s.words, q);
+        last = last_if(f, far.at, far.last);
+        edges = far.edges + one_if(f);
+        at = along_at(s.work, far.at);
     }
-    let forward = last_mark(work, last, edges);
+    let forward = last_mark(s.work, last, edges);
     Run {
         next: (at - LAST) / ROW_WORDS,
         forward,
@@ -340,10 +317,10 @@ fn run_forward(table: &[u64], n: usize, p: Row, l: Left, work: &[u64], j: usize)
     }
 }
 
-// The edges from row p to the rows of a run.
-fn run_both(table: &[u64], n: usize, p: Row, l: Left, work: &[u64], j: usize) -> Run
-    requires { RunKnown table.now n p l work.now j × (p.relation ≡ (row_at table.now j).relation) }
-    ensures { Ran table.now n p j result }
+// The edges from a row to the rows of a run. It stays a loop for the same reason.
+fn run_both(s: &Leaving, j: usize) -> Run
+    requires { Related s.now j }
+    ensures { RanFrom s.now j result }
 {
     let mut at = j * ROW_WORDS;
     let mut last: usize = 0;
@@ -351,17 +328,17 @@ fn run_both(table: &[u64], n: usize, p: Row, l: Left, work: &[u64], j: usize) ->
     let mut edges: usize = 0;
     let mut turned: usize = 0;
     while at < LAST {
-        let q = entered_at(work, at);
-        let f = forward_meets(l, q);
+        let q = entered_at(s.work, at);
+        let f = forward_meets(s.words, q);
         last = last_if(f, at, last);
         edges += one_if(f);
-        let b = back_meets(l, q);
+        let b = back_meets(s.words, q);
         last_back = last_if(b, at, last_back);
         turned += one_if(b);
-        at = along_at(work, at);
+        at = along_at(s.work, at);
     }
-    let forward = last_mark(work, last, edges);
-    let back = last_mark(work, last_back, turned);
+    let forward = last_mark(s.work, last, edges);
+    let back = last_mark(s.work, last_back, turned);
     Run {
         next: (at - LAST) / ROW_WORDS,
         forward,
@@ -371,12 +348,12 @@ fn run_both(table: &[u64], n: usize, p: Row, l: Left, work: &[u64], j: usize) ->
     }
 }
 
-// Where the chain of row j goes on, which is of another relation than p.
-fn run_none(table: &[u64], n: usize, p: Row, l: Left, work: &[u64], j: usize) -> Run
-    requires { RunKnown table.now n p l work.now j × (p.relation ≡ (row_at table.now j).relation → ⊥) }
-    ensures { Ran table.now n p j result }
+// Where the chain of row j goes on, which is of another relation than the row that is left.
+fn run_none(s: &Leaving, j: usize) -> Run
+    requires { OnChain s.now j × (s.now.row.relation ≡ (row_at s.now.table.now j).relation → ⊥) }
+    ensures { RanFrom s.now j result }
 {
-    let a = along_at(work, j * ROW_WORDS);
+    let a = along_at(s.work, j * ROW_WORDS);
     if a < LAST {
         return Run {
             next: a / ROW_WORDS,
@@ -395,27 +372,18 @@ fn run_none(table: &[u64], n: usize, p: Row, l: Left, work: &[u64], j: usize) ->
     }
 }
 
-// The edges from row p to the rows of the run that begins with row j, of this relation.
-fn run_from(
-    table: &[u64],
-    n: usize,
-    p: Row,
-    l: Left,
-    never: bool,
-    work: &[u64],
-    j: usize,
-    relation: u64,
-) -> Run
-    requires { RunKnown table.now n p l work.now j × (relation ≡ (row_at table.now j).relation) × (never ≡ never_back l) }
-    ensures { Ran table.now n p j result }
+// The edges from a row to the rows of the run that begins with row j, of this relation.
+fn run_from(s: &Leaving, j: usize, relation: u64) -> Run
+    requires { OnChain s.now j × (relation ≡ (row_at s.now.table.now j).relation) }
+    ensures { RanFrom s.now j result }
 {
-    if p.relation != relation {
-        return run_none(table, n, p, l, work, j);
+    if s.row.relation != relation {
+        return run_none(s, j);
     }
-    if never {
-        return run_forward(table, n, p, l, work, j);
+    if s.never {
+        return run_forward(s, j);
     }
-    run_both(table, n, p, l, work, j)
+    run_both(s, j)
 }
 
 // Keeps the word of the forward edge to a row with this mark, if there is one.
@@ -440,27 +408,15 @@ fn keep_back(words: &mut [u64], limit: usize, p: Row, q: Row, mark: u64)
     }
 }
 
-// Counts the edges from row p to the rows of the run that begins with row j, and keeps their words. Tells the next row on the chain.
-fn pick_run(
-    table: &[u64],
-    n: usize,
-    p: Row,
-    l: Left,
-    never: bool,
-    loose: bool,
-    limit: usize,
-    work: &[u64],
-    j: usize,
-    forwards: &mut [u64],
-    backs: &mut [u64],
-) -> Run
-    requires { PickKnown table.now n p l never loose limit work.now j forwards.old backs.old }
-    ensures { RunAdded table.now n p limit j forwards.old backs.old forwards.new backs.new result }
+// Counts the edges from a row to the rows of the run that begins with row j, and keeps their words. Tells the next row on the chain.
+fn pick_run(s: &Leaving, limit: usize, j: usize, forwards: &mut [u64], backs: &mut [u64]) -> Run
+    requires { OnChain s.now j × Tables limit forwards.old × Tables limit backs.old }
+    ensures { RunAdded s.now.table.now s.now.count s.now.row limit j forwards.old backs.old forwards.new backs.new result }
 {
-    let q = whole_row(table, j);
-    let t = run_from(table, n, p, l, never, work, j, q.relation);
-    keep_forward(forwards, limit, p, q, loose, t.forward);
-    keep_back(backs, limit, p, q, t.back);
+    let q = whole_row(s.table, j);
+    let t = run_from(s, j, q.relation);
+    keep_forward(forwards, limit, s.row, q, s.loose, t.forward);
+    keep_back(backs, limit, s.row, q, t.back);
     t
 }
 
@@ -470,6 +426,32 @@ fn head_of(heads: &[u16; place_next::CHAINS], relation: u64) -> usize
     ensures { result ≡ get_or heads.now (relation % 64) 0 }
 {
     heads[(relation % place_next::CHAINS as u64) as usize] as usize
+}
+
+// Counts the edges from a row to the rows on its chain, of which the first is given, and keeps their words. It stays a loop: a run tells where the next
+// one begins.
+fn pick_chain(
+    s: &Leaving,
+    first: usize,
+    limit: usize,
+    forwards: &mut [u64],
+    backs: &mut [u64],
+) -> Counts
+    requires { ChainAt s.now limit first forwards.old backs.old forwards.old backs.old 0 0 × Tables limit forwards.old
+        × Tables limit backs.old }
+    ensures { RowKept limit s.now.table.now s.now.row s.now.count forwards.old backs.old forwards.new backs.new
+        result.edges result.back }
+{
+    let mut edges: usize = 0;
+    let mut back: usize = 0;
+    let mut j = first;
+    while j < s.count {
+        let t = pick_run(s, limit, j, forwards, backs);
+        edges += t.edges + t.turned;
+        back += t.turned;
+        j = t.next;
+    }
+    Counts { edges, back }
 }
 
 // Counts the edges from row i to each of the n rows, and keeps their words. Only the rows on its chain are met.
@@ -486,23 +468,21 @@ fn pick_row(
     requires { RowKnown table.now n heads.now work.now i limit forwards.old backs.old }
     ensures { RowAdded table.now n i limit forwards.old backs.old forwards.new backs.new result }
 {
-    let p = whole_row(table, i);
-    let k = p.kind;
-    let loose = kind_has(k, LOOSE);
-    let l = left_words(p);
-    let never = never_back(l);
-    let mut edges: usize = 0;
-    let mut back: usize = 0;
-    let mut j = head_of(heads, p.relation);
-    while j < n {
-        let t = pick_run(
-            table, n, p, l, never, loose, limit, work, j, forwards, backs,
-        );
-        edges += t.edges + t.turned;
-        back += t.turned;
-        j = t.next;
-    }
-    Counts { edges, back }
+    let row = whole_row(table, i);
+    let words = left_words(row);
+    let never = never_back(words);
+    let loose = kind_has(row.kind, LOOSE);
+    let s = Leaving {
+        table,
+        count: n,
+        work,
+        row,
+        words,
+        never,
+        loose,
+    };
+    let first = head_of(heads, row.relation);
+    pick_chain(&s, first, limit, forwards, backs)
 }
 
 // Counts the edges of a table, and fills tables for so many nodes.
@@ -516,8 +496,8 @@ fn pick_rows(
 ) -> Counts
     requires { TableKnown table.now limit next.old work.old forwards.old backs.old }
     ensures rows_added { RowsAdded table.now limit forwards.new backs.new result }
-    ensures lent { Lent next.old next.new }
-    ensures lent_2 { Lent work.old work.new }
+    ensures next_lent { Lent next.old next.new }
+    ensures work_lent { Lent work.old work.new }
 {
     let n = row_count(table);
     clear(forwards, 0, limit * NODES);
@@ -526,24 +506,12 @@ fn pick_rows(
     fill_work(table, n, next, work);
     let mut edges: usize = 0;
     let mut back: usize = 0;
-    let mut i: usize = 0;
-    while i < n {
+    for i in 0..n {
         let t = pick_row(table, n, &heads, work, i, limit, forwards, backs);
         edges += t.edges;
         back += t.back;
-        i += 1;
     }
     Counts { edges, back }
-}
-
-// The lesser of two numbers.
-fn lesser(a: usize, b: usize) -> usize
-    ensures { result ≡ min a b }
-{
-    if a < b {
-        return a;
-    }
-    b
 }
 
 // Counts the edges of a table, and picks for each pair of nodes the forward and the back edge that stand for all, the word for nodes u and v at
@@ -557,10 +525,11 @@ pub fn pick_edges(
     backs: &mut [u64],
 ) -> Counts
     ensures picked_as { PickedAs table.now forwards.old backs.old forwards.new backs.new result }
-    ensures lent { Lent next.old next.new }
-    ensures lent_2 { Lent work.old work.new }
+    ensures next_lent { Lent next.old next.new }
+    ensures work_lent { Lent work.old work.new }
 {
-    let limit = lesser(NODES, lesser(forwards.len() / NODES, backs.len() / NODES));
+    let room = (forwards.len() / NODES).min(backs.len() / NODES);
+    let limit = NODES.min(room);
     let m = limit * NODES;
     pick_rows(
         table,

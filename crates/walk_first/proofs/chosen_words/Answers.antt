@@ -3,7 +3,6 @@ use Rattle.walk_first.specs.FirstSteps.{chosen_word, chosen_words}
 use Rattle.walk_reach.specs.Layers.{filled}
 use Rattle.walk_reach.specs.FilledLaws.{filled_turn}
 use Rattle.walk_nodes.specs.NodeWordLaws.{last_turn}
-use borrow.Author.Rules.{rules}
 use mathlib.Core.Path.{refl}
 use Rattle.walk_first.proofs.chosen_words.Goals as goal
 

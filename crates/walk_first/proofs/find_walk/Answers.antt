@@ -1,8 +1,6 @@
 -- An area that is too short is refused (answer-short); what is searched, among the nodes of the word, is answered (answer-searched).
 use Rattle.walk_first.specs.AnswerLaws.{answer_short, answer_searched, searched_every, searched_some}
-use Prim.Native.Nat.{◌-◌}
 use mathlib.Core.Path.{refl}
-use borrow.Author.Rules.{rules}
 use Rattle.lent_words.specs.Lent.{Lent}
 use Rattle.walk_first.proofs.find_walk.Goals as goal
 

@@ -1,12 +1,9 @@
 -- In each turn what is written and what is still to come make the walk (put-start, put-turn); at the end nothing is to come (put-end).
-use Rattle.walk_first.specs.TakingLaws.{PutTurn, put_start, put_turn, put_end}
-use Rattle.walk_first.specs.FirstSteps.{prepared, Unasked}
-use borrow.Author.Rules.{rules}
-use mathlib.Core.Path.{◌≡◌, refl, sym, subst, ◌∙◌}
+use Rattle.walk_first.specs.TakingLaws.{put_start, put_turn, put_end}
+use Rattle.walk_first.specs.FirstSteps.{Unasked}
+use mathlib.Core.Path.{refl, sym, subst, ◌∙◌}
 use native.Mathlib.Omega.{arith}
-use lib.ListN.{length}
 use Rattle.lent_words.specs.Lent.{Lent}
-use Prim.Native.Nat.{◌-◌}
 use Rattle.walk_first.proofs.put_walk.Goals as goal
 
 pub loop-k-init : goal.loop-k-init

@@ -2,7 +2,6 @@
 use native.Mathlib.Omega.{arith}
 use mathlib.Core.Path.{refl}
 use lib.ListN.{length-set}
-use borrow.Author.Rules.{rules}
 use Rattle.walk_first.specs.FirstSteps.{put_words}
 use Rattle.walk_first.proofs.put_words.Goals as goal
 

@@ -1,5 +1,4 @@
 -- The parts that are lent are the rows of the table (rows-part, leads-part); the rest is the search over them.
-use borrow.Author.Rules.{rules}
 use Rattle.walk_first.specs.TakingLaws.{rows_fit, rows_part, leads_fit, leads_part}
 use Rattle.walk_first.proofs.search.Goals as goal
 

@@ -1,7 +1,6 @@
 -- With no way back there is no walk (search-none); else what is worked out and written is the walk (search-found).
 use native.Mathlib.Omega.{arith}
 use mathlib.Core.Path.{refl}
-use borrow.Author.Rules.{rules}
 use Rattle.lent_words.specs.Lent.{Lent}
 use Rattle.walk_first.specs.AskedLaws.{words_fit, unasked_found}
 use Rattle.walk_first.specs.TakingLaws.{search_none, search_found}

@@ -1,7 +1,5 @@
 -- The needs, the limits, the least word, its step and the phase after it are those of `taken` and `going_on` (taking).
 use Rattle.walk_first.specs.TakingLaws.{taking}
-use Prim.Native.Nat.{◌-◌}
-use borrow.Author.Rules.{rules}
 use Rattle.lent_words.specs.Lent.{Lent}
 use Rattle.walk_first.proofs.take_step.Goals as goal
 

@@ -1,6 +1,5 @@
 -- Row k goes on the run where it is below n and the test of the two rows says so; else its words are looked for past all words.
 use native.Mathlib.Omega.{arith}
-use borrow.Author.Rules.{rules}
 use Rattle.place_next.specs.ChainLaws.{rows_most}
 use Rattle.walk_pick.specs.PairLaws.{row_whole}
 use Rattle.walk_pick.specs.WorkLaws.{along_on, along_not, along_end}

@@ -1,15 +1,12 @@
 -- After j rows their words stand (worked-turn); the next row on a chain is known.
-use mathlib.Core.Path.{refl, sym, ◌∙◌}
-use Prim.Native.Nat.{◌-◌, ◌≤◌}
+use mathlib.Core.Path.{refl}
 use native.Mathlib.Omega.{arith}
-use borrow.Author.Rules.{rules}
 use Rattle.place_next.specs.ChainLaws.{rows_most}
-use Rattle.walk_pick.specs.Runs.{Worked}
 use Rattle.walk_pick.specs.WorkLaws.{worked_none, worked_turn, worked_all, next_most}
 use Rattle.walk_pick.proofs.fill_work.Goals as goal
 
 pub loop-j-init : goal.loop-j-init
-loop-j-init c = (omega arith, worked_none c.requires.size)
+loop-j-init c = worked_none c.requires.size
 
 pub offset_bounds-next-j : goal.offset_bounds-next-j
 offset_bounds-next-j c =
@@ -32,11 +29,10 @@ put_work-requires c =
 
 pub loop-j-preserved : goal.loop-j-preserved
 loop-j-preserved c =
-    let c6 = c in
-    let known = c6.requires in
+    let known = c.requires in
     let few = rows_most _ known.rows in
     let l = c.loop-j-test.true in
-    (omega arith, worked_turn _ _ _ (omega arith) c6.loop-j.invariant.1 (known.nexts _ l) c.put_work.ensures)
+    worked_turn _ _ _ (omega arith) c.loop-j.invariant (known.nexts _ l) c.put_work.ensures
 
 pub returns : goal.returns
-returns c = worked_all c.loop-j.invariant.0 c.loop-j-test.false c.loop-j.invariant.1
+returns c = worked_all c.loop-j.auto.j-end c.loop-j-test.false c.loop-j.invariant

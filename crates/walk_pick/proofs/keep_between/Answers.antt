@@ -2,7 +2,6 @@
 use Rattle.walk_pick.specs.PairLaws.{entries_small, between_in, left_out, right_out}
 use native.Mathlib.Omega.{arith}
 use mathlib.Core.Path.{sym, ◌∙◌}
-use borrow.Author.Rules.{rules}
 use Rattle.walk_pick.proofs.keep_between.Goals as goal
 
 pub overflow_mul-x : goal.overflow_mul-x
@@ -20,22 +19,18 @@ overflow_add-x c =
 
 pub keep_word-requires : goal.keep_word-requires
 keep_word-requires c =
-    let second = c in
-    let first = second in
-    let known = first.requires in
-    let l = entries_small _ _ first.has_entries.ensures first.if-has_entries.true in
-    let r = entries_small _ _ second.has_entries-then-has_entries.ensures second.if-has_entries-2.true in
+    let known = c.requires in
+    let l = entries_small _ _ c.has_entries.ensures c.if-has_entries.true in
+    let r = entries_small _ _ c.has_entries-then-has_entries.ensures c.if-has_entries-2.true in
     let few = known.few in
     let size = known.size in
     omega (arith, l.0, r.0)
 
 pub returns-then-has_entries-2 : goal.returns-then-has_entries-2
 returns-then-has_entries-2 c =
-    let second = c in
-    let first = second in
     between_in _ _ _ _ _ _
-    (sym first.has_entries.ensures ∙ first.if-has_entries.true)
-    (sym second.has_entries-then-has_entries.ensures ∙ second.if-has_entries-2.true)
+    (sym c.has_entries.ensures ∙ c.if-has_entries.true)
+    (sym c.has_entries-then-has_entries.ensures ∙ c.if-has_entries-2.true)
     c.keep_word.ensures
 
 pub returns-else-has_entries-2 : goal.returns-else-has_entries-2

@@ -1,99 +1,26 @@
--- From the first row of the chain on (row-begun) run after run is kept (row-run); past the last one that is the whole row (row_read).
-use mathlib.Core.Path.{◌≡◌, sym, ◌∙◌}
-use Prim.Native.Nat.{◌%◌, ◌-◌, ◌≤◌, ◌<◌}
-use native.Mathlib.Omega.{arith}
-use borrow.Author.Rules.{rules}
-use Rattle.place_next.specs.Chains.{chain_of}
-use Rattle.place_next.specs.ChainLaws.{rows_most}
-use Rattle.walk_pick.specs.PickSteps.{RowKept}
-use Rattle.walk_pick.specs.PairLaws.{row_whole, row_most, row_read}
-use Rattle.walk_pick.specs.PickStepLaws.{row_tables}
-use Rattle.walk_pick.specs.RunLaws.{row_run, row_started, head_few}
+-- What hangs on the row is worked out; from the first row of its chain on (row_started) the rows are met, and that is the whole row (row_read).
+use mathlib.Core.Path.{refl}
+use Rattle.walk_pick.specs.PairLaws.{row_whole, row_read}
+use Rattle.walk_pick.specs.RunLaws.{row_started, head_few}
 use Rattle.walk_pick.proofs.pick_row.Goals as goal
 
-pub whole_row-p-requires : goal.whole_row-p-requires
-whole_row-p-requires c = let known = c.requires in row_whole _ known.rows known.inside
+pub whole_row-row-requires : goal.whole_row-row-requires
+whole_row-row-requires c = row_whole _ c.requires.rows c.requires.inside
 
-pub head_of-j-requires : goal.head_of-j-requires
-head_of-j-requires c = head_few c.requires _
+pub invariant_of-s : goal.invariant_of-s
+invariant_of-s c = record {
+  counted = c.requires.rows;
+  worked = c.requires.worked;
+  words_are = c.left_words-words.ensures;
+  never_is = c.never_back-never.ensures;
+  loose_is = c.kind_has-loose.ensures;
+}
 
-pub loop-j-init : goal.loop-j-init
-loop-j-init c = row_started c.requires c.head_of-j.ensures
+pub head_of-first-requires : goal.head_of-first-requires
+head_of-first-requires c = head_few c.requires _
 
-pub pick_run-t-requires : goal.pick_run-t-requires
-pick_run-t-requires c =
-    let known = c.requires in
-    let words = c in
-    let inv = c.loop-j.invariant in
-    let l = c.loop-j-test.true in
-    let tables = row_tables known.forwards_for known.backs_for inv.2 in
-    record {
-      known = record { rows = known.rows; worked = known.worked; left_is = words.left_words-l.ensures; inside = l; chain = inv.1 l };
-      never_is = words.never_back-never.ensures;
-      loose_is = words.kind_has-loose.ensures;
-      forwards_for = tables.0;
-      backs_for = tables.1;
-    }
-
-pub overflow_add-edges : goal.overflow_add-edges
-overflow_add-edges c =
-    let c6 = c in
-    let c12 = c6 in
-    let c18 = c12 in
-    let known = c18.requires in
-    let few = rows_most _ known.rows in
-    let added = c.pick_run-t.ensures in
-    let h = row_most (row_run known.forwards_for known.backs_for c6.loop-j.invariant.2 added) in
-    let l = added.ran.inside in
-    record { fits = omega (arith, h.0) }
-
-pub overflow_add-edges-in-loop-j : goal.overflow_add-edges-in-loop-j
-overflow_add-edges-in-loop-j c =
-    let c6 = c in
-    let c12 = c6 in
-    let c18 = c12 in
-    let known = c18.requires in
-    let few = rows_most _ known.rows in
-    let added = c.pick_run-t.ensures in
-    let h = row_most (row_run known.forwards_for known.backs_for c6.loop-j.invariant.2 added) in
-    let l = added.ran.inside in
-    record { fits = omega (arith, h.0) }
-
-pub overflow_add-back : goal.overflow_add-back
-overflow_add-back c =
-    let c6 = c in
-    let c12 = c6 in
-    let c18 = c12 in
-    let known = c18.requires in
-    let few = rows_most _ known.rows in
-    let added = c6.pick_run-t.ensures in
-    let h = row_most (row_run known.forwards_for known.backs_for c6.loop-j.invariant.2 added) in
-    let l = added.ran.inside in
-    record { fits = omega (arith, h.1) }
-
-pub loop-j-smaller : goal.loop-j-smaller
-loop-j-smaller c =
-    let ran = c.pick_run-t.ensures.ran in
-    let later = ran.later in
-    let inside = ran.inside in
-    let l = c.loop-j-test.true in
-    omega arith
-
-pub loop-j-preserved : goal.loop-j-preserved
-loop-j-preserved c =
-    let c6 = c in
-    let c12 = c6 in
-    let c18 = c12 in
-    let known = c18.requires in
-    let added = c6.pick_run-t.ensures in (
-      added.ran.inside,
-      added.ran.chain,
-      row_run known.forwards_for known.backs_for c6.loop-j.invariant.2 added,
-    )
+pub pick_chain-requires : goal.pick_chain-requires
+pick_chain-requires c = (row_started c.requires c.head_of-first.ensures, c.requires.forwards_for, c.requires.backs_for)
 
 pub returns : goal.returns
-returns c =
-    let inv = c.loop-j.invariant in
-    let most = inv.0 in
-    let least = c.loop-j-test.false in
-    row_read c.whole_row-p.ensures (omega arith) inv.2
+returns c = row_read c.whole_row-row.ensures refl c.pick_chain.ensures

@@ -1,23 +1,18 @@
 -- The run tells the marks of its last edges; their words are kept for the nodes of the two rows (run-added).
 use mathlib.Core.Path.{ap, refl}
-use borrow.Author.Rules.{rules}
 use Rattle.place_row.specs.declared.Row.{Row}
 use Rattle.walk_pick.specs.PairLaws.{row_whole}
 use Rattle.walk_pick.specs.RunLaws.{run_added}
 use Rattle.walk_pick.proofs.pick_run.Goals as goal
 
 pub whole_row-q-requires : goal.whole_row-q-requires
-whole_row-q-requires c = let known = c.requires.known in row_whole _ known.rows known.inside
+whole_row-q-requires c = row_whole _ c.args.s.now.counted c.requires.0.0
 
 pub run_from-t-requires : goal.run_from-t-requires
 run_from-t-requires c =
-    let known = c.requires in
-    (known.known, ap (λ (x : Row). x.relation) c.whole_row-q.ensures, known.never_is)
+    (c.requires.0, ap (λ (x : Row). x.relation) c.whole_row-q.ensures)
 
 pub returns : goal.returns
 returns c =
-    let c6 = c in
-    let ran = c6 in
-    let start = ran in
-    run_added ran.run_from-t.ensures ran.whole_row-q.ensures start.requires.loose_is
-    refl c6.keep_forward.ensures refl c.keep_back.ensures
+    run_added c.run_from-t.ensures c.whole_row-q.ensures c.args.s.now.loose_is
+    refl c.keep_forward.ensures refl c.keep_back.ensures

@@ -1,7 +1,6 @@
 -- The words that are put are those of the row as one that is entered, with its mark and where its run goes on (work-words).
 use mathlib.Core.Path.{◌∙◌, ap}
 use native.Mathlib.Omega.{arith}
-use borrow.Author.Rules.{rules}
 use Rattle.place_next.specs.ChainLaws.{rows_most}
 use Rattle.word_rows.specs.Put.{row_put}
 use Rattle.walk_pick.specs.PairLaws.{row_whole}
@@ -25,8 +24,6 @@ straight_of-straight-requires c =
 
 pub returns : goal.returns
 returns c =
-    let straight = c in
-    let made = straight in
     c.put_row.ensures
-    ∙ ap (row_put _ _) (work_words_lem _ _ _ _ made.along_of-along.ensures made.whole_row-q.ensures made.entered_words-e.ensures
-    straight.straight_of-straight.ensures)
+    ∙ ap (row_put _ _) (work_words_lem _ _ _ _ c.along_of-along.ensures c.whole_row-q.ensures c.entered_words-e.ensures
+    c.straight_of-straight.ensures)

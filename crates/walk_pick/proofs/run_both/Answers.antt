@@ -1,21 +1,17 @@
 -- At each row of the run the words tell whether a forward and whether a back edge stands (told-forward, told_back), and so the run is kept row by
 -- row (run-again).
-use mathlib.Core.Path.{◌≡◌, refl, sym, ap, ◌∙◌}
-use Prim.Native.Nat.{ℕ, ◌+◌, ◌-◌, ◌≤◌}
-use lib.ListN.{length}
+use mathlib.Core.Path.{refl}
 use native.Mathlib.Omega.{arith}
-use borrow.Author.Rules.{rules}
-use Rattle.place_row.specs.declared.Row.{Row}
-use Rattle.place_row.specs.RowTable.{row_at}
 use Rattle.place_next.specs.ChainLaws.{rows_most}
-use Rattle.walk_pick.specs.Runs.{RunAt, RunKnown, last_mark}
+use Rattle.walk_pick.specs.Runs.{last_mark}
+use Rattle.walk_pick.specs.Leavings.{known_of}
 use Rattle.walk_pick.specs.RunLaws.{here, here_fits, run_first, run_most, run_less, run_again, run_end, last_turn, last_fits}
 use Rattle.walk_pick.specs.RunLaws.{told_forward, told_back}
 use Rattle.walk_pick.proofs.run_both.Goals as goal
 
 pub overflow_mul-at : goal.overflow_mul-at
 overflow_mul-at c =
-    let known = c.requires.0 in
+    let known = known_of c.args.s.now c.args.j c.requires.0 in
     let few = rows_most _ known.rows in
     let l = known.inside in
     record { fits = omega arith }
@@ -23,21 +19,21 @@ overflow_mul-at c =
 pub loop-at-init : goal.loop-at-init
 unfolding last_mark
 loop-at-init c =
-    let size = c.requires.0.worked.size in
-    (omega arith, omega arith, λ p known same. run_first known.inside known.chain same refl)
+    let known = known_of c.args.s.now c.args.j c.requires.0 in
+    let size = known.worked.size in
+    (omega arith, omega arith, run_first known.inside known.chain c.requires.1 refl)
 
 pub entered_at-q-requires : goal.entered_at-q-requires
 entered_at-q-requires c =
-    let known = c.requires in
-    let h = here (c.loop-at.invariant.2 _ known.0 known.1) c.loop-at-test.true in
-    here_fits known.0.rows known.0.worked h
+    let known = known_of c.args.s.now c.args.j c.requires.0 in
+    let h = here c.loop-at.invariant.2 c.loop-at-test.true in
+    here_fits known.rows known.worked h
 
 pub overflow_add-edges : goal.overflow_add-edges
 overflow_add-edges c =
-    let c5 = c in
-    let known = c5.requires in
-    let h = here (c5.loop-at.invariant.2 _ known.0 known.1) c.loop-at-test.true in
-    let few = rows_most _ known.0.rows in
+    let known = known_of c.args.s.now c.args.j c.requires.0 in
+    let h = here c.loop-at.invariant.2 c.loop-at-test.true in
+    let few = rows_most _ known.rows in
     let l = h.inside in
     let most = run_most h.kept in
     let one = c.one_if-edges.ensures.1 in
@@ -45,10 +41,9 @@ overflow_add-edges c =
 
 pub overflow_add-turned : goal.overflow_add-turned
 overflow_add-turned c =
-    let c8 = c in
-    let known = c8.requires in
-    let h = here (c8.loop-at.invariant.2 _ known.0 known.1) c.loop-at-test.true in
-    let few = rows_most _ known.0.rows in
+    let known = known_of c.args.s.now c.args.j c.requires.0 in
+    let h = here c.loop-at.invariant.2 c.loop-at-test.true in
+    let few = rows_most _ known.rows in
     let l = h.inside in
     let most = run_most h.kept in
     let one = c.one_if-turned.ensures.1 in
@@ -56,41 +51,36 @@ overflow_add-turned c =
 
 pub along_at-at-requires : goal.along_at-at-requires
 along_at-at-requires c =
-    let c8 = c in
-    let known = c8.requires in
-    let h = here (c8.loop-at.invariant.2 _ known.0 known.1) c.loop-at-test.true in
-    here_fits known.0.rows known.0.worked h
+    let known = known_of c.args.s.now c.args.j c.requires.0 in
+    let h = here c.loop-at.invariant.2 c.loop-at-test.true in
+    here_fits known.rows known.worked h
 
 pub loop-at-smaller : goal.loop-at-smaller
 loop-at-smaller c =
-    let c8 = c in
-    let known = c8.requires in
-    let h = here (c8.loop-at.invariant.2 _ known.0 known.1) c8.loop-at-test.true in
-    let less = run_less known.0.rows known.0.worked h c.along_at-at.ensures in
+    let known = known_of c.args.s.now c.args.j c.requires.0 in
+    let h = here c.loop-at.invariant.2 c.loop-at-test.true in
+    let less = run_less known.rows known.worked h c.along_at-at.ensures in
     omega (arith, less.0, less.1)
 
 pub loop-at-preserved : goal.loop-at-preserved
 loop-at-preserved c =
-    let c3 = c in
-    let c8 = c3 in
-    let turn = c8.loop-at in
+    let turn = c.loop-at in
     let inv = turn.invariant in
-    let stands = c3.forward_meets-f in
-    let back = c3.back_meets-b in
-    let pre = c8.requires in
-    let fits = here_fits pre.0.rows pre.0.worked (here (inv.2 _ pre.0 pre.1) c8.loop-at-test.true) in (
-      last_fits _ stands.result turn.at turn.last c3.last_if-last.ensures fits inv.0,
+    let stands = c.forward_meets-f in
+    let back = c.back_meets-b in
+    let known = known_of c.args.s.now c.args.j c.requires.0 in
+    let fits = here_fits known.rows known.worked (here inv.2 c.loop-at-test.true) in (
+      last_fits _ stands.result turn.at turn.last c.last_if-last.ensures fits inv.0,
       last_fits _ back.result turn.at turn.last_back c.last_if-last_back.ensures fits inv.1,
-      λ p known same.
-          let h = here (inv.2 p known same) c8.loop-at-test.true in
-          let entered = c3.entered_at-q.ensures in
+      let h = here inv.2 c.loop-at-test.true in
+          let entered = c.entered_at-q.ensures in
           run_again known.rows known.worked h c.along_at-at.ensures
           (told_forward known.worked known.left_is h entered stands.ensures)
           (told_back known.worked known.left_is h entered back.ensures)
           refl
-          (last_turn _ stands.result turn.at turn.last _ c3.last_if-last.ensures c3.one_if-edges.ensures.0)
+          (last_turn _ stands.result turn.at turn.last _ c.last_if-last.ensures c.one_if-edges.ensures.0)
           (last_turn _ back.result turn.at turn.last_back _ c.last_if-last_back.ensures c.one_if-turned.ensures.0)
-          c3.one_if-edges.ensures.0 c.one_if-turned.ensures.0,
+          c.one_if-edges.ensures.0 c.one_if-turned.ensures.0,
     )
 
 pub last_mark-forward-requires : goal.last_mark-forward-requires
@@ -101,7 +91,5 @@ last_mark-back-requires c = c.loop-at.invariant.1
 
 pub returns : goal.returns
 returns c =
-    let c2 = c in
-    let known = c2.requires in
     rw (c.last_mark-forward.ensures, c.last_mark-back.ensures)
-    (run_end known.0.rows (c2.loop-at.invariant.2 _ known.0 known.1) c2.loop-at-test.false)
+    (run_end c.args.s.now.counted c.loop-at.invariant.2 c.loop-at-test.false)

@@ -1,19 +1,17 @@
 -- The rows that stand right one after the other are met (straight_forward), then the last of these: the words tell whether a forward edge stands
 -- (told-forward), no back edge does (told-never), and so the run is kept row by row (run-again).
-use mathlib.Core.Path.{◌≡◌, refl, ◌∙◌}
-use Prim.Native.Nat.{ℕ, ◌+◌, ◌-◌, ◌≤◌}
-use lib.ListN.{length}
+use mathlib.Core.Path.{refl, sym, ◌∙◌}
 use native.Mathlib.Omega.{arith}
-use borrow.Author.Rules.{rules}
 use Rattle.place_next.specs.ChainLaws.{rows_most}
-use Rattle.walk_pick.specs.Runs.{RunAt, last_mark}
+use Rattle.walk_pick.specs.Runs.{last_mark}
+use Rattle.walk_pick.specs.Leavings.{known_of}
 use Rattle.walk_pick.specs.RunLaws.{here, here_fits, run_first, run_most, run_less, run_again, run_end, last_turn, last_fits}
 use Rattle.walk_pick.specs.RunLaws.{told_forward, told_never}
 use Rattle.walk_pick.proofs.run_forward.Goals as goal
 
 pub overflow_mul-at : goal.overflow_mul-at
 overflow_mul-at c =
-    let known = c.requires.0 in
+    let known = known_of c.args.s.now c.args.j c.requires.0.0 in
     let few = rows_most _ known.rows in
     let l = known.inside in
     record { fits = omega arith }
@@ -21,27 +19,26 @@ overflow_mul-at c =
 pub loop-at-init : goal.loop-at-init
 unfolding last_mark
 loop-at-init c =
-    let pre = c.requires in
-    let size = pre.0.worked.size in
-    (omega arith, run_first pre.0.inside pre.0.chain pre.1 refl)
+    let known = known_of c.args.s.now c.args.j c.requires.0.0 in
+    let size = known.worked.size in
+    (omega arith, run_first known.inside known.chain c.requires.0.1 refl)
 
-pub straight_forward-s-requires : goal.straight_forward-s-requires
-straight_forward-s-requires c =
+pub straight_forward-far-requires : goal.straight_forward-far-requires
+straight_forward-far-requires c =
     let pre = c.requires in
     let inv = c.loop-at.invariant in
-    (pre.0, pre.1, pre.2, record { inside = c.loop-at-test.true; last_inside = inv.0; run = inv.1 })
+    (pre.0, pre.1, record { inside = c.loop-at-test.true; last_inside = inv.0; run = inv.1 })
 
 pub entered_at-q-requires : goal.entered_at-q-requires
 entered_at-q-requires c =
-    let known = c.requires.0 in
-    let s = c.straight_forward-s.ensures.0 in
+    let known = known_of c.args.s.now c.args.j c.requires.0.0 in
+    let s = c.straight_forward-far.ensures.0 in
     here_fits known.rows known.worked (here s.run s.inside)
 
 pub overflow_add-edges : goal.overflow_add-edges
 overflow_add-edges c =
-    let c5 = c in
-    let known = c5.requires.0 in
-    let s = c5.straight_forward-s.ensures.0 in
+    let known = known_of c.args.s.now c.args.j c.requires.0.0 in
+    let s = c.straight_forward-far.ensures.0 in
     let h = here s.run s.inside in
     let few = rows_most _ known.rows in
     let l = h.inside in
@@ -51,27 +48,23 @@ overflow_add-edges c =
 
 pub along_at-at-requires : goal.along_at-at-requires
 along_at-at-requires c =
-    let c5 = c in
-    let known = c5.requires.0 in
-    let s = c5.straight_forward-s.ensures.0 in
+    let known = known_of c.args.s.now c.args.j c.requires.0.0 in
+    let s = c.straight_forward-far.ensures.0 in
     here_fits known.rows known.worked (here s.run s.inside)
 
 pub loop-at-smaller : goal.loop-at-smaller
 loop-at-smaller c =
-    let c6 = c in
-    let known = c6.requires.0 in
-    let s = c6.straight_forward-s.ensures in
+    let known = known_of c.args.s.now c.args.j c.requires.0.0 in
+    let s = c.straight_forward-far.ensures in
     let later = s.1 in
     let less = run_less known.rows known.worked (here s.0.run s.0.inside) c.along_at-at.ensures in
     omega (arith, less.0, less.1)
 
 pub loop-at-preserved : goal.loop-at-preserved
 loop-at-preserved c =
-    let c6 = c in
-    let pre = c6.requires in
-    let known = pre.0 in
-    let far = c6.straight_forward-s.result in
-    let s = c6.straight_forward-s.ensures.0 in
+    let known = known_of c.args.s.now c.args.j c.requires.0.0 in
+    let far = c.straight_forward-far.result in
+    let s = c.straight_forward-far.ensures.0 in
     let h = here s.run s.inside in
     let stands = c.forward_meets-f in
     let last = c.last_if-last.ensures in
@@ -79,7 +72,7 @@ loop-at-preserved c =
     let entered = c.entered_at-q.ensures in (
       last_fits _ stands.result far.at far.last last (here_fits known.rows known.worked h) s.last_inside,
       run_again known.rows known.worked h c.along_at-at.ensures
-          (told_forward known.worked known.left_is h entered stands.ensures) (told_never known.worked known.left_is h entered pre.2)
+          (told_forward known.worked known.left_is h entered stands.ensures) (told_never known.worked known.left_is h entered (sym c.args.s.now.never_is ∙ c.requires.1))
           refl (last_turn _ stands.result far.at far.last _ last one) refl one refl,
     )
 
@@ -88,5 +81,4 @@ last_mark-forward-requires c = c.loop-at.invariant.0
 
 pub returns : goal.returns
 returns c =
-    let known = c.requires in
-    rw c.last_mark-forward.ensures (run_end known.0.rows c.loop-at.invariant.1 c.loop-at-test.false)
+    rw c.last_mark-forward.ensures (run_end c.args.s.now.counted c.loop-at.invariant.1 c.loop-at-test.false)

@@ -1,24 +1,14 @@
 -- While the run goes on right after a row's words, the words of its next row stand there (run-straight), and the run is kept row by row (run-again).
-use mathlib.Core.Path.{◌≡◌, refl, ◌∙◌}
-use mathlib.Core.Bool.{true}
-use Prim.Native.Nat.{ℕ, ◌+◌, ◌-◌, ◌≤◌, ◌<◌}
-use native.Mathlib.Omega.{arith}
+use mathlib.Core.Path.{◌≡◌}
+use Prim.Native.Nat.{◌+◌, ◌-◌, ◌≤◌, ◌<◌}
 use lib.ListN.{length, get_or}
-use borrow.Author.Rules.{rules}
-use Rattle.place_row.specs.declared.Row.{Row}
-use Rattle.place_row.specs.RowTable.{row_at}
-use Rattle.place_next.specs.ChainLaws.{rows_most}
-use Rattle.edge_pair.specs.PairWords.{never_back}
-use Rattle.walk_pick.specs.Runs.{RunAt, RunKnown, last_mark}
-use Rattle.walk_pick.specs.RunLaws.{here, here_fits, run_most, run_straight, run_again, last_turn, last_fits, told_forward, told_never}
+use Rattle.walk_pick.specs.Runs.{RunAt, last_mark}
 use Rattle.walk_pick.proofs.straight_forward.Given as goal
 
--- whatever row p has these words and came so far
 abbrev pub invariant-loop-straight : goal.invariant-loop-straight
 invariant-loop-straight l =
-    (l.last + 8 ≤ length l.work) × (l.straight ≡ get_or l.work (l.at + 7) 0) × (l.from ≤ l.at) × (l.at < 4096)
-    × ((p : Row) → RunKnown l.table l.n p l.l l.work l.j → p.relation ≡ (row_at l.table l.j).relation → never_back l.l ≡ true
-    → RunAt l.table l.n p l.j l.from (last_mark l.work l.before l.count) 0 l.count 0 → RunAt l.table l.n p l.j l.at (last_mark l.work l.last l.edges) 0 l.edges 0)
+    (l.last + 8 ≤ length l.s.work.now) × (l.straight ≡ get_or l.s.work.now (l.at + 7) 0) × (l.fn.from.at ≤ l.at) × (l.at < 4096)
+    × RunAt l.s.table.now l.s.count l.s.row l.j l.at (last_mark l.s.work.now l.last l.edges) 0 l.edges 0
 
 abbrev pub decreases-loop-straight : goal.decreases-loop-straight
 decreases-loop-straight l = 4096 - l.at
