@@ -12,13 +12,8 @@ returns c =
       rows_judged = judged_picked _ _ _ _ _ _ c.requires.0 c.requires.1 c.pick_edges-c.ensures.picked_as
           c.find_walk-found.ensures.walk_answered c.judged.ensures;
       lent = (
-<<<<<<< HEAD
-        c.pick_edges-c.ensures.lent,
-        c.find_walk-found.ensures.lent ∙ c.pick_edges-c.ensures.lent_2,
-=======
-        picked.pick_edges-c.ensures.next_lent,
-        found.find_walk-found.ensures.lent ∙ picked.pick_edges-c.ensures.work_lent,
->>>>>>> ffcd1e3effde89313a7f9b81a128bc7a154eb7d1
+        c.pick_edges-c.ensures.next_lent,
+        c.find_walk-found.ensures.lent ∙ c.pick_edges-c.ensures.work_lent,
         search rules,
         search rules,
       );
