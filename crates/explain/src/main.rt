@@ -10,7 +10,6 @@ use edge_record::Edge;
 use pick_laws::STEP_WORDS;
 use place_fetch::row_at;
 use place_row::{ROW_SLOTS, ROW_WORDS, ROWS, SLOTS, TABLE_WORDS};
-use place_table::Rows;
 use spec_text::Workload;
 use std::io::{Stdout, Write};
 use stdin::Input;
@@ -357,7 +356,9 @@ fn tell_pair(out: Stdout, t: Tables, walk: Walk) {
 // Everything that is told of a workload's table and unfoldings.
 fn tell_all(out: Stdout, w: Workload, table: &[u64], programs: u64, walk: Walk) {
     let mut words = [0u64; ROWS];
-    let told = unfold::unfold_places(w, &mut words);
+    let Ok(told) = unfold::unfold_places(w, &mut words) else {
+        return;
+    };
     let tables = Tables {
         table,
         programs: &told.program,
@@ -378,14 +379,10 @@ fn tell_graph(out: Stdout, w: Workload, walk: Walk) {
     let mut table = [0u64; TABLE_WORDS];
     let filled = place_table::fill_rows(w, &mut table);
     match filled {
-        Rows::Refused(_) => {}
-        Rows::Filled {
-            programs,
-            nodes: _,
-            places,
-        } => {
-            let n = (places * ROW_WORDS as u64) as usize;
-            tell_all(out, w, &table[..n], programs, walk);
+        Err(_) => {}
+        Ok(rows) => {
+            let n = (rows.places * ROW_WORDS as u64) as usize;
+            tell_all(out, w, &table[..n], rows.programs, walk);
         }
     }
 }
@@ -398,7 +395,7 @@ fn tell_value(out: Stdout, w: Workload) {
     let mut words = [0u64; WALK_WORDS];
     let v = verdict_of::verdict_of(w, &mut words);
     match v {
-        Verdict::Robust(c) => {
+        Ok(Verdict::Robust(c)) => {
             tell_verdict(out, b"verdict robust", c);
             let none = Walk {
                 words: &words,
@@ -406,7 +403,7 @@ fn tell_value(out: Stdout, w: Workload) {
             };
             tell_graph(out, w, none);
         }
-        Verdict::Danger(c, steps) => {
+        Ok(Verdict::Danger(c, steps)) => {
             tell_verdict(out, b"verdict danger", c);
             let walk = Walk {
                 words: &words,
@@ -414,8 +411,8 @@ fn tell_value(out: Stdout, w: Workload) {
             };
             tell_graph(out, w, walk);
         }
-        Verdict::Refused(number) => {
-            tell_refused(out, number, 0);
+        Err(fault) => {
+            tell_refused(out, fault.number(), 0);
             tell_unfolds(out, w);
         }
     }

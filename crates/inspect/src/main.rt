@@ -9,9 +9,9 @@ use edge_list::{EdgeAnswer, EdgeCounts};
 use edge_put::Put;
 use edge_record::{Edge, Found};
 use place_row::{ROWS, TABLE_WORDS};
-use place_table::Rows;
 use spec_text::{CELLS, Line, LineKind, StatementKind, Workload};
 use std::io::{Stdout, Write};
+use unfold::Unfolded;
 use verdict_told::Verdict;
 use walk_first::WALK_WORDS;
 
@@ -114,12 +114,13 @@ fn print_unfolding(
 
 fn list_unfoldings(out: Stdout, w: Workload) {
     let mut statements = [0u64; ROWS];
-    let told = unfold::unfold(w, &mut statements);
-    let number = told.refusal;
-    if number != 0 {
-        print_refused(out, number, 0);
-        return;
-    }
+    let told = match unfold::unfold(w, &mut statements) {
+        Ok(told) => told,
+        Err(fault) => {
+            print_refused(out, fault.number(), 0);
+            return;
+        }
+    };
     print(out, b"node program start length statements\n");
     for i in 0..64.min(told.count as usize) {
         print_unfolding(
@@ -163,15 +164,9 @@ fn list_edges(out: Stdout, w: Workload) {
     let mut table = [0u64; TABLE_WORDS];
     let filled = place_table::fill_rows(w, &mut table);
     match filled {
-        Rows::Refused(number) => {
-            print_refused(out, number, 0);
-        }
-        Rows::Filled {
-            programs: _,
-            nodes: _,
-            places,
-        } => {
-            let n = (places * 8) as usize;
+        Err(fault) => print_refused(out, fault.number(), 0),
+        Ok(rows) => {
+            let n = (rows.places * 8) as usize;
             print_edges(out, &table[..n]);
         }
     }
@@ -262,19 +257,28 @@ fn show_put(out: Stdout, w: Workload) {
     }
 }
 
+// Where the statements of the last unfolding end.
+fn last_end(told: Unfolded) -> u64 {
+    let last = ((told.count % 64 + 63) % 64) as usize;
+    let rows = ROWS as u64;
+    told.start[last] % rows + told.length[last] % rows
+}
+
 // The unfoldings put into so much of an area of twelve cells, all marked with 77. Answers where the last one's statements end.
 fn show_unfoldings(out: Stdout, w: Workload, room: u64) -> u64 {
     let mut area = [77u64; 12];
     let n = area.len().min(room as usize);
     let told = unfold::unfold(w, &mut area[..n]);
+    let (refusal, count) = match told {
+        Ok(told) => (0, told.count),
+        Err(fault) => (u64::from(fault.number()), 0),
+    };
     print(out, b"unfold");
-    print_numbers(out, &[room, u64::from(told.refusal), told.count]);
+    print_numbers(out, &[room, refusal, count]);
     print(out, b" :");
     print_numbers(out, &area);
     print(out, b"\n");
-    let last = ((told.count % 64 + 63) % 64) as usize;
-    let rows = ROWS as u64;
-    told.start[last] % rows + told.length[last] % rows
+    told.map_or(0, last_end)
 }
 
 // Whether a cell from a place on is no longer marked with 77.
@@ -288,9 +292,9 @@ fn show_verdict(out: Stdout, w: Workload, room: u64) {
     let n = area.len().min(room as usize);
     let v = verdict_of::verdict_of(w, &mut area[..n]);
     let (said, from) = match v {
-        Verdict::Robust(c) => ([0, 0, c.edges, c.back], 0),
-        Verdict::Danger(c, steps) => ([0, 1, c.edges, c.back], steps % 66 * 4),
-        Verdict::Refused(number) => ([u64::from(number), 0, 0, 0], 0),
+        Ok(Verdict::Robust(c)) => ([0, 0, c.edges, c.back], 0),
+        Ok(Verdict::Danger(c, steps)) => ([0, 1, c.edges, c.back], steps % 66 * 4),
+        Err(fault) => ([u64::from(fault.number()), 0, 0, 0], 0),
     };
     print(out, b"verdict");
     print_numbers(out, &[room]);
