@@ -7,7 +7,7 @@ ghost use Rattle.spec_text.specs.Text.{lines_in};
 ghost use Rattle.line_rules.specs.WordsHold.{HoldsWords};
 ghost use Rattle.text_before.specs.Before.{taken_before, counts_of, before_of};
 
-use text_fields::{LineStep, line_in};
+use text_fields::line_in;
 use text_whole::Whole;
 
 // How much was taken: the lines, and of them the relations, keys and programs; of the program at hand, the lines after the last pr, the
@@ -48,7 +48,7 @@ fn before_lines(text: &[u8], start: usize) -> Before
     line_rules::start(&mut words);
     let mut at = start;
     while at < text.len() {
-        let LineStep::Value(l, next) = line_in(text, at) else {
+        let Some((l, next)) = line_in(text, at) else {
             break;
         };
         if line_rules::take_tested(&mut words, l) != 0 {

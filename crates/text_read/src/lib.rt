@@ -9,7 +9,7 @@ ghost use Rattle.text_read.specs.Parse.{parsed_as};
 
 use line_rules::take_tested;
 use spec_text::Workload;
-use text_fields::{LineStep, line_in};
+use text_fields::line_in;
 use text_whole::Whole;
 use value_unused::unused_cells;
 
@@ -41,7 +41,7 @@ fn read_lines(text: &[u8], start: usize) -> Parsed
     let mut at = start;
     while at < text.len() {
         let n = w.count;
-        let LineStep::Value(l, next) = line_in(text, at) else {
+        let Some((l, next)) = line_in(text, at) else {
             return refused(4, n as u64 + 2);
         };
         let number = take_tested(&mut words, l);

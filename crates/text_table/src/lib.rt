@@ -9,7 +9,7 @@ ghost use Rattle.text_table.specs.Tabled.{not_read, TextTabled};
 ghost use Rattle.text_table.specs.Taking.{LineTaken};
 
 use spec_text::Line;
-use text_fields::{LineStep, line_there};
+use text_fields::line_there;
 use text_whole::Whole;
 use value_lines::put_line;
 use value_tables::LINE_TABLE;
@@ -60,7 +60,7 @@ fn table_lines(
     let mut at = start;
     let mut n: usize = 0;
     while at < text.len() {
-        let LineStep::Value(l, next) = line_there(text, at, n as u64 + 2) else {
+        let Some((l, next)) = line_there(text, at, n as u64 + 2) else {
             return refused(4, n as u64 + 2);
         };
         let number = take_line(state, lines, n, l);
