@@ -22,8 +22,8 @@ loop-at-init c = taking_first _ _ c.start.ensures.1
 taken-line : (c : goal.Else-take_tested-ne0)
     → let text = c.args.text.now in
     let at = c.loop-at.at in
-    (line_of (line_bytes text at) ≡ some c.in-Value.l) × (c.in-Value.next ≡ place_after text at)
-taken-line c = step_value _ _ (sym c.in-Value.is ∙ c.line_in.ensures)
+    (line_of (line_bytes text at) ≡ some c.in-Some.l) × (c.in-Some.next ≡ place_after text at)
+taken-line c = step_value _ _ (sym c.in-Some.is ∙ c.line_in.ensures)
 
 pub loop-at-smaller : goal.loop-at-smaller
 loop-at-smaller c =
@@ -51,8 +51,8 @@ held c =
     elim c.loop-at-test.branch [
       | goal.else-loop-at-test w ↦ rw w.words-is (taking_ends going w.loop-at-test.false)
       | goal.then-loop-at-test+in_default w ↦ rw w.words-is (taking_wrong going w.loop-at-test.true (step_wrong _ _ (sym w.in_default.is ∙ w.line_in.ensures)))
-      | goal.then-loop-at-test+in-Value+then-take_tested-ne0 w ↦
-          let here = step_value _ _ (sym w.in-Value.is ∙ w.line_in.ensures) in
+      | goal.then-loop-at-test+in-Some+then-take_tested-ne0 w ↦
+          let here = step_value _ _ (sym w.in-Some.is ∙ w.line_in.ensures) in
           rw w.words-is (taking_stops going w.loop-at-test.true here.0 w.take_tested.ensures w.if-take_tested-ne0.true)
     ]
 

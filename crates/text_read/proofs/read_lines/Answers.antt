@@ -40,14 +40,14 @@ returns-in_default c =
 taken-line : (c : goal.After-refused-then-number-ne0)
     → let text = c.args.text.now in
     let at = c.loop-at.at in
-    (line_of (line_bytes text at) ≡ some c.in-Value.l) × (c.in-Value.next ≡ place_after text at)
-taken-line c = step_value _ _ (sym c.in-Value.is ∙ c.line_in.ensures)
+    (line_of (line_bytes text at) ≡ some c.in-Some.l) × (c.in-Some.next ≡ place_after text at)
+taken-line c = step_value _ _ (sym c.in-Some.is ∙ c.line_in.ensures)
 
 taken-line_2 : (c : goal.Else-number-ne0)
     → let text = c.args.text.now in
     let at = c.loop-at.at in
-    (line_of (line_bytes text at) ≡ some c.in-Value.l) × (c.in-Value.next ≡ place_after text at)
-taken-line_2 c = step_value _ _ (sym c.in-Value.is ∙ c.line_in.ensures)
+    (line_of (line_bytes text at) ≡ some c.in-Some.l) × (c.in-Some.next ≡ place_after text at)
+taken-line_2 c = step_value _ _ (sym c.in-Some.is ∙ c.line_in.ensures)
 
 pub overflow_add-n-then-number-ne0 : goal.overflow_add-n-then-number-ne0
 overflow_add-n-then-number-ne0 c =
@@ -98,14 +98,14 @@ returns c =
 
 pub offset_bounds-w-n : goal.offset_bounds-w-n
 offset_bounds-w-n c =
-    let room = going_room c.loop-at.invariant c.loop-at-test.true (step_value _ _ (sym c.in-Value.is ∙ c.line_in.ensures)).0 c.take_tested-number.ensures c.if-number-ne0.false in
+    let room = going_room c.loop-at.invariant c.loop-at-test.true (step_value _ _ (sym c.in-Some.is ∙ c.line_in.ensures)).0 c.take_tested-number.ensures c.if-number-ne0.false in
     search (rules, room)
 
 pub bounds-w-n : goal.bounds-w-n
 bounds-w-n c =
-    going_room c.loop-at.invariant c.loop-at-test.true (step_value _ _ (sym c.in-Value.is ∙ c.line_in.ensures)).0 c.take_tested-number.ensures c.if-number-ne0.false
+    going_room c.loop-at.invariant c.loop-at-test.true (step_value _ _ (sym c.in-Some.is ∙ c.line_in.ensures)).0 c.take_tested-number.ensures c.if-number-ne0.false
 
 pub overflow_add-w : goal.overflow_add-w
 overflow_add-w c =
-    let room = going_room c.loop-at.invariant c.loop-at-test.true (step_value _ _ (sym c.in-Value.is ∙ c.line_in.ensures)).0 c.take_tested-number.ensures c.if-number-ne0.false in
+    let room = going_room c.loop-at.invariant c.loop-at-test.true (step_value _ _ (sym c.in-Some.is ∙ c.line_in.ensures)).0 c.take_tested-number.ensures c.if-number-ne0.false in
     search (rules, room)

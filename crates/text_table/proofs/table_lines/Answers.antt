@@ -44,14 +44,14 @@ returns-in_default c =
 taken-line : (c : goal.After-refused-then-number-ne0)
     → let text = c.args.text.now in
     let at = c.loop-at.at in
-    (line_of (line_bytes text at) ≡ some c.in-Value.l) × (c.in-Value.next ≡ place_after text at)
-taken-line c = step_value _ _ (sym c.in-Value.is ∙ c.line_there.ensures)
+    (line_of (line_bytes text at) ≡ some c.in-Some.l) × (c.in-Some.next ≡ place_after text at)
+taken-line c = step_value _ _ (sym c.in-Some.is ∙ c.line_there.ensures)
 
 taken-line_2 : (c : goal.Else-number-ne0)
     → let text = c.args.text.now in
     let at = c.loop-at.at in
-    (line_of (line_bytes text at) ≡ some c.in-Value.l) × (c.in-Value.next ≡ place_after text at)
-taken-line_2 c = step_value _ _ (sym c.in-Value.is ∙ c.line_there.ensures)
+    (line_of (line_bytes text at) ≡ some c.in-Some.l) × (c.in-Some.next ≡ place_after text at)
+taken-line_2 c = step_value _ _ (sym c.in-Some.is ∙ c.line_there.ensures)
 
 pub overflow_add-n-then-number-ne0 : goal.overflow_add-n-then-number-ne0
 overflow_add-n-then-number-ne0 c =
