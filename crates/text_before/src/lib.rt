@@ -51,9 +51,9 @@ fn before_lines(text: &[u8], start: usize) -> Before
         let Some((l, next)) = line_in(text, at) else {
             break;
         };
-        if line_rules::take_tested(&mut words, l).is_err() {
+        let Ok(()) = line_rules::take_tested(&mut words, l) else {
             break;
-        }
+        };
         at = next;
     }
     counted(&words)

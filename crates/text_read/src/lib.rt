@@ -26,7 +26,9 @@ fn read_lines(text: &[u8], start: usize) -> Result<Workload, Refusal>
         let n = w.count;
         let line = n as u64 + 2;
         let (l, next) = line_in(text, at).ok_or(Fault::Fields.at(line))?;
-        take_tested(&mut words, l).map_err(|fault| fault.at(line))?;
+        if let Err(fault) = take_tested(&mut words, l) {
+            return Err(fault.at(line));
+        }
         w.lines[n] = l;
         w.count = n + 1;
         at = next;

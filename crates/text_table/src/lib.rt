@@ -48,7 +48,9 @@ fn table_lines(
     while at < text.len() {
         let line = n as u64 + 2;
         let (l, next) = line_there(text, at, line).ok_or(Fault::Fields.at(line))?;
-        take_line(state, lines, n, l).map_err(|fault| fault.at(line))?;
+        if let Err(fault) = take_line(state, lines, n, l) {
+            return Err(fault.at(line));
+        }
         n += 1;
         at = next;
     }
