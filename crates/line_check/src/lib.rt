@@ -7,9 +7,11 @@ ghost use Rattle.spec_text.specs.declared.LineKind.TheVariants.{Rl as Relation, 
 ghost use Rattle.spec_text.specs.declared.LineKind.TheVariants.{Br as Branch, El as Second, En as Closing, Li as Link};
 ghost use Rattle.line_state.specs.StateSteps.{in_body_of, innermost_of, check_by, check_as, check_of};
 ghost use Rattle.line_state.specs.StateWords.{state_in};
+ghost use Rattle.refusal.specs.Told.{number_told};
 
 use line_links::link_fits;
 use line_sets::sets_fit;
+use refusal::Fault;
 use spec_text::{Line, LineKind, StatementKind};
 
 // A number is the sum of two.
@@ -40,31 +42,30 @@ fn innermost(words: &[u64; line_state::WORDS], part: u64) -> bool
     (depth != 0) & (innermost == part)
 }
 
-// The number of the first test that fails, in the order of the rules, 0 where none does; what a kind does not ask is true. Most lines pass, and
-// one test tells so.
-fn first_fault(room: bool, ordered: bool, named: bool, sets: bool, fits: bool) -> u8
-    ensures { result ≡ check_by room ordered named sets true fits }
+// The fault of the first test that fails, in the order of the rules; what a kind does not ask is true. Most lines pass, and one test tells so.
+fn first_fault(room: bool, ordered: bool, named: bool, sets: bool, fits: bool) -> Result<(), Fault>
+    ensures { number_told result ≡ check_by room ordered named sets true fits }
 {
     if room & ordered & named & sets & fits {
-        return 0;
+        return Ok(());
     }
     if !room {
-        return 9;
+        return Err(Fault::Bound);
     }
     if !ordered {
-        return 7;
+        return Err(Fault::Order);
     }
     if !named {
-        return 6;
+        return Err(Fault::Ids);
     }
     if !sets {
-        return 5;
+        return Err(Fault::Sets);
     }
-    8
+    Err(Fault::Link)
 }
 
-fn check_relation(words: &[u64; line_state::WORDS], l: Line) -> u8
-    ensures { result ≡ check_as (state_in words.now) l Relation }
+fn check_relation(words: &[u64; line_state::WORDS], l: Line) -> Result<(), Fault>
+    ensures { number_told result ≡ check_as (state_in words.now) l Relation }
 {
     let lines = words[line_state::LINES];
     let relations = words[line_state::RELATIONS];
@@ -77,8 +78,8 @@ fn check_relation(words: &[u64; line_state::WORDS], l: Line) -> u8
     )
 }
 
-fn check_key(words: &[u64; line_state::WORDS], l: Line) -> u8
-    ensures { result ≡ check_as (state_in words.now) l Key }
+fn check_key(words: &[u64; line_state::WORDS], l: Line) -> Result<(), Fault>
+    ensures { number_told result ≡ check_as (state_in words.now) l Key }
 {
     let lines = words[line_state::LINES];
     let relations = words[line_state::RELATIONS];
@@ -88,8 +89,8 @@ fn check_key(words: &[u64; line_state::WORDS], l: Line) -> u8
     first_fault(keys < line_state::MOST_KEYS, ordered, named, true, true)
 }
 
-fn check_program(words: &[u64; line_state::WORDS], l: Line) -> u8
-    ensures { result ≡ check_as (state_in words.now) l Program }
+fn check_program(words: &[u64; line_state::WORDS], l: Line) -> Result<(), Fault>
+    ensures { number_told result ≡ check_as (state_in words.now) l Program }
 {
     let programs = words[line_state::PROGRAMS];
     let depth = words[line_state::DEPTH];
@@ -102,8 +103,12 @@ fn check_program(words: &[u64; line_state::WORDS], l: Line) -> u8
     )
 }
 
-fn check_statement(words: &[u64; line_state::WORDS], kind: StatementKind, l: Line) -> u8
-    ensures { result ≡ check_as (state_in words.now) l (Statement kind) }
+fn check_statement(
+    words: &[u64; line_state::WORDS],
+    kind: StatementKind,
+    l: Line,
+) -> Result<(), Fault>
+    ensures { number_told result ≡ check_as (state_in words.now) l (Statement kind) }
 {
     let programs = words[line_state::PROGRAMS];
     let statements = words[line_state::STATEMENTS];
@@ -117,8 +122,9 @@ fn check_statement(words: &[u64; line_state::WORDS], kind: StatementKind, l: Lin
 }
 
 // A loop or a branch begins.
-fn check_opening(words: &[u64; line_state::WORDS]) -> u8
-    ensures { (l : LineValue) → (result ≡ check_as (state_in words.now) l Loop) × (result ≡ check_as (state_in words.now) l Branch) }
+fn check_opening(words: &[u64; line_state::WORDS]) -> Result<(), Fault>
+    ensures { (l : LineValue) → (number_told result ≡ check_as (state_in words.now) l Loop)
+        × (number_told result ≡ check_as (state_in words.now) l Branch) }
 {
     let programs = words[line_state::PROGRAMS];
     let body = words[line_state::BODY];
@@ -128,8 +134,8 @@ fn check_opening(words: &[u64; line_state::WORDS]) -> u8
     first_fault(room, in_body(words), true, true, true)
 }
 
-fn check_second(words: &[u64; line_state::WORDS]) -> u8
-    ensures { (l : LineValue) → result ≡ check_as (state_in words.now) l Second }
+fn check_second(words: &[u64; line_state::WORDS]) -> Result<(), Fault>
+    ensures { (l : LineValue) → number_told result ≡ check_as (state_in words.now) l Second }
 {
     let programs = words[line_state::PROGRAMS];
     let body = words[line_state::BODY];
@@ -138,8 +144,8 @@ fn check_second(words: &[u64; line_state::WORDS]) -> u8
     first_fault(room, ordered, true, true, true)
 }
 
-fn check_closing(words: &[u64; line_state::WORDS]) -> u8
-    ensures { (l : LineValue) → result ≡ check_as (state_in words.now) l Closing }
+fn check_closing(words: &[u64; line_state::WORDS]) -> Result<(), Fault>
+    ensures { (l : LineValue) → number_told result ≡ check_as (state_in words.now) l Closing }
 {
     let programs = words[line_state::PROGRAMS];
     let body = words[line_state::BODY];
@@ -149,8 +155,8 @@ fn check_closing(words: &[u64; line_state::WORDS]) -> u8
     first_fault(room, ordered, true, true, true)
 }
 
-fn check_link(words: &[u64; line_state::WORDS], l: Line) -> u8
-    ensures { result ≡ check_as (state_in words.now) l Link }
+fn check_link(words: &[u64; line_state::WORDS], l: Line) -> Result<(), Fault>
+    ensures { number_told result ≡ check_as (state_in words.now) l Link }
 {
     let programs = words[line_state::PROGRAMS];
     let links = words[line_state::LINKS];
@@ -165,9 +171,9 @@ fn check_link(words: &[u64; line_state::WORDS], l: Line) -> u8
     first_fault(room, ordered, named, true, link_fits(words, l))
 }
 
-// The number of the first test that the line fails, 0 where it passes all.
-pub fn check(words: &[u64; line_state::WORDS], l: Line) -> u8
-    ensures { result ≡ check_of (state_in words.now) l }
+// The fault of the first test that the line fails.
+pub fn check(words: &[u64; line_state::WORDS], l: Line) -> Result<(), Fault>
+    ensures { number_told result ≡ check_of (state_in words.now) l }
 {
     let kind = l.kind;
     match kind {

@@ -8,8 +8,10 @@ ghost use Rattle.spec_text.specs.Reading.{none_open};
 ghost use Rattle.line_state.specs.StateWords.{state_in, started_in};
 ghost use Rattle.line_rules.specs.WordsHold.{HoldsWords};
 ghost use Rattle.line_rules.specs.Tested.{Tested};
+ghost use Rattle.refusal.specs.Told.{number_told};
 
 use line_state::WORDS;
+use refusal::Fault;
 use spec_text::Line;
 
 // No line taken yet. The words may hold anything before.
@@ -19,16 +21,13 @@ pub fn start(words: &mut [u64; WORDS])
     line_state::start(words);
 }
 
-// The line taken, if it passes its tests; answers the number of the first test that it fails after the lines taken, 0 where it passes all.
-pub fn take_tested(words: &mut [u64; WORDS], l: Line) -> u8
-    ensures { Tested words.old l result words.new }
+// The line taken, if it passes its tests after the lines taken; the words stay as they were where it fails one.
+pub fn take_tested(words: &mut [u64; WORDS], l: Line) -> Result<(), Fault>
+    ensures { Tested words.old l (number_told result) words.new }
 {
-    let number = line_check::check(words, l);
-    if number != 0 {
-        return number;
-    }
+    line_check::check(words, l)?;
     line_take::take(words, l);
-    number
+    Ok(())
 }
 
 // How many blocks are open.

@@ -1,2 +1,4 @@
 pub mod Numbers
+pub mod NumberLaws
 pub mod Refusing
+pub mod Told

@@ -54,6 +54,13 @@ impl Fault {
             Fault::Unfoldings => 22,
         }
     }
+
+    // The refusal with this fault at a line.
+    pub fn at(self, line: u64) -> Refusal
+        ensures { result ≡ record { fault = self; line = line } }
+    {
+        Refusal { fault: self, line }
+    }
 }
 
 // The refusal of a text: its fault and the line where it stands, 0 where it is of the whole.

@@ -1,15 +1,15 @@
 -- The refusal of a text has a number from 1 to 9 and a line below 65536: the number tells a refusal from a workload, and one word can hold both.
-use Rattle.std.specs.Prelude.{Bool, true, false, cond, ◌≡◌, refl, ℕ, suc, ◌+◌, ◌≤◌, ◌<◌, eqb, leb, length}
+use Rattle.std.specs.Prelude.{Bool, true, false, cond, ◌≡◌, refl, ℕ, suc, ◌+◌, ◌≤◌, ◌<◌, eqb, leb, length, Result, Ok, Err}
 use mathlib.Core.List.{List, [], ◌∷◌, ◌++◌, tail, head_d}
 use Rattle.std.proofs.Math.Option.{Option, none, some}
 use Rattle.std.proofs.Common.{sym, ap, subst, ◌∙◌, arith, length-append, leb-true}
 use Rattle.spec_text.specs.declared.Line.{Line}
+use Rattle.spec_text.specs.declared.Workload.{Workload}
 use Rattle.spec_text.specs.Text.{newline, on_first, same, lines_in, names_line, line_of}
 use Rattle.spec_text.specs.Reading.{within_bounds, ordered, named, sets_fit, link_fits, tests_of, first_failed, fault}
 use Rattle.spec_text.specs.Reading.{Outcome, is_allowed, none_open, read_lines, other_byte, ends_line, read}
 use Rattle.spec_text.specs.Reading.Outcome.{refused, accepted}
 use Rattle.spec_text.specs.Value.{value_of}
-use Rattle.text_read.specs.declared.Parsed.{Parsed}
 use Rattle.text_read.specs.Parse.{parsed_as}
 
 -- what is proved of an outcome, of a test's number and of a line
@@ -148,28 +148,31 @@ read_bounded text = go (leb (length text) 32768) refl
 pub refusal_bounds : (text : List ℕ) {number line : ℕ} → read text ≡ refused number line → ((0 < number) × (number < 10)) × (line < 65536)
 refusal_bounds text e = subst Bounded e (read_bounded text)
 
--- ---- what the number of an answer tells
+-- ---- what an answer tells
 
 -- R: an answer with a number is the refusal
-pub parsed_refused : (text : List ℕ) {p : Parsed} → p ≡ parsed_as (read text) → (p.number ≡ 0 → ⊥) → read text ≡ refused p.number p.line
+pub parsed_refused : (text : List ℕ) {number line : ℕ} → Err (number, line) ≡ parsed_as (read text) → read text ≡ refused number line
 unfolding parsed_as
-parsed_refused text {p} e h = go (read text) refl
+parsed_refused text {number} {line} e = go (read text) refl
   where
-    go : (o : Outcome) → read text ≡ o → read text ≡ refused p.number p.line
-    go (refused number line) q =
-        let same = e ∙ ap parsed_as q in
-        q ∙ sym (ap (λ (x : Parsed). refused x.number x.line) same)
-    go (accepted lines) q = absurd (h (ap (λ (x : Parsed). x.number) (e ∙ ap parsed_as q)))
+    go : (o : Outcome) → read text ≡ o → read text ≡ refused number line
+    go (refused m n) q =
+        let same : ◌≡◌ {A = Result Workload (ℕ × ℕ)} (Err (number, line)) (Err (m, n)) = e ∙ ap parsed_as q in
+        let told : ◌≡◌ {A = ℕ × ℕ} (number, line) (m, n) = cc in
+        q ∙ sym (ap (λ (x : ℕ × ℕ). refused x.0 x.1) told)
+    go (accepted lines) q =
+        let same : ◌≡◌ {A = Result Workload (ℕ × ℕ)} (Err (number, line)) (Ok (value_of lines)) = e ∙ ap parsed_as q in cc
 
 -- S21: an answer without one is the workload value of the lines that the text gives
-pub parsed_accepted : (text : List ℕ) {p : Parsed} → p ≡ parsed_as (read text) → p.number ≡ 0
-    → (lines : List Line) × (read text ≡ accepted lines) × (p.work ≡ value_of lines)
+pub parsed_accepted : (text : List ℕ) {w : Workload} → Ok w ≡ parsed_as (read text)
+    → (lines : List Line) × (read text ≡ accepted lines) × (w ≡ value_of lines)
 unfolding parsed_as
-parsed_accepted text {p} e h = go (read text) refl
+parsed_accepted text {w} e = go (read text) refl
   where
-    go : (o : Outcome) → read text ≡ o → (lines : List Line) × (read text ≡ accepted lines) × (p.work ≡ value_of lines)
-    go (refused number line) q =
-        let zero_number : number ≡ 0 = sym (ap (λ (x : Parsed). x.number) (e ∙ ap parsed_as q)) ∙ h in
-        let least = (refusal_bounds text q).0.0 in
-        absurd (omega arith)
-    go (accepted lines) q = (lines, q, ap (λ (x : Parsed). x.work) (e ∙ ap parsed_as q))
+    go : (o : Outcome) → read text ≡ o → (lines : List Line) × (read text ≡ accepted lines) × (w ≡ value_of lines)
+    go (refused m n) q =
+        let same : ◌≡◌ {A = Result Workload (ℕ × ℕ)} (Ok w) (Err (m, n)) = e ∙ ap parsed_as q in cc
+    go (accepted lines) q =
+        let same : ◌≡◌ {A = Result Workload (ℕ × ℕ)} (Ok w) (Ok (value_of lines)) = e ∙ ap parsed_as q in
+        let told : w ≡ value_of lines = cc in
+        (lines, q, told)

@@ -1,5 +1,5 @@
 -- The steps of the code that takes lines are those of `taken_before`, and the words that hold lines hold their counts.
-use Rattle.std.specs.Prelude.{◌≡◌, refl, Bool, true, false, ℕ, ◌+◌, ◌≤◌, ◌<◌, leb, length, drop}
+use Rattle.std.specs.Prelude.{◌≡◌, refl, Bool, true, false, ℕ, ◌+◌, ◌≤◌, ◌<◌, leb, length, drop, Result, Ok, Err}
 use Rattle.std.proofs.Common.{sym, ap, ◌∙◌, drop_of_length-le, le-leb}
 use Rattle.std.proofs.Math.Path.{subst}
 use mathlib.Core.List.{List, [], ◌∷◌, ◌++◌, tail}
@@ -18,7 +18,6 @@ use Rattle.line_rules.specs.Tested.{Tested}
 use Rattle.line_rules.specs.ReadLaws.{fault_some, fault_none}
 use Rattle.text_fields.specs.LineIn.{line_bytes, place_after}
 use Rattle.text_fields.specs.LineInLaws.{line_here}
-use Rattle.text_whole.specs.declared.Whole.{Whole}
 use Rattle.text_whole.specs.Whole.{whole_of}
 use Rattle.text_whole.specs.WholeLaws.{whole_cases}
 use Rattle.text_before.specs.declared.Before.{Before}
@@ -178,9 +177,9 @@ lines_late before (bytes ∷ rest) = go (line_of bytes) (λ l. lines_late (befor
     go (some l) next = test (fault before l) _ (fault_late before l) (next l)
 
 -- what is taken, by the answer of the tests of the whole text
-unfoldable taken_in : List ℕ → Whole → List Line
-taken_in text (Whole.Refused number line) = []
-taken_in text (Whole.Lines place) = taken_before [] (lines_in (drop place text))
+unfoldable taken_in : List ℕ → Result ℕ (ℕ × ℕ) → List Line
+taken_in text (Err refusal) = []
+taken_in text (Ok place) = taken_before [] (lines_in (drop place text))
 
 whole_taken : (text : List ℕ) → taken_in text (whole_of text) ≡ taken_of text
 unfolding taken_of taken_in refused_whole
@@ -192,12 +191,12 @@ whole_taken text =
     pick t = elim t [ true ↦ [] | false ↦ taken_before [] (tail (lines_in text)) ]
 
 -- so nothing is taken where they refuse the text
-pub counts_refused : (text : List ℕ) (number line : ℕ) → Whole.Refused number line ≡ whole_of text → counts 0 0 0 0 0 0 0 0 ≡ before_of text
+pub counts_refused : (text : List ℕ) (number line : ℕ) → Err (number, line) ≡ whole_of text → counts 0 0 0 0 0 0 0 0 ≡ before_of text
 unfolding before_of taken_in
 counts_refused text number line e = none_taken ∙ ap counts_of (ap (taken_in text) e ∙ whole_taken text)
 
 -- else what stands from the place on is
-pub counts_lines : (text : List ℕ) (place : ℕ) → Whole.Lines place ≡ whole_of text
+pub counts_lines : (text : List ℕ) (place : ℕ) → Ok place ≡ whole_of text
     → counts_of (taken_before [] (lines_in (drop place text))) ≡ before_of text
 unfolding before_of taken_in
 counts_lines text place e = ap counts_of (ap (taken_in text) e ∙ whole_taken text)

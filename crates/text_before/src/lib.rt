@@ -7,12 +7,11 @@ ghost use Rattle.spec_text.specs.Text.{lines_in};
 ghost use Rattle.line_rules.specs.WordsHold.{HoldsWords};
 ghost use Rattle.text_before.specs.Before.{taken_before, counts_of, before_of};
 
-use text_fields::{LineStep, line_in};
-use text_whole::Whole;
+use text_fields::line_in;
 
 // How much was taken: the lines, and of them the relations, keys and programs; of the program at hand, the lines after the last pr, the
 // statements, the statements and flow, the links and the open blocks.
-#[derive(Clone, Copy)]
+#[derive(Clone, Copy, Default)]
 pub struct Before {
     pub lines: u64,
     pub relations: u64,
@@ -40,7 +39,8 @@ fn counted(words: &[u64; line_state::WORDS]) -> Before
     }
 }
 
-// Takes line after line from a place on, after the names line, up to a fault or the end.
+// Takes line after line from a place on, after the names line, up to a fault or the end. Where the next line begins is told by the line read, so
+// no range counts the places.
 fn before_lines(text: &[u8], start: usize) -> Before
     ensures { result ≡ counts_of (taken_before [] (lines_in (drop start text.now))) }
 {
@@ -48,12 +48,12 @@ fn before_lines(text: &[u8], start: usize) -> Before
     line_rules::start(&mut words);
     let mut at = start;
     while at < text.len() {
-        let LineStep::Value(l, next) = line_in(text, at) else {
+        let Some((l, next)) = line_in(text, at) else {
             break;
         };
-        if line_rules::take_tested(&mut words, l) != 0 {
+        let Ok(()) = line_rules::take_tested(&mut words, l) else {
             break;
-        }
+        };
         at = next;
     }
     counted(&words)
@@ -63,18 +63,8 @@ fn before_lines(text: &[u8], start: usize) -> Before
 pub fn before_fault(text: &[u8]) -> Before
     ensures { result ≡ before_of text.now }
 {
-    let whole = text_whole::whole_text(text);
-    match whole {
-        Whole::Refused(number, line) => Before {
-            lines: 0,
-            relations: 0,
-            keys: 0,
-            programs: 0,
-            statements: 0,
-            body: 0,
-            links: 0,
-            depth: 0,
-        },
-        Whole::Lines(place) => before_lines(text, place),
+    match text_whole::whole_text(text) {
+        Ok(place) => before_lines(text, place),
+        Err(_) => Before::default(),
     }
 }

@@ -5,7 +5,6 @@ use Rattle.std.proofs.Math.Option.{Option, none, some}
 use Rattle.spec_text.specs.declared.Line.{Line}
 use Rattle.spec_text.specs.declared.LineKind.{LineKind}
 use Rattle.spec_text.specs.Text.{space, fields_in, forms_of, values_of, line_with}
-use Rattle.spec_text.specs.Text.Form.{nothing}
 unfoldable pub use Rattle.line_kinds.specs.Kinds.{number_if, set_if, forms_with}
 
 -- how long the first field of a line is

@@ -1,5 +1,6 @@
 -- The line at a place of a text, from the three bytes that stand there first: a kind's word and a space.
-use Rattle.std.specs.Prelude.{Bool, true, cond, not, ◌&&◌, ◌≡◌, refl, ℕ, suc, ◌+◌, ◌-◌, ◌≤◌, ◌<◌, ltb, length, drop, get_or}
+use Rattle.std.specs.Prelude.{Option as Returned, Some, None}
+use Rattle.std.specs.Prelude.{Bool, true, cond, not, ◌&&◌, ◌≡◌, refl, ℕ, suc, ◌+◌, ◌≤◌, ◌<◌, ltb, length, drop, get_or}
 use Rattle.std.proofs.Math.Bool.{false}
 use mathlib.Core.List.{List, [], ◌∷◌}
 use Rattle.std.proofs.Math.Option.{Option, none, some}
@@ -15,13 +16,12 @@ use Rattle.line_kinds.specs.Kinds.{forms_with}
 use Rattle.line_kinds.proofs.FormsTold.{forms_told}
 use Rattle.text_lines.specs.Span.{line_length, span_at}
 use Rattle.text_lines.specs.GoingLaws.{line_within}
-use Rattle.text_fields.specs.declared.LineStep.{LineStep}
 use Rattle.text_fields.specs.Field.{line_from}
 use Rattle.text_fields.specs.FieldLaws.{kind_word_lem}
 use Rattle.text_fields.specs.WordLaws.{kind_length}
 use Rattle.text_fields.specs.LineIn.{place_after, line_step}
 use Rattle.text_fields.specs.LineInLaws.{value_step, wrong_step}
-use Rattle.text_fields.specs.FieldStep.{ReadLine}
+use Rattle.text_fields.specs.FieldStep.{Read}
 use Rattle.text_fields.specs.InPlace.{fields_at, line_after, ends_field, field_in, after_field, line_in, after_line}
 use Rattle.text_fields.specs.InPlaceLaws.{others_of, rest_of, with_rest, line_fields, fields_at_lem, field_ends, field_goes, Part, part_view}
 use Rattle.text_fields.specs.InPlaceLaws.Part.{spaced, ended, goes}
@@ -226,7 +226,7 @@ next_place text at next inside within e = go (ltb (at + line_length (drop at tex
 -- ---- the answers of `line_in`
 
 -- fewer than three bytes are left
-pub in_short : (text : List ℕ) (at : ℕ) → length text < at + 3 → LineStep.Wrong ≡ line_step text at
+pub in_short : (text : List ℕ) (at : ℕ) → length text < at + 3 → None ≡ line_step text at
 in_short text at h = wrong_step text at (line_short (drop at text) (omega (arith, length-drop at text)))
 
 module _ (text : List ℕ) (at : ℕ) (long : at + 3 ≤ length text) where
@@ -244,19 +244,19 @@ module _ (text : List ℕ) (at : ℕ) (long : at + 3 ≤ length text) where
         fourth,
       )
 
-  pub in_unspaced : (get_or text (at + 2) 0 ≡ space → ⊥) → LineStep.Wrong ≡ line_step text at
+  pub in_unspaced : (get_or text (at + 2) 0 ≡ space → ⊥) → None ≡ line_step text at
   in_unspaced e = wrong_step text at (rw three (line_unspaced _ _ _ _ e))
 
-  pub in_unworded : kind_of (get_or text at 0 ∷ get_or text (at + 1) 0 ∷ []) ≡ none → LineStep.Wrong ≡ line_step text at
+  pub in_unworded : kind_of (get_or text at 0 ∷ get_or text (at + 1) 0 ∷ []) ≡ none → None ≡ line_step text at
   in_unworded e = wrong_step text at (rw three (line_unworded _ _ _ _ e))
 
   module _ {k : LineKind} (word : kind_of (get_or text at 0 ∷ get_or text (at + 1) 0 ∷ []) ≡ some k) (spaces : get_or text (at + 2) 0 ≡ space) where
-    in_unread : line_after k (drop (at + 3) text) ≡ none → LineStep.Wrong ≡ line_step text at
+    in_unread : line_after k (drop (at + 3) text) ≡ none → None ≡ line_step text at
     in_unread e =
         wrong_step text at (rw three ((line_worded _ _ _ _ word spaces).0 ∙ line_and_none _ _ (sym (line_after_lem k (drop (at + 3) text)) ∙ e)))
 
     in_read : {l : Line} {next : ℕ} → line_after k (drop (at + 3) text) ≡ some (l, drop next text) → next ≤ length text
-        → LineStep.Value l next ≡ line_step text at
+        → Some (l, next) ≡ line_step text at
     in_read {l} {next} e within =
         let worded = line_worded _ _ _ (drop (at + 3) text) word spaces in
         let both = line_and_some _ _ (sym (line_after_lem k (drop (at + 3) text)) ∙ e) in
@@ -264,6 +264,6 @@ module _ (text : List ℕ) (at : ℕ) (long : at + 3 ≤ length text) where
         (next_place text at next (omega arith) within (rw three (sym (worded.1 ∙ both.1))))
 
     -- what was read of the fields is the answer
-    pub in_line : (r : LineStep) → ReadLine text r (line_after k (drop (at + 3) text)) → r ≡ line_step text at
-    in_line (LineStep.Value l next) read = in_read (sym read.gives) read.within
-    in_line LineStep.Wrong read = in_unread (sym read.gives)
+    pub in_line : (r : Returned (Line × ℕ)) → Read text r (line_after k (drop (at + 3) text)) → r ≡ line_step text at
+    in_line (Some p) read = in_read (sym read.0) read.1
+    in_line None read = in_unread (sym read)

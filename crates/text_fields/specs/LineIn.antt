@@ -1,9 +1,9 @@
 -- What reading the line at a place of a text answers. Believed.
-use Rattle.std.specs.Prelude.{List, ℕ, take, drop}
+use Rattle.std.specs.Prelude.{List, ℕ, take, drop, Option, Some, None}
 use Rattle.std.proofs.Math.Option.{none, some}
+use Rattle.spec_text.specs.declared.Line.{Line}
 use Rattle.spec_text.specs.Text.{line_of}
 use Rattle.text_lines.specs.Span.{line_length, span_at}
-use Rattle.text_fields.specs.declared.LineStep.{LineStep}
 
 -- the bytes of the line at a place, without the byte 0A that ends it
 abbrev pub line_bytes : List ℕ → ℕ → List ℕ
@@ -14,5 +14,5 @@ abbrev pub place_after : List ℕ → ℕ → ℕ
 place_after text at = (span_at text at 0).next
 
 -- R4: the value line at a place and the place after it, or that there is none
-unfoldable pub line_step : List ℕ → ℕ → LineStep
-line_step text at = elim (line_of (line_bytes text at)) [ none ↦ LineStep.Wrong | some l ↦ LineStep.Value l (place_after text at) ]
+unfoldable pub line_step : List ℕ → ℕ → Option (Line × ℕ)
+line_step text at = elim (line_of (line_bytes text at)) [ none ↦ None | some l ↦ Some (l, place_after text at) ]

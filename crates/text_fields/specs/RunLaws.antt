@@ -1,4 +1,5 @@
 -- The steps of the code that reads a field in place are those of `InPlace`.
+use Rattle.std.specs.Prelude.{Some, None}
 use Rattle.std.specs.Prelude.{Bool, cond, not, List, [], ◌∷◌, ◌≡◌, eqb, drop, get_or}
 use Rattle.std.proofs.Math.Bool.{true, false}
 use Rattle.std.proofs.Math.Option.{Option, none, some}
@@ -9,7 +10,7 @@ use native.Mathlib.Omega.{arith}
 use Rattle.std.proofs.Math.Dec.{leb}
 use Rattle.std.proofs.Math.ListN.{length}
 use Rattle.std.proofs.Math.Seq.{drop-cons}
-use borrow.Author.Tests.{eq-eqb, ne_eqb, le-leb, lt-leb, leb-true, leb-false}
+use borrow.Author.Tests.{eq-eqb, ne_eqb, le-leb, lt-leb, lt-ltb, le-ltb, leb-true, leb-false}
 use Rattle.spec_text.specs.Text.{space, newline, dash, is_decimal, Form, forms_of, line_with}
 use Rattle.text_number.specs.Digits.{hexadecimal}
 use Rattle.text_number.specs.DigitLaws.{Digit, digit_view, below_ten}
@@ -128,42 +129,57 @@ module _ (text : List ℕ) (at : ℕ) where
   unfolding dash_at
   dash_here last h e = rw (drop-cons text at 0 h, eq-eqb _ _ e, add-one)
 
+-- a byte that is a decimal digit, and one on either side of them
+pub decimal_here : (b : ℕ) → 0x30 ≤ b → b ≤ 0x39 → hexadecimal b ≡ b - 0x30
+unfolding hexadecimal
+decimal_here b l h = rw (le-ltb b 0x30 l, le-leb b 0x39 h)
+
+pub decimal_below : (b : ℕ) → b < 0x30 → 10 ≤ hexadecimal b
+unfolding hexadecimal
+decimal_below b l = rw (lt-ltb b 0x30 l) (omega arith)
+
+pub decimal_above : (b : ℕ) → 0x39 < b → 10 ≤ hexadecimal b
+decimal_above b h = go (digit_view b)
+  where
+    go : Digit b → 10 ≤ hexadecimal b
+    go (decimal l m d x v w) = omega arith
+    go (letter l m d x v w) = omega arith
+    go (neither d x v) = omega arith
+
 -- a byte that is no decimal digit
 pub decimal_not : (b : ℕ) → is_decimal b ≡ false → 10 ≤ hexadecimal b
 decimal_not b e = leb-true 10 (hexadecimal b) (below_ten b ∙ ap not e)
 
 -- a number's digits: the zero, and one to three others
-module _ (text : List ℕ) (at : ℕ) {a : ℕ} (one : Decimal text at a) (one_less : a < 10) where
+module _ (text : List ℕ) (at a : ℕ) (one : Decimal text at (Some a)) where
   pub number_zero : a ≡ 0 → ended_with false 0 (drop (at + 1) text) ≡ digits_at false 10 2 (drop at text)
-  number_zero e = let here = one.digit one_less in at_zero text at false 10 2 here.0 (rw here.1 one_less) (here.1 ∙ e)
+  number_zero e = at_zero text at false 10 2 one.0 (rw one.1 one.2) (one.1 ∙ e)
 
   more_digits : (a ≡ 0 → ⊥) → digits_run false 10 2 a (drop (at + 1) text) ≡ digits_at false 10 2 (drop at text)
-  more_digits e =
-      let here = one.digit one_less in
-      rw here.1 at (at_digit text at false 10 2 here.0 (rw here.1 one_less) (λ z. e (sym here.1 ∙ z)))
+  more_digits e = rw one.1 at (at_digit text at false 10 2 one.0 (rw one.1 one.2) (λ z. e (sym one.1 ∙ z)))
 
-  module _ (other : a ≡ 0 → ⊥) {b : ℕ} (two : Decimal text (at + 1) b) where
-    pub number_one : 10 ≤ b → ended_with false a (drop (at + 1) text) ≡ digits_at false 10 2 (drop at text)
-    number_one h = sym (run_end text (at + 1) false 10 2 a (two.other h)) ∙ more_digits other
+  module _ (other : a ≡ 0 → ⊥) where
+    pub number_one : Decimal text (at + 1) None → ended_with false a (drop (at + 1) text) ≡ digits_at false 10 2 (drop at text)
+    number_one two = sym (run_end text (at + 1) false 10 2 a two) ∙ more_digits other
 
-    module _ (two_less : b < 10) {d : ℕ} (three : Decimal text (at + 2) d) where
+    module _ (b : ℕ) (two : Decimal text (at + 1) (Some b)) where
       two_digits : digits_run false 10 1 (a * 10 + b) (drop (at + 2) text) ≡ digits_at false 10 2 (drop at text)
       two_digits =
-          let here = two.digit two_less in
           let next : at + 1 + 1 ≡ at + 2 = omega arith in
-          let read = run_digit text (at + 1) false 10 2 1 a refl here.0 (rw here.1 two_less) in
-          sym (rw (here.1, next) at read) ∙ more_digits other
+          let read = run_digit text (at + 1) false 10 2 1 a refl two.0 (rw two.1 two.2) in
+          sym (rw (two.1, next) at read) ∙ more_digits other
 
-      pub number_two : 10 ≤ d → ended_with false (a * 10 + b) (drop (at + 2) text) ≡ digits_at false 10 2 (drop at text)
-      number_two h = sym (run_end text (at + 2) false 10 1 (a * 10 + b) (three.other h)) ∙ two_digits
+      pub number_two : Decimal text (at + 2) None
+          → ended_with false (a * 10 + b) (drop (at + 2) text) ≡ digits_at false 10 2 (drop at text)
+      number_two three = sym (run_end text (at + 2) false 10 1 (a * 10 + b) three) ∙ two_digits
 
-      pub number_three : d < 10 → ended_with false ((a * 10 + b) * 10 + d) (drop (at + 3) text) ≡ digits_at false 10 2 (drop at text)
+      pub number_three : (d : ℕ) → Decimal text (at + 2) (Some d)
+          → ended_with false ((a * 10 + b) * 10 + d) (drop (at + 3) text) ≡ digits_at false 10 2 (drop at text)
       unfolding digits_run
-      number_three h =
-          let here = three.digit h in
+      number_three d three =
           let next : at + 2 + 1 ≡ at + 3 = omega arith in
-          let read = run_digit text (at + 2) false 10 1 0 (a * 10 + b) refl here.0 (rw here.1 h) in
-          sym (rw (here.1, next) at read) ∙ two_digits
+          let read = run_digit text (at + 2) false 10 1 0 (a * 10 + b) refl three.0 (rw three.1 three.2) in
+          sym (rw (three.1, next) at read) ∙ two_digits
 
 -- a field that the kind lacks, and one that it has
 pub number_dash : (has : ℕ) (rest : List ℕ) → has ≡ 0 → dash_at false rest ≡ field_at false (number_if (not (eqb has 0))) rest

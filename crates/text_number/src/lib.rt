@@ -1,18 +1,17 @@
 // Reads one digit.
 #![tactic(auto)]
 
-ghost use Rattle.std.specs.Prelude.{◌≡◌};
+ghost use Rattle.std.specs.Prelude.{◌≡◌, ◌<◌, MatchOption};
 ghost use Rattle.text_number.specs.Digits.{hexadecimal};
 
-// What a hexadecimal digit stands for, or 16 where the byte is none.
-pub fn digit_of(b: u8) -> u64
-    ensures { result ≡ hexadecimal b }
+// What a hexadecimal digit stands for, the letters in lower case alone.
+#[tactic(auto, using(std::proofs::lemmas::Bool::Decides::nat_tests), unfolding(crate::specs::Digits::hexadecimal))]
+pub fn digit_of(b: u8) -> Option<u64>
+    ensures { MatchOption result (hexadecimal b ≡ 16) (λ d. (d < 16) × (hexadecimal b ≡ d)) }
 {
-    if (0x30 <= b) & (b <= 0x39) {
-        return (b - 0x30) as u64;
+    match b {
+        b'0'..=b'9' => Some(u64::from(b - b'0')),
+        b'a'..=b'f' => Some(u64::from(b - b'a' + 10)),
+        _ => None,
     }
-    if (0x61 <= b) & (b <= 0x66) {
-        return (b - 0x57) as u64;
-    }
-    16
 }

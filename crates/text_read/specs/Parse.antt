@@ -1,5 +1,5 @@
 -- What reading a text answers, and the steps of the code that reads it. Believed: `parsed_as`.
-use Rattle.std.specs.Prelude.{List, [], ◌≡◌, ℕ, drop}
+use Rattle.std.specs.Prelude.{List, [], ◌≡◌, ℕ, drop, Result, Ok, Err}
 use Rattle.spec_text.specs.declared.Line.{Line}
 use Rattle.spec_text.specs.declared.Workload.{Workload}
 use Rattle.spec_text.specs.Text.{lines_in}
@@ -7,12 +7,16 @@ use Rattle.spec_text.specs.Value.{value_of, no_workload}
 use Rattle.spec_text.specs.Reading.{Outcome, read_lines}
 use Rattle.spec_text.specs.Reading.Outcome.{refused, accepted}
 use Rattle.line_rules.specs.WordsHold.{HoldsWords}
-use Rattle.text_read.specs.declared.Parsed.{Parsed}
 
--- the answer for a text: its workload value, or the refusal's number and line with a value that no text gives
-unfoldable pub parsed_as : Outcome → Parsed
-parsed_as (refused number line) = record { work = no_workload; number = number; line = line }
-parsed_as (accepted lines) = record { work = value_of lines; number = 0; line = 0 }
+-- the answer for a text: its workload value, or the refusal's number and line
+unfoldable pub parsed_as : Outcome → Result Workload (ℕ × ℕ)
+parsed_as (refused number line) = Err (number, line)
+parsed_as (accepted lines) = Ok (value_of lines)
+
+-- the value that an answer gives; a refused text gives none, and in its place stands a value that no text gives
+abbrev pub work_of : Result Workload (ℕ × ℕ) → Workload
+work_of (Err refusal) = no_workload
+work_of (Ok w) = w
 
 -- between two lines: these were taken, the value and the words hold them, and what is read is what the lines left give after them
 pub record Going (text : List ℕ) (start : ℕ) (w : Workload) (words : List ℕ) (at : ℕ) : Type 0 where

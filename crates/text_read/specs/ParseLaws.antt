@@ -1,7 +1,7 @@
 -- Each step of the code that reads a text is one of `read_lines`, and the value follows.
 use mathlib.Core.List.{List, [], ◌∷◌, ◌++◌}
 use Rattle.std.proofs.Math.Option.{none, some}
-use Rattle.std.specs.Prelude.{◌≡◌, refl, ℕ, ◌+◌, ◌≤◌, ◌<◌, eqb, length, set, drop}
+use Rattle.std.specs.Prelude.{◌≡◌, refl, ℕ, ◌+◌, ◌≤◌, ◌<◌, eqb, length, set, drop, Result, Ok}
 use Rattle.std.proofs.Common.{sym, subst, ◌∙◌, arith, length-append, drop_of_length-le}
 use Rattle.std.proofs.Math.Path.{ap}
 use Rattle.spec_text.specs.declared.Line.{Line}
@@ -19,7 +19,6 @@ use Rattle.line_rules.specs.ReadLaws.{read_wrong, read_fault, read_taken, read_o
 use Rattle.text_fields.specs.LineIn.{line_bytes, place_after}
 use Rattle.text_fields.specs.LineInLaws.{line_here}
 use Rattle.value_unused.specs.Unused.{unused_cells}
-use Rattle.text_read.specs.declared.Parsed.{Parsed}
 use Rattle.text_read.specs.Parse.{parsed_as, Going}
 
 pub going_first : (text : List ℕ) (start : ℕ) {w : Workload} {words : List ℕ} → w ≡ unused_cells 0 → HoldsWords words []
@@ -95,9 +94,6 @@ module _ {text : List ℕ} {start : ℕ} {w : Workload} {words : List ℕ} {at :
     going_open z =
         ap (λ (k : ℕ). refused 7 (k + 1)) going_count ∙ sym (read_open lines d (open_blocks lines g.holds) z) ∙ at_end
 
-    pub going_closed : d ≡ 0
-        → ◌≡◌ {A = Parsed} (record { work = w; number = 0; line = 0 }) (parsed_as (read_lines [] (lines_in (drop start text))))
+    pub going_closed : d ≡ 0 → ◌≡◌ {A = Result Workload (ℕ × ℕ)} (Ok w) (parsed_as (read_lines [] (lines_in (drop start text))))
     unfolding parsed_as
-    going_closed z =
-        ap {B = Parsed} (λ (x : Workload). record { work = x; number = 0; line = 0 }) g.work
-        ∙ ap parsed_as (sym (read_closed lines d (open_blocks lines g.holds) z) ∙ at_end)
+    going_closed z = ap Ok g.work ∙ ap parsed_as (sym (read_closed lines d (open_blocks lines g.holds) z) ∙ at_end)

@@ -6,14 +6,14 @@ use Rattle.spec_text.specs.Reading.{Outcome, read}
 use Rattle.spec_text.specs.Reading.Outcome.{refused, accepted}
 use Rattle.spec_text.specs.Value.{Given}
 use Rattle.spec_text.specs.NoWorkload.{no_workload_lem}
-use Rattle.text_read.specs.Parse.{parsed_as}
+use Rattle.text_read.specs.Parse.{parsed_as, work_of}
 
-pub refused_read : (text : List ℕ) {number line : ℕ} → read text ≡ refused number line → Given (parsed_as (read text)).work → ⊥
+pub refused_read : (text : List ℕ) {number line : ℕ} → read text ≡ refused number line → Given (work_of (parsed_as (read text))) → ⊥
 unfolding parsed_as
-refused_read text e g = no_workload_lem (subst (λ (o : Outcome). Given (parsed_as o).work) e g)
+refused_read text e g = no_workload_lem (subst (λ (o : Outcome). Given (work_of (parsed_as o))) e g)
 
 -- a value that was read and that some text gives is that of an accepted text
-pub given_read : (text : List ℕ) → Given (parsed_as (read text)).work → (lines : List Line) × (read text ≡ accepted lines)
+pub given_read : (text : List ℕ) → Given (work_of (parsed_as (read text))) → (lines : List Line) × (read text ≡ accepted lines)
 given_read text g = go (read text) refl
   where
     go : (o : Outcome) → read text ≡ o → (lines : List Line) × (read text ≡ accepted lines)

@@ -1,7 +1,7 @@
 -- Each step of the code is one of `read_lines`, and the table follows.
 use mathlib.Core.List.{List, [], ◌∷◌, ◌++◌, append_assoc, flat_map}
 use Rattle.std.proofs.Math.Option.{none, some}
-use Rattle.std.specs.Prelude.{◌≡◌, refl, ℕ, ◌+◌, ◌*◌, ◌≤◌, ◌<◌, eqb, length}
+use Rattle.std.specs.Prelude.{◌≡◌, refl, ℕ, ◌+◌, ◌*◌, ◌≤◌, ◌<◌, eqb, length, Result}
 use Rattle.std.proofs.Math.Path.{sym, ap, ap₂}
 use Rattle.std.proofs.Common.{subst, ◌∙◌, length-drop, drop_of_length-le, take_at, drop_at, drop-drop}
 use Rattle.std.proofs.Math.Decide.{ℕ_discrete}
@@ -22,7 +22,6 @@ use Rattle.text_fields.specs.LineInLaws.{line_here}
 use Rattle.value_tables.specs.Lines.{line_words, line_table}
 use Rattle.value_tables.specs.LineLaws.{line_table_length, line_table_more, put_there}
 use Rattle.word_rows.specs.Put.{put_at}
-use Rattle.text_table.specs.declared.TextTable.{TextTable}
 use Rattle.text_table.specs.Tabled.{lines_read, TextTabled}
 use Rattle.text_table.specs.Tabled.TextTabled.{tabled}
 use Rattle.text_table.specs.Taking.{LineTaken, Going}
@@ -158,5 +157,5 @@ module _ {text : List ℕ} {start : ℕ} {table₀ state table : List ℕ} {at n
 -- ---- the whole text
 
 -- what the tests of the whole text settle is what reading it gives
-pub tabled_as : {o p : Outcome} {before : List ℕ} {r : TextTable} {after : List ℕ} → o ≡ p → TextTabled o before r after → TextTabled p before r after
+pub tabled_as : {o p : Outcome} {before : List ℕ} {r : Result ℕ (ℕ × ℕ)} {after : List ℕ} → o ≡ p → TextTabled o before r after → TextTabled p before r after
 tabled_as {before = before} {r} {after} e t = subst (λ (x : Outcome). TextTabled x before r after) e t

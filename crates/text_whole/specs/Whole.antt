@@ -1,33 +1,32 @@
 -- What the tests of a whole text answer.
-use Rattle.std.specs.Prelude.{Bool, true, false, cond, ℕ, suc, eqb, leb, length, take, drop}
+use Rattle.std.specs.Prelude.{Bool, true, false, cond, ℕ, suc, eqb, leb, length, take, drop, Result, Ok, Err}
 use mathlib.Core.List.{List, [], ◌∷◌, ◌++◌, head_d}
 use Rattle.std.proofs.Math.Option.{Option, none, some}
 use Rattle.spec_text.specs.Text.{newline, same, lines_in, names_line}
 use Rattle.spec_text.specs.Reading.{Outcome, other_byte, ends_line, read_lines}
 use Rattle.spec_text.specs.Reading.Outcome.{refused}
 use Rattle.text_lines.specs.Span.{span_at}
-use Rattle.text_whole.specs.declared.Whole.{Whole}
 
 -- N3: what the answer stands for: the refusal's number and line, or what the lines from the place on give
-abbrev pub whole_gives : List ℕ → Whole → Outcome
-whole_gives text (Whole.Refused number line) = refused number line
-whole_gives text (Whole.Lines place) = read_lines [] (lines_in (drop place text))
+abbrev pub whole_gives : List ℕ → Result ℕ (ℕ × ℕ) → Outcome
+whole_gives text (Err refusal) = refused refusal.0 refusal.1
+whole_gives text (Ok place) = read_lines [] (lines_in (drop place text))
 
 -- R1, R2, R3 in this order; where all pass, the place after the first line, which is the names line
-unfoldable pub whole_of : List ℕ → Whole
+unfoldable pub whole_of : List ℕ → Result ℕ (ℕ × ℕ)
 whole_of text =
     elim (leb (length text) 32768) [
-      | false ↦ Whole.Refused 1 0
+      | false ↦ Err (1, 0)
       | true ↦
           elim (other_byte 1 text) [
-            | some line ↦ Whole.Refused 2 line
+            | some line ↦ Err (2, line)
             | none ↦
                 elim (ends_line text) [
-                  | false ↦ Whole.Refused 2 0
+                  | false ↦ Err (2, 0)
                   | true ↦
                       elim (same (head_d (lines_in text) []) names_line) [
-                        | false ↦ Whole.Refused 3 1
-                        | true ↦ Whole.Lines (span_at text 0 1).next
+                        | false ↦ Err (3, 1)
+                        | true ↦ Ok ((span_at text 0 1).next)
                       ]
                 ]
           ]

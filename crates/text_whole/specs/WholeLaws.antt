@@ -1,5 +1,5 @@
 -- The tests of a whole text, step by step, are those of `Reading`, and what they settle is what reading gives.
-use Rattle.std.specs.Prelude.{◌≡◌, Bool, cond, not, ◌&&◌, ℕ, suc, ◌+◌, ◌-◌, ◌≤◌, ◌<◌, eqb, leb, get_or, take, drop}
+use Rattle.std.specs.Prelude.{◌≡◌, Result, Ok, Err, Bool, cond, not, ◌&&◌, ℕ, suc, ◌+◌, ◌-◌, ◌≤◌, ◌<◌, eqb, leb, get_or, take, drop}
 use Rattle.std.proofs.Math.Path.{refl, sym, ap}
 use Rattle.std.proofs.Common.{◌∙◌, arith, add-one, not-suc-le-zero, drop_of_length-le, drop-cons}
 use Rattle.std.proofs.Math.Bool.{true, false, and_assoc}
@@ -7,6 +7,7 @@ use mathlib.Core.List.{List, [], ◌∷◌, ◌++◌, tail, head_d}
 use Rattle.std.proofs.Math.Option.{Option, none, some}
 use Rattle.std.proofs.Math.ListN.{length, length-take}
 use borrow.Author.Tests.{eqb-true, eqb-false, eq-eqb, ne_eqb, le-leb, lt-leb, lt-ltb}
+use Rattle.std.specs.Cmp.Lexicographic.{pointwise}
 use Rattle.law_base.specs.BoolLaws.{and_true}
 use Rattle.spec_base.specs.Basic.{all}
 use Rattle.spec_text.specs.Text.{newline, same, on_first, lines_in, names_line}
@@ -14,7 +15,6 @@ use Rattle.spec_text.specs.Reading.{is_allowed, other_byte, ends_line, read_line
 use Rattle.spec_text.specs.Reading.Outcome.{refused}
 use Rattle.text_lines.specs.Span.{line_length, span_at}
 use Rattle.text_lines.specs.GoingLaws.{came}
-use Rattle.text_whole.specs.declared.Whole.{Whole}
 use Rattle.text_whole.specs.Whole.{whole_gives, whole_of, line_or, line_after_byte, begins_named}
 
 and_one : (a : Bool) → a && true ≡ a
@@ -134,6 +134,21 @@ same_length (a ∷ as') (b ∷ bs) h = go (eqb a b) (same_length as' bs (λ e. h
     go true e = e
     go false e = refl
 
+-- what `starts_with` compares
+same_number : (a b : ℕ) → eqb a b ≡ eqb b a
+same_number a b = go (eqb a b) refl
+  where
+    go : (t : Bool) → eqb a b ≡ t → t ≡ eqb b a
+    go true e = sym (eq-eqb b a (sym (eqb-true a b e)))
+    go false e = sym (ne_eqb b a (λ q. eqb-false a b e (sym q)))
+
+pub pointwise_same : (a b : List ℕ) → pointwise eqb b a ≡ same a b
+unfolding same
+pointwise_same [] [] = refl
+pointwise_same [] (b ∷ bs) = refl
+pointwise_same (a ∷ as') [] = refl
+pointwise_same (a ∷ as') (b ∷ bs) = rw (same_number b a, pointwise_same as' bs)
+
 -- a text with no byte ends no line
 pub ends_line_none : (text : List ℕ) → length text ≡ 0 → ends_line text ≡ false
 unfolding ends_line
@@ -220,54 +235,54 @@ same_long a b e = go (eqb (length a) (length b)) refl
 -- ---- the whole text
 
 -- R1
-pub whole_long : (text : List ℕ) → 32768 < length text → whole_of text ≡ Whole.Refused 1 0
+pub whole_long : (text : List ℕ) → 32768 < length text → whole_of text ≡ Err (1, 0)
 unfolding whole_of
 whole_long text h = rw (lt-leb (length text) 32768 h, whole_of)
 
 -- R2: another byte
-pub whole_other : (text : List ℕ) (line : ℕ) → length text ≤ 32768 → other_byte 1 text ≡ some line → whole_of text ≡ Whole.Refused 2 line
+pub whole_other : (text : List ℕ) (line : ℕ) → length text ≤ 32768 → other_byte 1 text ≡ some line → whole_of text ≡ Err (2, line)
 unfolding whole_of
 whole_other text line h e = rw (le-leb (length text) 32768 h, whole_of) (rw e)
 
 -- R2: the last byte
-pub whole_last : (text : List ℕ) → length text ≤ 32768 → other_byte 1 text ≡ none → ends_line text ≡ false → whole_of text ≡ Whole.Refused 2 0
+pub whole_last : (text : List ℕ) → length text ≤ 32768 → other_byte 1 text ≡ none → ends_line text ≡ false → whole_of text ≡ Err (2, 0)
 unfolding whole_of
 whole_last text h o e = rw (le-leb (length text) 32768 h, whole_of) (rw o (rw e))
 
 -- where these pass, the first line decides
 module _ (text : List ℕ) (few : length text ≤ 32768) (allowed : other_byte 1 text ≡ none) (ends : ends_line text ≡ true) where
   whole_line : (n : Bool) → same (head_d (lines_in text) []) names_line ≡ n
-      → whole_of text ≡ elim n [ true ↦ Whole.Lines (span_at text 0 1).next | false ↦ Whole.Refused 3 1 ]
+      → whole_of text ≡ elim n [ true ↦ Ok ((span_at text 0 1).next) | false ↦ Err (3, 1) ]
   unfolding whole_of
   whole_line n q =
       rw (le-leb (length text) 32768 few, whole_of)
       (rw allowed
-      (rw ends (ap {B = Whole} (λ t. elim t [ true ↦ Whole.Lines (span_at text 0 1).next | false ↦ Whole.Refused 3 1 ]) q)))
+      (rw ends (ap {B = Result ℕ (ℕ × ℕ)} (λ t. elim t [ true ↦ Ok ((span_at text 0 1).next) | false ↦ Err (3, 1) ]) q)))
 
   -- R3: the first line is no names line
-  pub whole_unnamed : begins_named text ≡ false → whole_of text ≡ Whole.Refused 3 1
+  pub whole_unnamed : begins_named text ≡ false → whole_of text ≡ Err (3, 1)
   unfolding begins_named names_line
   whole_unnamed e = whole_line false (begins_line names_line text refl ends ∙ e)
 
   -- it is the names line
-  pub whole_named : begins_named text ≡ true → whole_of text ≡ Whole.Lines 34
+  pub whole_named : begins_named text ≡ true → whole_of text ≡ Ok 34
   unfolding begins_named names_line span_at
   whole_named e =
       let first = begins_line names_line text refl ends ∙ e in
       let long : line_length text ≡ 33 = sym (first_length text) ∙ same_long _ names_line first in
       let more : 33 < length text = let whole = same_long (take 34 text) _ e in omega (arith, length-take 34 text) in
-      whole_line true first ∙ ap Whole.Lines (rw (long, lt-ltb 33 (length text) more))
+      whole_line true first ∙ ap Ok (rw (long, lt-ltb 33 (length text) more))
 
 -- what holds of a refusal with 1, 2 or 3, and of what the lines after the names line give, holds of what the tests settle with what reading gives
-pub whole_cases : (text : List ℕ) (P : Whole → Outcome → Type 0)
-    → ((number line : ℕ) → number ≤ 3 → P (Whole.Refused number line) (refused number line))
-    → ((place : ℕ) → lines_in (drop place text) ≡ tail (lines_in text) → P (Whole.Lines place) (read_lines [] (tail (lines_in text))))
+pub whole_cases : (text : List ℕ) (P : Result ℕ (ℕ × ℕ) → Outcome → Type 0)
+    → ((number line : ℕ) → number ≤ 3 → P (Err (number, line)) (refused number line))
+    → ((place : ℕ) → lines_in (drop place text) ≡ tail (lines_in text) → P (Ok place) (read_lines [] (tail (lines_in text))))
     → P (whole_of text) (read text)
 unfolding whole_of read
 whole_cases text P early late = size (leb (length text) 32768) refl
   where
     names : (t : Bool) → ends_line text ≡ true
-        → P (elim t [ true ↦ Whole.Lines (span_at text 0 1).next | false ↦ Whole.Refused 3 1 ])
+        → P (elim t [ true ↦ Ok ((span_at text 0 1).next) | false ↦ Err (3, 1) ])
         (elim t [ true ↦ read_lines [] (tail (lines_in text)) | false ↦ refused 3 1 ])
     names false h = early 3 1 (omega arith)
     names true h =
@@ -277,8 +292,8 @@ whole_cases text P early late = size (leb (length text) 32768) refl
     last : (t : Bool) → ends_line text ≡ t
         → P
         (elim t [
-          | false ↦ Whole.Refused 2 0
-          | true ↦ elim (same (head_d (lines_in text) []) names_line) [ true ↦ Whole.Lines (span_at text 0 1).next | false ↦ Whole.Refused 3 1 ]
+          | false ↦ Err (2, 0)
+          | true ↦ elim (same (head_d (lines_in text) []) names_line) [ true ↦ Ok ((span_at text 0 1).next) | false ↦ Err (3, 1) ]
         ])
         (elim t [
           | false ↦ refused 2 0
@@ -290,11 +305,11 @@ whole_cases text P early late = size (leb (length text) 32768) refl
     other : (o : Option ℕ)
         → P
         (elim o [
-          | some line ↦ Whole.Refused 2 line
+          | some line ↦ Err (2, line)
           | none ↦
               elim (ends_line text) [
-                | false ↦ Whole.Refused 2 0
-                | true ↦ elim (same (head_d (lines_in text) []) names_line) [ true ↦ Whole.Lines (span_at text 0 1).next | false ↦ Whole.Refused 3 1 ]
+                | false ↦ Err (2, 0)
+                | true ↦ elim (same (head_d (lines_in text) []) names_line) [ true ↦ Ok ((span_at text 0 1).next) | false ↦ Err (3, 1) ]
               ]
         ])
         (elim o [

@@ -1,7 +1,7 @@
 -- The steps of the code decide S21.
-use Rattle.std.specs.Prelude.{Bool, true, false, List, [], ◌∷◌, ◌++◌, ◌≡◌, refl, ℕ, zero, suc, ◌+◌, ◌*◌, ◌-◌, ◌≤◌, ◌<◌, eqb, leb, length, get_or, take, drop}
+use Rattle.std.specs.Prelude.{Bool, true, false, List, [], ◌∷◌, ◌++◌, ◌≡◌, refl, ℕ, zero, suc, ◌+◌, ◌*◌, ◌-◌, ◌≤◌, ◌<◌, eqb, leb, length, get_or, take, drop, Some, None}
 use Rattle.std.proofs.Common.{append_assoc, append-nil, sym, ap, subst, ◌∙◌, arith, not-suc-le-zero, le_of_suc-le-suc, add-one, length-append, length-drop, take-suc, get_or-take, take-take, length-take-le, leb-true, leb-false, eq-eqb, ne_eqb}
-use Rattle.std.proofs.Math.Option.{Option, none, some-ne-none}
+use Rattle.std.proofs.Math.Option.{none, some, some-ne-none}
 use Rattle.spec_base.specs.Basic.{all}
 use Rattle.law_base.specs.BoolLaws.{true_false}
 use Rattle.spec_text.specs.declared.Line.{Line}
@@ -20,6 +20,9 @@ use Rattle.value_given.specs.Decided.{Decided}
 use Rattle.line_rules.specs.WordsHold.{HoldsWords}
 use Rattle.value_cells.specs.Cells.{is_empty}
 use Rattle.value_cells.specs.CellLaws.{cells_empty, empty_cells}
+use Rattle.refusal.specs.declared.Fault.{Fault}
+use Rattle.refusal.specs.Numbers.{number_of}
+use Rattle.refusal.specs.NumberLaws.{number_some}
 use Rattle.value_given.specs.Decide.{Stepped, Measured}
 
 -- ---- sound lines
@@ -82,13 +85,13 @@ pub rest_refused : (w : Workload) → all is_empty (drop w.count w.lines) ≡ fa
 rest_refused w e = refused w (λ s. true_false (rw s.others (empty_cells (1616 - w.count))) e)
 
 -- the lines are not sound, or a block is open
-pub lines_refused : (w : Workload) → Measured (lines_of w) 0 → Decided w false
+pub lines_refused : (w : Workload) → Measured (lines_of w) None → Decided w false
 lines_refused w m = refused w (λ s. m.wrong refl s.lines s.closed)
 
 -- the lines are sound and no block is open: the bytes decide
 pub size_decides : (w : Workload) (r : ℕ) → length w.lines ≡ 1616 → w.count ≤ 1616 → all is_empty (drop w.count w.lines) ≡ true
-    → Measured (lines_of w) r → (r ≡ 0 → ⊥) → Decided w (leb r 32768)
-size_decides w r cells fit rest m other = go (leb r 32768) refl
+    → Measured (lines_of w) (Some r) → Decided w (leb r 32768)
+size_decides w r cells fit rest m = go (leb r 32768) refl
   where
     go : (t : Bool) → leb r 32768 ≡ t → Decided w t
     go true e =
@@ -97,50 +100,49 @@ size_decides w r cells fit rest m other = go (leb r 32768) refl
           cells = cells;
           fits = fit;
           others = rw (← cells, ← (length-drop w.count w.lines)) (cells_empty (drop w.count w.lines) rest);
-          lines = m.sound other;
-          closed = m.closed other;
-          few = let bytes = m.bytes other in let most = leb-true r 32768 e in omega arith;
+          lines = m.sound r refl;
+          closed = m.closed r refl;
+          few = let bytes = m.bytes r refl in let most = leb-true r 32768 e in omega arith;
         })
-    go false e = refused w (λ s. let bytes = m.bytes other in let few = s.few in let over = leb-false r 32768 e in omega arith)
+    go false e = refused w (λ s. let bytes = m.bytes r refl in let few = s.few in let over = leb-false r 32768 e in omega arith)
 
 -- ---- a line
 
 -- the line does not fit
-pub step_unfit : (words : List ℕ) (l : Line) → size_of l ≡ none → Stepped words l 0 words
+pub step_unfit : (words : List ℕ) (l : Line) → size_of l ≡ none → Stepped words l None words
 step_unfit words l e =
     record {
-      small = omega arith;
+      small = λ n q. cc;
       wrong = λ lines h q f p. unfit_none l e f;
-      fits = λ lines h some. absurd (some refl);
-      passes = λ lines h some. absurd (some refl);
-      bytes = λ lines h some. absurd (some refl);
-      holds = λ lines h some. absurd (some refl);
+      fits = λ lines h n q. cc;
+      passes = λ lines h n q. cc;
+      bytes = λ lines h n q. cc;
+      holds = λ lines h n q. cc;
     }
 
 -- the line has a fault
-pub step_fault : {words after : List ℕ} {l : Line} {number : ℕ} → Tested words l number after → (number ≡ 0 → ⊥) → Stepped words l 0 after
-step_fault {number = number} tested other =
+pub step_fault : {words after : List ℕ} {l : Line} (f : Fault) → Tested words l (number_of f) after → Stepped words l None after
+step_fault f tested =
     record {
-      small = omega arith;
-      wrong = λ lines h q f p. some-ne-none number (sym (fault_some (tested.told lines h) other) ∙ p);
-      fits = λ lines h some. absurd (some refl);
-      passes = λ lines h some. absurd (some refl);
-      bytes = λ lines h some. absurd (some refl);
-      holds = λ lines h some. absurd (some refl);
+      small = λ n q. cc;
+      wrong = λ lines h q f' p. some-ne-none (number_of f) (sym (fault_some (tested.told lines h) (number_some f)) ∙ p);
+      fits = λ lines h n q. cc;
+      passes = λ lines h n q. cc;
+      bytes = λ lines h n q. cc;
+      holds = λ lines h n q. cc;
     }
 
 -- the line is taken
-pub step_taken_lem : {words after : List ℕ} {l : Line} {number : ℕ} (size : ℕ) → size_of l ≡ Option.some size → Tested words l number after → number ≡ 0
-    → Stepped words l size after
-step_taken_lem {l = l} size is tested passes =
+pub step_taken_lem : {words after : List ℕ} {l : Line} (size : ℕ) → size_of l ≡ some size → Tested words l 0 after → Stepped words l (Some size) after
+step_taken_lem {l = l} size is tested =
     let sized = size_told l size is in
     record {
-      small = sized.most;
-      wrong = λ lines h q. absurd (omega (arith, sized.least));
-      fits = λ lines h q. sized.fits;
-      passes = λ lines h q. fault_none (tested.told lines h) passes;
-      bytes = λ lines h q. sized.bytes;
-      holds = λ lines h q. tested.held passes lines h;
+      small = λ n q. let same : size ≡ n = cc in omega (arith, sized.most);
+      wrong = λ lines h q. cc;
+      fits = λ lines h n q. sized.fits;
+      passes = λ lines h n q. fault_none (tested.told lines h) refl;
+      bytes = λ lines h n q. let same : size ≡ n = cc in sym same ∙ sized.bytes;
+      holds = λ lines h n q. tested.held refl lines h;
     }
 
 -- ---- the lines up to a place
@@ -156,62 +158,61 @@ pub going_start : (lines : List Line) (count : ℕ) (words : List ℕ) → Holds
 going_start lines count words h =
     record { place = omega arith; holds = h; sound = tt; bytes = sym size_none; small = omega arith }
 
-pub going_next : (lines : List Line) (count : ℕ) (words : List ℕ) (size i : ℕ) (d : Line) (more : ℕ) (after : List ℕ)
-    → Going lines count words size i → i < count → count ≤ length lines → Stepped words (get_or lines i d) more after → (more ≡ 0 → ⊥)
+pub going_next : (lines : List Line) (count : ℕ) (words : List ℕ) (size i : ℕ) (l d : Line) (more : ℕ) (after : List ℕ)
+    → Going lines count words size i → i < count → count ≤ length lines → l ≡ get_or lines i d → Stepped words l (Some more) after
     → Going lines count after (size + more) (i + 1)
-going_next lines count words size i d more after g h inside s some =
-    let l = get_or lines i d in
+going_next lines count words size i l d more after g h inside at s =
     let front = take i lines in
-    let next : take (i + 1) lines ≡ front ++ (l ∷ []) = ap (λ n. take n lines) (add-one i) ∙ take-suc lines i d (omega arith) in
+    let next : take (i + 1) lines ≡ front ++ (l ∷ [])
+    = ap (λ n. take n lines) (add-one i) ∙ take-suc lines i d (omega arith) ∙ ap (λ (x : Line). front ++ (x ∷ [])) (sym at) in
     record {
       place = omega arith;
-      holds = rw next (s.holds front g.holds some);
-      sound = rw next (sound_more [] front l g.sound (s.fits front g.holds some) (s.passes front g.holds some));
+      holds = rw next (s.holds front g.holds more refl);
+      sound = rw next (sound_more [] front l g.sound (s.fits front g.holds more refl) (s.passes front g.holds more refl));
       bytes =
-          let one : more ≡ length (line_written l) = s.bytes front g.holds some in
+          let one : more ≡ length (line_written l) = s.bytes front g.holds more refl in
           rw next (omega (arith, size_more front l, g.bytes));
-      small = omega (arith, g.small, s.small);
+      small = omega (arith, g.small, s.small more refl);
     }
 
 -- a line that does not fit or has a fault
-pub going_wrong : (lines : List Line) (count : ℕ) (words : List ℕ) (size i : ℕ) (d : Line) (more : ℕ) (after : List ℕ)
-    → Going lines count words size i → i < count → count ≤ length lines → Stepped words (get_or lines i d) more after → more ≡ 0
-    → Measured (take count lines) 0
-going_wrong lines count words size i d more after g h inside s e =
+pub going_wrong : (lines : List Line) (count : ℕ) (words : List ℕ) (size i : ℕ) (l d : Line) (after : List ℕ)
+    → Going lines count words size i → i < count → count ≤ length lines → l ≡ get_or lines i d → Stepped words l None after
+    → Measured (take count lines) None
+going_wrong lines count words size i l d after g h inside at s =
     record {
       wrong = λ q sound closed. go (sound_at [] (take count lines) i d sound (omega (arith, length-take-le count lines inside)));
-      sound = λ some. absurd (some refl);
-      closed = λ some. absurd (some refl);
-      bytes = λ some. absurd (some refl);
+      sound = λ n q. cc;
+      closed = λ n q. cc;
+      bytes = λ n q. cc;
     }
   where
     go : (line_fits (get_or (take count lines) i d) ≡ true) × (fault (take i (take count lines)) (get_or (take count lines) i d) ≡ none) → ⊥
     go (fits, passes) =
-        let same = get_or-take count lines i d h in
-        s.wrong (take i lines) g.holds e (subst (λ (l : Line). line_fits l ≡ true) same fits)
+        let same = get_or-take count lines i d h ∙ sym at in
+        s.wrong (take i lines) g.holds refl (subst (λ (x : Line). line_fits x ≡ true) same fits)
         (rw (← same, ← (take-take i count lines (omega arith))) passes)
 
 -- after the last line
 pub going_open : (lines : List Line) (count : ℕ) (words : List ℕ) (size i r : ℕ) → Going lines count words size i → count ≤ i
-    → ((front : List Line) → HoldsWords words front → none_open front ≡ eqb r 0) → (r ≡ 0 → ⊥) → Measured (take count lines) 0
+    → ((front : List Line) → HoldsWords words front → none_open front ≡ eqb r 0) → (r ≡ 0 → ⊥) → Measured (take count lines) None
 going_open lines count words size i r g h told other =
     let last : i ≡ count = omega (arith, g.place) in
     record {
       wrong = λ q sound closed.
           true_false (subst (λ (n : ℕ). none_open (take n lines) ≡ true) (sym last) closed) (told (take i lines) g.holds ∙ ne_eqb r 0 other);
-      sound = λ some. absurd (some refl);
-      closed = λ some. absurd (some refl);
-      bytes = λ some. absurd (some refl);
+      sound = λ n q. cc;
+      closed = λ n q. cc;
+      bytes = λ n q. cc;
     }
 
 pub going_closed : (lines : List Line) (count : ℕ) (words : List ℕ) (size i r : ℕ) → Going lines count words size i → count ≤ i
-    → ((front : List Line) → HoldsWords words front → none_open front ≡ eqb r 0) → r ≡ 0 → Measured (take count lines) size
+    → ((front : List Line) → HoldsWords words front → none_open front ≡ eqb r 0) → r ≡ 0 → Measured (take count lines) (Some size)
 going_closed lines count words size i r g h told none_open_lem =
     let last : i ≡ count = omega (arith, g.place) in
     record {
-      wrong = λ q. absurd (omega (arith, g.bytes, size_of_lem (take i lines)));
-      sound = λ some. subst (λ (n : ℕ). SoundLines [] (take n lines)) last g.sound;
-      closed = λ some.
-          subst (λ (n : ℕ). none_open (take n lines) ≡ true) last (told (take i lines) g.holds ∙ eq-eqb r 0 none_open_lem);
-      bytes = λ some. subst (λ (n : ℕ). size ≡ length (written (take n lines))) last g.bytes;
+      wrong = λ q. cc;
+      sound = λ n q. subst (λ (k : ℕ). SoundLines [] (take k lines)) last g.sound;
+      closed = λ n q. subst (λ (k : ℕ). none_open (take k lines) ≡ true) last (told (take i lines) g.holds ∙ eq-eqb r 0 none_open_lem);
+      bytes = λ n q. let same : size ≡ n = cc in sym same ∙ subst (λ (k : ℕ). size ≡ length (written (take k lines))) last g.bytes;
     }

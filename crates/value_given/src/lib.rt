@@ -7,50 +7,34 @@ ghost use Rattle.value_given.specs.Decided.{Decided};
 ghost use Rattle.value_given.specs.Decide.{Stepped, Measured};
 
 use spec_text::{Line, Workload};
-use value_length::LineSize;
 
-// Takes the line, if it fits and passes its tests: the bytes that it is written with, else 0.
-fn step(words: &mut [u64; line_state::WORDS], l: Line) -> u64
+// Takes the line, if it fits and passes its tests: the bytes that it is written with.
+fn step(words: &mut [u64; line_state::WORDS], l: Line) -> Option<u64>
     ensures { Stepped words.old l result words.new }
 {
-    let found = value_length::line_size(l);
-    match found {
-        LineSize::Unfit => {
-            return 0;
-        }
-        LineSize::Bytes(size) => {
-            if line_rules::take_tested(words, l) != 0 {
-                return 0;
-            }
-            return size;
-        }
+    let size = value_length::line_size(l)?;
+    match line_rules::take_tested(words, l) {
+        Ok(()) => Some(size),
+        Err(_) => None,
     }
 }
 
-// The bytes of the lines' text, or 0 where a line does not fit or has a fault, or a block is open at the end. The names line and its
+// The bytes of the lines' text; none where a line does not fit or has a fault, or a block is open at the end. The names line and its
 // line end are 34 bytes.
-fn text_size(w: Workload) -> u64
+fn text_size(w: Workload) -> Option<u64>
     requires { (length w.lines ≡ 1616) × (w.count ≤ 1616) }
     ensures { Measured (lines_of w) result }
 {
-    let count = w.count;
     let mut words = [0u64; line_state::WORDS];
     line_rules::start(&mut words);
     let mut size: u64 = 34;
-    let mut i: usize = 0;
-    while i < count {
-        let l = w.lines[i];
-        let more = step(&mut words, l);
-        if more == 0 {
-            return 0;
-        }
-        size += more;
-        i += 1;
+    for l in &w.lines[..w.count] {
+        size += step(&mut words, *l)?;
     }
     if line_rules::depth(&words) != 0 {
-        return 0;
+        return None;
     }
-    size
+    Some(size)
 }
 
 // Whether some accepted text gives the value.
@@ -64,9 +48,8 @@ pub fn is_given(w: Workload) -> bool
     if !value_cells::rest_empty(w) {
         return false;
     }
-    let size = text_size(w);
-    if size == 0 {
+    let Some(size) = text_size(w) else {
         return false;
-    }
+    };
     size <= spec_text::TEXT_BYTES as u64
 }

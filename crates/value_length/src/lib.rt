@@ -9,13 +9,6 @@ ghost use Rattle.value_length.specs.Size.{value_fits, size_said, size_of};
 use line_kinds::line_facts;
 use spec_text::Line;
 
-// The bytes that a line is written with, or that a value does not fit its field.
-#[derive(Clone, Copy)]
-pub enum LineSize {
-    Bytes(u64),
-    Unfit,
-}
-
 fn decimal_digits(n: u8) -> u64
     ensures { (result ≡ length (digits_of 10 3 n)) × (result ≤ 3) }
 {
@@ -61,18 +54,18 @@ fn line_fits(l: Line) -> bool
     (id & rel & to) & (reads & writes & tests)
 }
 
-// The bytes that the line is written with, if its values fit. What is not there is written as one byte, as 0 is: so in a line
+// The bytes that the line is written with, none where a value does not fit its field. What is not there is written as one byte, as 0 is: so in a line
 // that fits each field takes up the digits of its value.
-pub fn line_size(l: Line) -> LineSize
+pub fn line_size(l: Line) -> Option<u64>
     ensures { size_said result ≡ size_of l }
 {
     if !line_fits(l) {
-        return LineSize::Unfit;
+        return None;
     }
     let numbers = decimal_digits(l.id) + decimal_digits(l.rel) + decimal_digits(l.to);
     let sets = hexadecimal_digits(l.reads)
         + hexadecimal_digits(l.writes)
         + hexadecimal_digits(l.tests);
     let bytes = 9 + numbers + sets;
-    LineSize::Bytes(bytes)
+    Some(bytes)
 }

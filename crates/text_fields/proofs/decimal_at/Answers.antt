@@ -1,30 +1,17 @@
 -- There is a byte, and it is a decimal digit or not.
-use borrow.Author.Rules.{rules}
-use native.Mathlib.Omega.{arith}
-use lib.ListN.{get_or}
-use Rattle.text_number.specs.DigitLaws.{decimal_is}
-use Rattle.text_fields.specs.RunLaws.{decimal_not}
+use Rattle.std.proofs.Common.{arith, sym, ap, ◌∙◌}
+use Rattle.text_number.specs.Digits.{hexadecimal}
+use Rattle.text_fields.specs.RunLaws.{decimal_here, decimal_above, decimal_below}
 use Rattle.text_fields.proofs.decimal_at.Goals as goal
 
-pub returns-then-text-at : goal.returns-then-text-at
-returns-then-text-at c = record { digit = λ h. absurd (omega arith); other = λ h inside. absurd (omega arith) }
+pub returns-in-48-to-57 : goal.returns-in-48-to-57
+returns-in-48-to-57 c =
+    let byte = c.in_ok-b.ensures.lookup.3 in
+    let here = decimal_here c.in_ok-b.field-0.now (omega arith) (omega arith) in
+    (byte.0, ap hexadecimal (sym (byte.1 0)) ∙ here ∙ sym c.from.ensures, omega arith)
 
-pub overflow_sub-result : goal.overflow_sub-result
-overflow_sub-result c =
-    let args = c.args in
-    let digit = decimal_is (get_or args.text.now args.at 0) c.if-b.true in
-    search rules
+pub returns-in_default : goal.returns-in_default
+returns-in_default c inside = let byte = c.in_ok-b.ensures.lookup.3.1 0 in rw (← byte) (decimal_below _ (omega arith))
 
-pub overflow_cast-result : goal.overflow_cast-result
-overflow_cast-result c =
-    let args = c.args in
-    let digit = decimal_is (get_or args.text.now args.at 0) c.if-b.true in
-    search rules
-
-pub returns-then-b : goal.returns-then-b
-returns-then-b c =
-    let digit = decimal_is _ c.if-b.true in
-    record { digit = λ h. (c.if-text-at.false, digit.2); other = λ h inside. absurd (omega arith) }
-
-pub returns : goal.returns
-returns c = record { digit = λ h. absurd (omega arith); other = λ h inside. decimal_not _ c.if-b.false }
+pub returns-in_default-2 : goal.returns-in_default-2
+returns-in_default-2 c inside = let byte = c.in_ok-b.ensures.lookup.3.1 0 in rw (← byte) (decimal_above _ (omega arith))
