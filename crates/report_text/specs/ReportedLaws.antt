@@ -1,6 +1,9 @@
 -- The printed report of a text, case by case.
-use Rattle.refusal.specs.declared.Fault.{Fault}
-use Rattle.std.specs.Prelude.{Result, false, ◌↔◌, ◌≡◌, ℕ, ◌-◌, ◌/◌, length, replicate}
+use Rattle.refusal.specs.declared.Refusal.{Refusal}
+use Rattle.refusal.specs.Numbers.{number_of}
+use Rattle.refusal.specs.Told.{told as said}
+use Rattle.spec_text.specs.declared.Line.{Line}
+use Rattle.std.specs.Prelude.{Result, Ok, Err, false, ◌↔◌, ◌≡◌, ℕ, ◌-◌, ◌/◌, length, replicate}
 use mathlib.Core.List.{List, ◌++◌}
 use Rattle.std.proofs.Math.Option.{Option, none, some}
 use Rattle.std.proofs.Math.Path.{refl, subst}
@@ -21,11 +24,10 @@ use Rattle.spec_report.specs.Report.Report.{refusal, unfolding_refusal, robust, 
 use Rattle.law_report.specs.ShownWalk.{first_short}
 use Rattle.law_report.specs.One.{the_report, report_is}
 use Rattle.verdict_told.specs.declared.Verdict.{Verdict}
-use Rattle.verdict_told.specs.Told.{Told, told as told_by, told_by as numbered}
+use Rattle.verdict_told.specs.Told.{Told, told_word}
 use Rattle.verdict_of.specs.Verdict.{Word, Judged}
 use Rattle.verdict_of.specs.Verdict.Word.{robust as robust_word_lem, danger as danger_word_lem}
 use Rattle.verdict_of.specs.Verdict.Judged.{refused as refused_answer, judged as judged_answer}
-use Rattle.verdict_of.specs.declared.TextVerdict.{TextVerdict}
 use Rattle.verdict_of.specs.TextVerdict.{TextJudged}
 use Rattle.verdict_of.specs.TextVerdict.TextJudged.{unread as not_read_lem, judged as judged_text}
 use Rattle.report_print.specs.declared.Printed.{Printed}
@@ -64,11 +66,11 @@ none_some m e = let wrong : ◌≡◌ {A = ℕ} 0 1 = cc in omega arith
 
 module _ {w : Workload} (text : List ℕ) (is_read : read text ≡ accepted (lines_of w)) (given : Given w) (before : List ℕ)
     (long : length before ≡ 260) where
-  abbrev Refusal : Option ℕ → Type 0
-  Refusal o = StateRefusal w (short_for_walk (length before / 4)) o
+  abbrev Refuses : Option ℕ → Type 0
+  Refuses o = StateRefusal w (short_for_walk (length before / 4)) o
 
   -- S22, P3: of a value that a text gives, with an area of 65 steps, the only refusal is 22
-  refused_reported : (number : ℕ) {o : Option ℕ} → Refusal o → o ≡ some number → Report text (refusal_report number 0)
+  refused_reported : (number : ℕ) {o : Option ℕ} → Refuses o → o ≡ some number → Report text (refusal_report number 0)
   refused_reported number (not_given n) e = absurd (n given)
   refused_reported number (too_many g many) e =
       subst (λ (n : ℕ). Report text (refusal_report n 0)) (some_number 22 number e) (unfolding_refusal (lines_of w) is_read many)
@@ -92,32 +94,54 @@ module _ {w : Workload} (text : List ℕ) (is_read : read text ≡ accepted (lin
 
 -- ---- what the verdict on a text answers, printed
 
-module _ (text : List ℕ) {before : List ℕ} {told : TextVerdict} {after : List ℕ} (answered : TextJudged (read text) before told after)
-    {r : Printed} where
-  -- P3: a refusal of the text
-  pub reported_unread : {number line : ℕ} → told ≡ TextVerdict.Unread number line → r ≡ printed_as (refusal_report number line) → Reported text r
-  reported_unread {number} {line} e printed = go answered
-    where
-      go : TextJudged (read text) before told after → Reported text r
-      go (not_read_lem m l is_read is kept) =
-          let same_number : m ≡ number = cc in
-          let same_line : l ≡ line = cc in
-          reported_as (refusal number line (is_read ∙ ap₂ refused same_number same_line)) printed
-      go (judged_text lines is_read v is said) = let z : ◌≡◌ {A = ℕ} 0 1 = cc in absurd (omega arith)
+module _ (text : List ℕ) {before : List ℕ} {v : Result Verdict Refusal} {after : List ℕ} (answered : TextJudged (read text) before (said v) after)
+    (long : length before ≡ 260) {r : Printed} where
+  judged_text_reported : (lines : List Line) → read text ≡ accepted lines → {answer : Told} → Judged (value_of lines) before answer after
+      → Report text (bytes_for answer after)
+  judged_text_reported lines is_read =
+      judged_reported text (is_read ∙ ap accepted (sym (lines_of_value lines))) (value_given text is_read) before long
 
-  -- P1, P2, P3: with an area of 65 steps the verdict
-  pub reported_judged : {v : Result Verdict Fault} {n : Result Verdict ℕ} → told ≡ TextVerdict.Judged v → length before ≡ 260
-      → numbered n ≡ told_by v → r ≡ printed_as (bytes_for (numbered n) after) → Reported text r
-  reported_judged {v} e long same_word printed = go answered
+  -- P3: a refusal, of the text or, with line 0, of its value
+  pub reported_refused : (f : Refusal) {number : ℕ} → v ≡ Err f → number ≡ number_of f.fault → r ≡ printed_as (refusal_report number f.line)
+      → Reported text r
+  unfolding bytes_for
+  reported_refused f {number} e is_number printed = go answered
     where
-      go : TextJudged (read text) before told after → Reported text r
-      go (not_read_lem m l is_read is kept) = let z : ◌≡◌ {A = ℕ} 0 1 = cc in absurd (omega arith)
-      go (judged_text lines is_read u is said) =
-          let same : u ≡ v = cc in
+      same : {x : Result Verdict (ℕ × ℕ)} → said v ≡ x → Err (number_of f.fault, f.line) ≡ x
+      same is = ap said (sym e) ∙ is
+
+      go : TextJudged (read text) before (said v) after → Reported text r
+      go (not_read_lem m l is_read is kept) =
+          let pair = same is in
+          let same_number : m ≡ number = cc in
+          let same_line : l ≡ f.line = cc in
+          reported_as (refusal number f.line (is_read ∙ ap₂ refused same_number same_line)) printed
+      go (judged_text lines is_read (Err g) is judged) =
+          let pair = same is in
+          let same_number : number_of g ≡ number = cc in
+          let same_line : 0 ≡ f.line = cc in
           reported_as
-          (judged_reported text (is_read ∙ ap accepted (sym (lines_of_value lines))) (value_given text is_read) before long
-          (subst (λ (x : Result Verdict Fault). Judged (value_of lines) before (told_by x) after) same said))
-          (printed ∙ ap (λ (t : Told). printed_as (bytes_for t after)) same_word)
+          (subst (λ (n : ℕ). Report text (refusal_report n f.line)) same_number
+          (subst (λ (n : ℕ). Report text (refusal_report (number_of g) n)) same_line (judged_text_reported lines is_read judged)))
+          printed
+      go (judged_text lines is_read (Ok w) is judged) = let pair = same is in let z : ◌≡◌ {A = ℕ} 0 1 = cc in absurd (omega arith)
+
+  -- P1, P2: with an area of 65 steps the word
+  pub reported_word : (w : Verdict) → v ≡ Ok w → r ≡ printed_as (bytes_for (told_word w) after) → Reported text r
+  reported_word w e printed = go answered
+    where
+      same : {x : Result Verdict (ℕ × ℕ)} → said v ≡ x → Ok w ≡ x
+      same is = ap said (sym e) ∙ is
+
+      go : TextJudged (read text) before (said v) after → Reported text r
+      go (not_read_lem m l is_read is kept) = let pair = same is in let z : ◌≡◌ {A = ℕ} 0 1 = cc in absurd (omega arith)
+      go (judged_text lines is_read (Err g) is judged) = let pair = same is in let z : ◌≡◌ {A = ℕ} 0 1 = cc in absurd (omega arith)
+      go (judged_text lines is_read (Ok u) is judged) =
+          let pair = same is in
+          let word : u ≡ w = cc in
+          reported_as
+          (subst (λ (x : Verdict). Report text (bytes_for (told_word x) after)) word (judged_text_reported lines is_read judged))
+          printed
 
 -- ---- nothing is free
 

@@ -7,8 +7,6 @@ use edge_word::PAIRS;
 use place_row::{ROWS, TABLE_WORDS};
 use report_print::Printed;
 use value_tables::LINE_TABLE;
-use verdict_of::TextVerdict;
-use verdict_told::numbered;
 use walk_first::WALK_WORDS;
 
 // Reads any text and answers the bytes of its report: of a refusal, or of the verdict, with its walk in an area of 65 steps.
@@ -35,7 +33,7 @@ pub fn report_of(text: &[u8]) -> Printed
         &mut area,
     );
     match told {
-        TextVerdict::Unread(number, line) => report_print::refusal_printed(u64::from(number), line),
-        TextVerdict::Judged(v) => report_print::verdict_printed(numbered(v), &area),
+        Ok(v) => report_print::verdict_printed(Ok(v), &area),
+        Err(r) => report_print::refusal_printed(u64::from(r.fault.number()), r.line),
     }
 }

@@ -2,8 +2,10 @@
 use Rattle.std.specs.Prelude.{true, false, ◌≡◌, ℕ, ◌*◌, ◌/◌, ◌≤◌, ltb, take, drop, Result, Ok, Err}
 use Rattle.refusal.specs.declared.Fault.{Fault}
 use Rattle.refusal.specs.declared.Fault.TheVariants.{Unfoldings}
-use Rattle.refusal.specs.Numbers.{number_of as number_of_fault}
-use Rattle.refusal.specs.Refusing.{same_fault}
+use Rattle.refusal.specs.declared.Refusal.{Refusal}
+use Rattle.refusal.specs.Numbers.{number_of}
+use Rattle.refusal.specs.Told.{told as said}
+use Rattle.refusal.specs.NumberLaws.{number_settles}
 use mathlib.Core.List.{List, ◌++◌}
 use Rattle.std.proofs.Math.Path.{refl, ap}
 use Rattle.std.proofs.Common.{sym, ap₂, subst, ◌∙◌, arith, length-append, ltb-false}
@@ -22,18 +24,16 @@ use Rattle.spec_report.specs.State.StateRefusal.{too_many}
 use Rattle.place_row.specs.RowTable.{rows_of, table_of}
 use Rattle.place_row.specs.RowTableLaws.{table_of_length}
 use Rattle.place_laws.specs.Placed.{rows_of_length}
-use Rattle.refusal_laws.specs.RefusalLaws.{refusal_bounds}
 use Rattle.place_text.specs.declared.TextRows.{TextRows}
-use Rattle.place_text.specs.Placed.{no_rows, rows_told, TextPlaced}
+use Rattle.place_text.specs.Placed.{rows_told, TextPlaced}
 use Rattle.place_text.specs.Placed.TextPlaced.{unread as not_read_lem, large, placed}
 use Rattle.verdict_told.specs.declared.Verdict.{Verdict}
 use Rattle.verdict_told.specs.Told.{Told, told}
-use Rattle.verdict_of.specs.declared.TextVerdict.{TextVerdict}
 use Rattle.verdict_of.specs.Verdict.{Judged}
 use Rattle.verdict_of.specs.Verdict.Judged.{refused as refused_answer}
 use Rattle.verdict_of.specs.Steps.{RowsWhole, RowsJudged}
 use Rattle.verdict_of.specs.VerdictLaws.{judged_one}
-use Rattle.verdict_of.specs.TextVerdict.{TextJudged}
+use Rattle.verdict_of.specs.TextVerdict.{on_text, TextJudged}
 use Rattle.verdict_of.specs.TextVerdict.TextJudged.{unread, judged}
 
 -- so many nodes and places at most
@@ -43,62 +43,58 @@ few_each lines few =
     let both = or_false (ltb 64 (length (nodes_of lines))) _ few in
     (ltb-false 64 _ both.0, ltb-false 512 _ both.1)
 
-module _ (text : List ℕ) {rows₀ : List ℕ} {t : TextRows} {rows : List ℕ} (rows_told_lem : TextPlaced (read text) rows₀ t rows) where
-  abbrev number_of : TextRows → ℕ
-  number_of x = x.number
+err_ok : {A B : Type 0} {x : A} {e : B} → ◌≡◌ {A = Result A B} (Err e) (Ok x) → ⊥
+err_ok e = let z : ◌≡◌ {A = ℕ} 0 1 = cc in omega arith
 
-  -- S22
-  pub text_large : t.number ≡ 22 → (before : List ℕ) → TextJudged (read text) before (TextVerdict.Judged (Err Unfoldings)) before
-  unfolding no_rows rows_told
-  text_large e before = go rows_told_lem
+-- an answer's refusal or its value does not depend on what else there could be
+same_err : {A B : Type 0} {e f : ℕ × ℕ} → ◌≡◌ {A = Result A (ℕ × ℕ)} (Err e) (Err f) → ◌≡◌ {A = Result B (ℕ × ℕ)} (Err e) (Err f)
+same_err {e = e} {f = f} same = let is : e ≡ f = cc in ap Err is
+
+ok_once : {A B : Type 0} {x y : A} → ◌≡◌ {A = Result A B} (Ok x) (Ok y) → x ≡ y
+ok_once e = cc
+
+module _ (text : List ℕ) {rows₀ : List ℕ} {t : Result TextRows Refusal} {rows : List ℕ} (rows_told_lem : TextPlaced (read text) rows₀ (said t) rows)
     where
-      go : TextPlaced (read text) rows₀ t rows → TextJudged (read text) before (TextVerdict.Judged (Err Unfoldings)) before
-      go (not_read_lem m line is_read r same) =
-          let bounds = refusal_bounds text is_read in
-          let is = ap number_of r in
-          absurd (omega arith)
-      go (large lines is_read many r same) =
-          judged lines is_read (Err Unfoldings) refl
+  -- R, S22
+  pub text_refused : (f : Refusal) → t ≡ Err f → (before : List ℕ) → TextJudged (read text) before (Err (number_of f.fault, f.line)) before
+  text_refused f e before = go rows_told_lem
+    where
+      same : {x : Result TextRows (ℕ × ℕ)} → said t ≡ x → Err (number_of f.fault, f.line) ≡ x
+      same r = ap said (sym e) ∙ r
+
+      go : TextPlaced (read text) rows₀ (said t) rows → TextJudged (read text) before (Err (number_of f.fault, f.line)) before
+      go (not_read_lem m line is_read r kept) = unread m line is_read (same_err (same r)) refl
+      go (large lines is_read many r kept) =
+          judged lines is_read (Err Unfoldings) (same_err (same r))
           (refused_answer 22 (too_many (value_given text is_read) (ap is_too_many (lines_of_value lines) ∙ many)))
-      go (placed lines is_read few r same) = let is = ap number_of r in absurd (omega arith)
+      go (placed lines is_read few r kept) = absurd (err_ok (same r))
 
-  -- R
-  pub text_unread : (t.number ≡ 22 → ⊥) → (t.number ≡ 0 → ⊥) → (before : List ℕ)
-      → TextJudged (read text) before (TextVerdict.Unread t.number t.line) before
-  unfolding no_rows rows_told
-  text_unread other some_number before = go rows_told_lem
-    where
-      go : TextPlaced (read text) rows₀ t rows → TextJudged (read text) before (TextVerdict.Unread t.number t.line) before
-      go (not_read_lem m line is_read r same) =
-          unread m line is_read (ap₂ TextVerdict.Unread (ap number_of r) (ap (λ (x : TextRows). x.line) r)) refl
-      go (large lines is_read many r same) = absurd (other (ap number_of r))
-      go (placed lines is_read few r same) = absurd (some_number (ap number_of r))
-
-  module _ (none_told : t.number ≡ 0) where
+  module _ (x : TextRows) (some_rows : t ≡ Ok x) where
     -- the rows are those of a given workload
     record RowsOf : Type 0 where
       pub lines : List Line
       pub is_read_lem : read text ≡ accepted lines
-      pub whole : RowsWhole (value_of lines) t.programs t.nodes (take t.words rows)
-      pub inside : t.words ≤ 4096
-      pub nodes_few : t.nodes ≤ 64
+      pub whole : RowsWhole (value_of lines) x.programs x.nodes (take x.words rows)
+      pub inside : x.words ≤ 4096
+      pub nodes_few : x.nodes ≤ 64
 
     rows_of_lem : RowsOf
-    unfolding no_rows rows_told
+    unfolding rows_told
     rows_of_lem = go rows_told_lem
       where
-        go : TextPlaced (read text) rows₀ t rows → RowsOf
-        go (not_read_lem m line is_read r same) =
-            let bounds = refusal_bounds text is_read in
-            let is = ap number_of r in
-            absurd (omega arith)
-        go (large lines is_read many r same) = let is = ap number_of r in absurd (omega arith)
-        go (placed lines is_read few r same) =
+        same : {y : Result TextRows (ℕ × ℕ)} → said t ≡ y → Ok x ≡ y
+        same r = ap said (sym some_rows) ∙ r
+
+        go : TextPlaced (read text) rows₀ (said t) rows → RowsOf
+        go (not_read_lem m line is_read r kept) = absurd (err_ok (sym (same r)))
+        go (large lines is_read many r kept) = absurd (err_ok (sym (same r)))
+        go (placed lines is_read few r stands) =
             let own = lines_of_value lines in
             let each = few_each lines few in
-            let words : t.words ≡ 8 * statements_in (nodes_of lines) = ap (λ (x : TextRows). x.words) r in
-            let nodes : t.nodes ≡ length (nodes_of lines) = ap (λ (x : TextRows). x.nodes) r in
-            let programs : t.programs ≡ length (programs_of lines) = ap (λ (x : TextRows). x.programs) r in
+            let all : x ≡ rows_told lines = ok_once (same r) in
+            let words : x.words ≡ 8 * statements_in (nodes_of lines) = ap (λ (y : TextRows). y.words) all in
+            let nodes : x.nodes ≡ length (nodes_of lines) = ap (λ (y : TextRows). y.nodes) all in
+            let programs : x.programs ≡ length (programs_of lines) = ap (λ (y : TextRows). y.programs) all in
             let a = table_of_length (rows_of (nodes_of lines)) in
             let b = rows_of_length (nodes_of lines) in
             record {
@@ -111,24 +107,24 @@ module _ (text : List ℕ) {rows₀ : List ℕ} {t : TextRows} {rows : List ℕ}
                     programs_are = programs ∙ ap (λ (l : List Line). length (programs_of l)) (sym own);
                     nodes_are = nodes ∙ ap (λ (l : List Line). length (nodes_of l)) (sym own);
                     rows_are =
-                        ap (take t.words) same
-                        ∙ take_at (table_of (rows_of (nodes_of lines))) _ t.words (omega arith)
+                        ap (take x.words) stands
+                        ∙ take_at (table_of (rows_of (nodes_of lines))) _ x.words (omega arith)
                         ∙ ap (λ (l : List Line). table_of (rows_of (nodes_of l))) (sym own);
                   };
               inside = omega arith;
               nodes_few = omega arith;
             }
 
-    pub words_inside : t.words ≤ 4096
+    pub words_inside : x.words ≤ 4096
     words_inside = rows_of_lem.inside
 
-    pub nodes_inside : t.nodes ≤ 64
+    pub nodes_inside : x.nodes ≤ 64
     nodes_inside = rows_of_lem.nodes_few
 
     -- the word
-    pub text_word : {before after : List ℕ} (v : Result Verdict Fault) → RowsJudged (take t.words rows) t.programs t.nodes before (told v) after
-        → TextJudged (read text) before (TextVerdict.Judged v) after
-    text_word v answered = judged rows_of_lem.lines rows_of_lem.is_read_lem v refl (answered _ rows_of_lem.whole)
+    pub text_word : {before after : List ℕ} (v : Result Verdict Fault) {r : Result Verdict (ℕ × ℕ)} → r ≡ on_text v
+        → RowsJudged (take x.words rows) x.programs x.nodes before (told v) after → TextJudged (read text) before r after
+    text_word v e answered = judged rows_of_lem.lines rows_of_lem.is_read_lem v e (answered _ rows_of_lem.whole)
 
 -- ---- nothing is free
 
@@ -141,7 +137,7 @@ word_of (Told.danger c steps) = Verdict.Danger (record { programs = c.programs; 
 -- an answer is settled by what it tells
 same_told : (v w : Result Verdict Fault) → told v ≡ told w → v ≡ w
 unfolding word_of
-same_told (Err f) (Err g) e = let number : number_of_fault f ≡ number_of_fault g = cc in ap Err (same_fault f g number)
+same_told (Err f) (Err g) e = let number : number_of f ≡ number_of g = cc in ap Err (number_settles f g number)
 same_told (Err f) (Ok (Verdict.Robust c)) e = cc
 same_told (Err f) (Ok (Verdict.Danger c steps)) e = cc
 same_told (Ok (Verdict.Robust c)) (Err f) e = cc
@@ -151,16 +147,30 @@ same_told (Ok (Verdict.Danger c steps)) (Ok (Verdict.Robust d)) e = cc
 same_told (Ok (Verdict.Robust c)) (Ok (Verdict.Robust d)) e = ap (λ (t : Told). Ok (word_of t)) e
 same_told (Ok (Verdict.Danger c steps)) (Ok (Verdict.Danger d n)) e = ap (λ (t : Told). Ok (word_of t)) e
 
+-- so is one on a text
+same_said : (a b : Result Verdict Refusal) → said a ≡ said b → a ≡ b
+same_said (Ok v) (Ok w) e = let same : v ≡ w = cc in ap Ok same
+same_said (Ok v) (Err f) e = absurd (err_ok (sym e))
+same_said (Err f) (Ok v) e = absurd (err_ok e)
+same_said (Err f) (Err g) e =
+    let number : number_of f.fault ≡ number_of g.fault = cc in
+    let line : f.line ≡ g.line = cc in
+    let fault = number_settles f.fault g.fault number in
+    λ i. Err (record { fault = fault i; line = line i })
+
 -- Req 01: the text and the area before settle the answer and the area after
-pub text_judged_one : {o : Outcome} {before : List ℕ} {a b : TextVerdict} {after rest : List ℕ} → TextJudged o before a after
-    → TextJudged o before b rest → (a ≡ b) × (after ≡ rest)
-text_judged_one (unread number line e r s) (unread other at f q t) =
-    let number_is : number ≡ other = cc in
-    let line_is : line ≡ at = cc in
-    (r ∙ ap (λ x. TextVerdict.Unread x line) number_is ∙ ap (TextVerdict.Unread other) line_is ∙ sym q, s ∙ sym t)
-text_judged_one (unread number line e r s) (judged lines f v q j) = let wrong : ◌≡◌ {A = ℕ} 0 1 = cc in absurd (omega arith)
-text_judged_one (judged lines e v r j) (unread number line f q t) = let wrong : ◌≡◌ {A = ℕ} 0 1 = cc in absurd (omega arith)
-text_judged_one {o} {before} {a} {b} {after} {rest} (judged lines e v r j) (judged others f w q k) =
-    let lines_are : others ≡ lines = cc in
-    let same = judged_one j (subst (λ (l : List Line). Judged (value_of l) before (told w) rest) lines_are k) in
-    (r ∙ ap TextVerdict.Judged (same_told v w same.0) ∙ sym q, same.1)
+pub text_judged_one : {o : Outcome} {before : List ℕ} {a b : Result Verdict Refusal} {after rest : List ℕ} → TextJudged o before (said a) after
+    → TextJudged o before (said b) rest → (a ≡ b) × (after ≡ rest)
+text_judged_one {o} {before} {a} {b} {after} {rest} p q = let both = go p q in (same_said a b both.0, both.1)
+  where
+    go : TextJudged o before (said a) after → TextJudged o before (said b) rest → (said a ≡ said b) × (after ≡ rest)
+    go (unread number line e r s) (unread other at f q t) =
+        let number_is : number ≡ other = cc in
+        let line_is : line ≡ at = cc in
+        (r ∙ ap₂ (λ (n l : ℕ). Err (n, l)) number_is line_is ∙ sym q, s ∙ sym t)
+    go (unread number line e r s) (judged lines f v q j) = let wrong : ◌≡◌ {A = ℕ} 0 1 = cc in absurd (omega arith)
+    go (judged lines e v r j) (unread number line f q t) = let wrong : ◌≡◌ {A = ℕ} 0 1 = cc in absurd (omega arith)
+    go (judged lines e v r j) (judged others f w q k) =
+        let lines_are : others ≡ lines = cc in
+        let same = judged_one j (subst (λ (l : List Line). Judged (value_of l) before (told w) rest) lines_are k) in
+        (r ∙ ap on_text (same_told v w same.0) ∙ sym q, same.1)

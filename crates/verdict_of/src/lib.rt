@@ -4,14 +4,15 @@
 ghost use Rattle.std.specs.Prelude.{◌≡◌, ◌*◌, ◌≤◌, length, take};
 ghost use Rattle.spec_text.specs.Reading.{read};
 ghost use Rattle.lent_words.specs.Lent.{Lent};
+ghost use Rattle.refusal.specs.Told.{told as said};
 ghost use Rattle.verdict_told.specs.Told.{told};
 ghost use Rattle.verdict_of.specs.Verdict.{Judged};
-ghost use Rattle.verdict_of.specs.TextVerdict.{TextJudged, RowsLeft};
+ghost use Rattle.verdict_of.specs.TextVerdict.{on_text, TextJudged, RowsLeft};
 ghost use Rattle.verdict_of.specs.Steps.{RowsJudged};
 
 use edge_word::{NODES, PAIRS};
 use place_row::{ROWS, TABLE_WORDS};
-use refusal::Fault;
+use refusal::{Fault, Refusal};
 use spec_text::Workload;
 use value_tables::LINE_TABLE;
 use verdict_told::{Verdict, judged};
@@ -98,11 +99,11 @@ pub fn verdict_of(w: Workload, area: &mut [u64]) -> Result<Verdict, Fault>
     }
 }
 
-// The verdict on a text, or the number and the line of its refusal.
-#[derive(Clone, Copy)]
-pub enum TextVerdict {
-    Unread(u8, u64),
-    Judged(Result<Verdict, Fault>),
+// A refusal of the value has line 0.
+fn on_text(v: Result<Verdict, Fault>) -> Result<Verdict, Refusal>
+    ensures { said result ≡ on_text v }
+{
+    v.map_err(|fault| fault.at(0))
 }
 
 // The verdict on any text, with the first dangerous walk at the front of the area. The rows of its places stand in `rows`; the other words are lent
@@ -117,23 +118,21 @@ pub fn text_verdict(
     forwards: &mut [u64; PAIRS],
     backs: &mut [u64; PAIRS],
     area: &mut [u64],
-) -> TextVerdict
-    ensures text_judged { TextJudged (read text.now) area.old result area.new }
+) -> Result<Verdict, Refusal>
+    ensures text_judged { TextJudged (read text.now) area.old (said result) area.new }
     ensures lent { Lent state.old state.new × Lent lines.old lines.new
         × Lent places.old places.new × RowsLeft (read text.now) rows.old rows.new
         × Lent work.old work.new × Lent forwards.old forwards.new
         × Lent backs.old backs.new }
 {
     let t = place_text::text_rows(text, state, lines, places, rows);
-    let number = t.number;
-    if number == 22 {
-        return TextVerdict::Judged(Err(Fault::Unfoldings));
+    match t {
+        Err(refusal) => Err(refusal),
+        Ok(t) => {
+            let v = judge_table(
+                rows, t.words, t.programs, t.nodes, places, work, forwards, backs, area,
+            );
+            on_text(v)
+        }
     }
-    if number != 0 {
-        return TextVerdict::Unread(number, t.line);
-    }
-    let v = judge_table(
-        rows, t.words, t.programs, t.nodes, places, work, forwards, backs, area,
-    );
-    TextVerdict::Judged(v)
 }

@@ -1,15 +1,14 @@
--- A refusal of the text is reported with its number and line (reported_unread); an area of 65 steps is long enough, so what the verdict answers is
--- printed as the report (reported_judged).
+-- A refusal is reported with its number and line (reported_refused); an area of 65 steps is long enough, so the word is printed as the report
+-- (reported_word).
 use Prim.Native.Nat.{ℕ}
 use lib.ListN.{length-replicate}
-use Rattle.report_text.specs.ReportedLaws.{reported_unread, reported_judged}
+use Rattle.report_text.specs.ReportedLaws.{reported_refused, reported_word}
 use Rattle.report_text.proofs.report_of.Goals as goal
 
-pub returns-in-Unread : goal.returns-in-Unread
-returns-in-Unread c =
-    reported_unread _ c.text_verdict-told.ensures.text_judged c.in-Unread.is (c.refusal_printed.ensures)
+pub returns-in-Err : goal.returns-in-Err
+returns-in-Err c =
+    reported_refused _ c.text_verdict-told.ensures.text_judged (length-replicate {A = ℕ} 260 0) _ c.in-Err.is ? c.refusal_printed.ensures
 
-pub returns-in-Judged : goal.returns-in-Judged
-returns-in-Judged c =
-    reported_judged _ c.text_verdict-told.ensures.text_judged c.in-Judged.is (length-replicate {A = ℕ} 260 0) c.numbered.ensures
-    c.verdict_printed.ensures
+pub returns-in-Ok : goal.returns-in-Ok
+returns-in-Ok c =
+    reported_word _ c.text_verdict-told.ensures.text_judged (length-replicate {A = ℕ} 260 0) _ c.in-Ok.is c.verdict_printed.ensures
