@@ -25,7 +25,7 @@ use Rattle.place_row.specs.RowTable.{rows_of, table_of}
 use Rattle.place_row.specs.RowTableLaws.{table_of_length}
 use Rattle.place_laws.specs.Placed.{rows_of_length}
 use Rattle.place_text.specs.declared.TextRows.{TextRows}
-use Rattle.place_text.specs.Placed.{rows_told, TextPlaced}
+use Rattle.place_text.specs.Placed.{no_rows, rows_told, TextPlaced}
 use Rattle.place_text.specs.Placed.TextPlaced.{unread as not_read_lem, large, placed}
 use Rattle.verdict_told.specs.declared.Verdict.{Verdict}
 use Rattle.verdict_told.specs.Told.{Told, told}
@@ -57,6 +57,7 @@ module _ (text : List ℕ) {rows₀ : List ℕ} {t : Result TextRows Refusal} {r
     where
   -- R, S22
   pub text_refused : (f : Refusal) → t ≡ Err f → (before : List ℕ) → TextJudged (read text) before (Err (number_of f.fault, f.line)) before
+  unfolding no_rows rows_told
   text_refused f e before = go rows_told_lem
     where
       same : {x : Result TextRows (ℕ × ℕ)} → said t ≡ x → Err (number_of f.fault, f.line) ≡ x
@@ -79,7 +80,7 @@ module _ (text : List ℕ) {rows₀ : List ℕ} {t : Result TextRows Refusal} {r
       pub nodes_few : x.nodes ≤ 64
 
     rows_of_lem : RowsOf
-    unfolding rows_told
+    unfolding no_rows rows_told
     rows_of_lem = go rows_told_lem
       where
         same : {y : Result TextRows (ℕ × ℕ)} → said t ≡ y → Ok x ≡ y
@@ -91,10 +92,9 @@ module _ (text : List ℕ) {rows₀ : List ℕ} {t : Result TextRows Refusal} {r
         go (placed lines is_read few r stands) =
             let own = lines_of_value lines in
             let each = few_each lines few in
-            let all : x ≡ rows_told lines = ok_once (same r) in
-            let words : x.words ≡ 8 * statements_in (nodes_of lines) = ap (λ (y : TextRows). y.words) all in
-            let nodes : x.nodes ≡ length (nodes_of lines) = ap (λ (y : TextRows). y.nodes) all in
-            let programs : x.programs ≡ length (programs_of lines) = ap (λ (y : TextRows). y.programs) all in
+            let words : x.words ≡ 8 * statements_in (nodes_of lines) = ap (λ (y : TextRows). y.words) (ok_once (same r)) in
+            let nodes : x.nodes ≡ length (nodes_of lines) = ap (λ (y : TextRows). y.nodes) (ok_once (same r)) in
+            let programs : x.programs ≡ length (programs_of lines) = ap (λ (y : TextRows). y.programs) (ok_once (same r)) in
             let a = table_of_length (rows_of (nodes_of lines)) in
             let b = rows_of_length (nodes_of lines) in
             record {
