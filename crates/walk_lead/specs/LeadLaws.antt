@@ -4,11 +4,12 @@ use Rattle.std.proofs.Math.Path.{refl, sym, ap, ap₂}
 use Rattle.std.proofs.Common.{◌∙◌, inl, inr, arith}
 use Rattle.std.proofs.Math.Bool.{Bool, true}
 use Prim.Native.Nat.{ℕ, zero, suc, ◌+◌, ◌*◌, ◌/◌, ◌%◌, ◌^◌, ◌≤◌, ◌<◌, min}
+use Rattle.std.proofs.Math.Bool.{or-false}
 use Rattle.std.proofs.Math.Decide.{dec_lt}
 use Rattle.std.proofs.Math.Numerals.{add-one}
 use Rattle.std.specs.Int.Bits.{bit_and, bit_or, or_zero_r}
 use Rattle.std.proofs.Math.Dec.{ltb}
-use borrow.Author.Tests.{eqb-true, eqb-false, eq-eqb, ltb-true, ltb-false, lt-ltb, le-ltb}
+use borrow.Author.Tests.{eqb-true, eqb-false, ltb-true, ltb-false, lt-ltb, le-ltb}
 use Rattle.spec_base.specs.Basic.{any, numbers, has, meets}
 use Rattle.law_base.specs.BoolLaws.{decide, same_test, true_false, false_of, or_true, or_left, or_right, or_of}
 use Rattle.law_base.specs.ListLaws.{any_numbers, any_numbers_of}
@@ -18,20 +19,17 @@ use Rattle.pick_laws.specs.Completing.{least_below, opens_below, leaves_at, lead
 use Rattle.pick_laws.specs.LeastLaws.{least_at, least_rest}
 use Rattle.edge_word.specs.Coding.{forward_pick, back_pick, entry, forwards_in, backs_in}
 use Rattle.edge_opens.specs.OpensLaws.{leaves_none, leaves_some, word_opens, dangerous_words}
-use Rattle.walk_nodes.specs.Nodes.{with_node, word_below, rows_in}
+use Rattle.walk_nodes.specs.Nodes.{with_node, node_word, word_below, rows_in}
 use Rattle.walk_reach.specs.Layers.{joined_bit, joined_row, rows_filled}
 use Rattle.walk_nodes.specs.NodeWordLaws.{rows_bound}
 use Rattle.walk_reach.specs.LayerLaws.{entry_past, filled_row}
-use Rattle.walk_nodes.specs.NodeWordLaws.{bit_shifted, last_turn, word_in, word_inside, word_none, word_rest, word_or, list_at, has_high, meets_none}
+use Rattle.walk_nodes.specs.NodeWordLaws.{bit_shifted, with_one, last_turn, word_in, word_inside, word_none}
+use Rattle.walk_nodes.specs.NodeWordLaws.{word_rest, word_or, list_at, has_high, meets_none}
 use Rattle.walk_reach.specs.Search.{first_from}
 use Rattle.walk_lead.specs.Leads.{leads_along, leads_through, leads_by, leads_on, lead_row, leaves_to, earliest, early_filled}
 use Rattle.walk_lead.specs.Leads.{layers_at, wraps_from, wraps_among, wrap_start}
 
 -- ---- tests
-
-or_none : (b : Bool) → b || false ≡ b
-or_none true = refl
-or_none false = refl
 
 -- one number more that may pass
 any_more : (p : ℕ → Bool) (n : ℕ) → any p (numbers (suc n)) ≡ any p (numbers n) || p n
@@ -69,6 +67,10 @@ module _ (backs : List ℕ) (e v word w : ℕ) {c : ℕ} {t : Bool} (q : c ≡ g
   unfolding with_node
   lead_left h = rw (leads_told h) refl
 
+  -- either way
+  pub lead_told : {more : ℕ} → w < 64 → more ≡ cond t (bit_or word (node_word w)) word → more ≡ with_node word (leads_along backs e v w) w
+  lead_told h m = with_one _ _ _ h m ∙ ap (λ (b : Bool). with_node word b w) (sym (leads_told refl))
+
 -- the same test gives the same word
 word_same : (p q : ℕ → Bool) (n : ℕ) → ((k : ℕ) → k < n → p k ≡ q k) → word_below p n ≡ word_below q n
 unfolding word_below
@@ -103,8 +105,9 @@ module _ (backs : List ℕ) (e v : ℕ) where
       (let below = ltb-true (leaves_at (backs_in backs v w)) (opens_below (forward_pick e)) (sym (dangerous_words e (entry backs v w)) ∙ t) in
       let most = word_opens e in omega arith)
 
-  -- ---- the first place that a back edge leaves
+-- ---- the first place that a back edge leaves
 
+module _ (backs : List ℕ) (v : ℕ) where
   -- one word more
   pub place_turn : (w : ℕ) {best x l more : ℕ} → best ≡ least_below (leaves_to backs v) 1024 w → x ≡ entry backs v w
       → l ≡ leaves_at (back_pick x) → more ≡ min best l → more ≡ least_below (leaves_to backs v) 1024 (w + 1)
@@ -123,10 +126,10 @@ module _ (backs : List ℕ) (e v : ℕ) where
   place_past {w = w} p z h q =
       q ∙ least_rest (leaves_to backs v) 1024 w 64 h (λ k a l. ltb-false (leaves_at (backs_in backs v k)) 1024 (no_later p z k a l))
 
-  pub through_past : {t w word : ℕ} → t ≡ joined_row backs v → t / 2 ^ w ≡ 0 → w ≤ 64 → word ≡ word_below (leads_along backs e v) w
+  pub through_past : (e : ℕ) {t w word : ℕ} → t ≡ joined_row backs v → t / 2 ^ w ≡ 0 → w ≤ 64 → word ≡ word_below (leads_along backs e v) w
       → word ≡ leads_through backs e v
   unfolding leads_through leads_along
-  through_past {w = w} p z h q =
+  through_past e {w = w} p z h q =
       q ∙ word_rest (leads_along backs e v) w 64 h
       (λ k a l.
       let far = ltb-false (leaves_at (backs_in backs v k)) 1024 (no_later p z k a l) in
@@ -159,7 +162,7 @@ module _ (forwards backs : List ℕ) (u v word : ℕ) where
       through = leads_through backs (entry forwards u v) v
 
       go : (k : ℕ) (b : Bool) → has through k ≡ b → has word k ≡ has word k || has through k
-      go k false e = sym (or_none (has word k)) ∙ ap (λ (c : Bool). has word k || c) (sym e)
+      go k false e = sym (or-false (has word k)) ∙ ap (λ (c : Bool). has word k || c) (sym e)
       go k true e =
           let there : has (bit_or word t) k ≡ true = has_bit_or word t k
           ∙ or_right (has word k) (ap (λ (x : ℕ). has x k) p ∙ through_inside backs (entry forwards u v) v k e) in

@@ -30,8 +30,8 @@ Wraps forwards backs n d v = (u : ℕ) × (w : ℕ) × (u < n) × (w < n) × (da
     × (reaches (forwards_in forwards) n u d w ≡ true)
 
 -- from a node without a row of forward edges no pair leads
-no_edge : (forwards backs : List ℕ) (u v w : ℕ) → u < 64 → rows_in forwards ≤ u → dangerous_picks (forwards_in forwards u v) (backs_in backs v w) ≡ true
-    → ⊥
+no_edge : (forwards backs : List ℕ) (u v w : ℕ) → u < 64 → rows_in forwards ≤ u
+    → dangerous_picks (forwards_in forwards u v) (backs_in backs v w) ≡ true → ⊥
 no_edge forwards backs u v w h l e =
     let none = ltb-true (leaves_at (backs_in backs v w)) (opens_below (forwards_in forwards u v))
     (sym (dangerous_words (entry forwards u v) (entry backs v w)) ∙ e) in

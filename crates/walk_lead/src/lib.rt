@@ -4,7 +4,7 @@
 // A dangerous pair is a forward edge from u to v and a back edge from v to w after it (W4); it leads from u to w.
 #![tactic(auto)]
 
-ghost use Rattle.std.specs.Prelude.{◌≡◌, ◌≤◌, ◌<◌, min};
+ghost use Rattle.std.specs.Prelude.{◌≡◌, ◌≤◌, ◌<◌};
 ghost use Rattle.walk_nodes.specs.Nodes.{with_node, rows_in};
 ghost use Rattle.walk_reach.specs.Layers.{joined_row, rows_filled};
 ghost use Rattle.walk_lead.specs.Leads.{leads_along, leads_through, leads_on, lead_row, leads_filled, earliest, early_filled};
@@ -12,109 +12,145 @@ ghost use Rattle.walk_lead.specs.Leads.{layers_at, wraps_from, wraps_among, wrap
 
 use edge_opens::{dangerous, leaves_at, opens_below};
 use edge_word::{NODES, PLACES};
-use walk_nodes::{capped, rows_in};
-use walk_reach::{joined_rows, layer_at, node_row};
+use walk_nodes::{capped, rows_in, with_node};
+use walk_reach::{joined_rows, layer_at, node_row, rows_by};
 use word_list::word_at;
 
-// The nodes of a word, and node w too where the forward edge of word e to v and the back edge from v to w are dangerous.
-fn with_lead(backs: &[u64], e: u64, v: usize, word: u64, w: usize) -> u64
-    requires { (v < 64) × (w < 64) }
-    ensures { result ≡ with_node word (leads_along backs.now e v w) w }
-{
-    let c = word_at(backs, v * NODES + w);
-    if dangerous(e, c) {
-        return word | (1u64 << w);
-    }
-    word
+// A node, and the nodes to which back edges go from it.
+#[derive(Clone, Copy)]
+struct Turn<'a> {
+    backs: &'a [u64],
+    v: usize,
+    nodes: u64,
+    ghost is_node: { v < 64 },
+    ghost row_told: { nodes ≡ joined_row backs.now v },
 }
 
-// The nodes to which a dangerous pair leads along the forward edge of word e to v. `turns` are the nodes to which back edges go from v: past the last
-// of them no word is looked at.
-fn leads_through(backs: &[u64], turns: u64, e: u64, v: usize) -> u64
-    requires { (v < 64) × (turns ≡ joined_row backs.now v) }
-    ensures { result ≡ leads_through backs.now e v }
-{
-    let mut word: u64 = 0;
-    let mut w: usize = 0;
-    while w < NODES {
-        if turns >> w == 0 {
+impl<'a> Turn<'a> {
+    // Node v, where the list has the row of each node.
+    fn listed(backs: &'a [u64], turns: &[u64; NODES], v: usize) -> Turn<'a>
+        requires { (v < 64) × (turns.now ≡ rows_filled backs.now) }
+        ensures { (result.backs.now ≡ backs.now) × (result.v ≡ v) }
+    {
+        Turn {
+            backs,
+            v,
+            nodes: turns[v],
+        }
+    }
+
+    // Node v with its row worked out.
+    fn worked(backs: &'a [u64], v: usize) -> Turn<'a>
+        requires { v < 64 }
+        ensures { (result.backs.now ≡ backs.now) × (result.v ≡ v) }
+    {
+        Turn {
+            backs,
+            v,
+            nodes: node_row(backs, v),
+        }
+    }
+
+    // The nodes of a word, and node w too where the forward edge of word e to v and the back edge from v to w are dangerous.
+    fn with_lead(&self, e: u64, word: u64, w: usize) -> u64
+        requires { w < 64 }
+        ensures { result ≡ with_node word (leads_along self.now.backs.now e self.now.v w) w }
+    {
+        let c = word_at(self.backs, self.v * NODES + w);
+        with_node(word, dangerous(e, c), w)
+    }
+
+    // The nodes to which a dangerous pair leads along the forward edge of word e to v. Past the last node to which a back edge goes no word is looked
+    // at.
+    fn leads_through(&self, e: u64) -> u64
+        ensures { result ≡ leads_through self.now.backs.now e self.now.v }
+    {
+        let mut word: u64 = 0;
+        for w in 0..NODES {
+            if self.nodes >> w == 0 {
+                return word;
+            }
+            word = self.with_lead(e, word, w);
+        }
+        word
+    }
+
+    // The first place at which a back edge leaves v, or 1024. Past the last node to which one goes no word is looked at.
+    fn first_place(&self) -> u64
+        ensures { result ≡ earliest self.now.backs.now self.now.v }
+    {
+        let mut best = PLACES;
+        for w in 0..NODES {
+            if self.nodes >> w == 0 {
+                return best;
+            }
+            best = best.min(leaves_at(word_at(self.backs, self.v * NODES + w)));
+        }
+        best
+    }
+
+    // The nodes of a word, and those to which a dangerous pair leads from u by way of v. Most edges are told by the nodes to which back edges go and
+    // by the first place that one leaves alone.
+    fn lead_onward(&self, forwards: &[u64], early: u64, u: usize, word: u64) -> u64
+        requires { (u < 64) × (early ≡ earliest self.now.backs.now self.now.v) }
+        ensures { result ≡ leads_on forwards.now self.now.backs.now u self.now.v word }
+    {
+        if word | self.nodes == word {
             return word;
         }
-        word = with_lead(backs, e, v, word, w);
-        w += 1;
-    }
-    word
-}
-
-// The lesser of two numbers.
-fn lesser(a: u64, b: u64) -> u64
-    ensures { result ≡ min a b }
-{
-    if b < a {
-        return b;
-    }
-    a
-}
-
-// The first place at which a back edge leaves v, or 1024. `turns` are the nodes to which one goes: past the last of them no word is looked at.
-fn first_place(backs: &[u64], turns: u64, v: usize) -> u64
-    requires { (v < 64) × (turns ≡ joined_row backs.now v) }
-    ensures { result ≡ earliest backs.now v }
-{
-    let mut best = PLACES;
-    let mut w: usize = 0;
-    while w < NODES {
-        if turns >> w == 0 {
-            return best;
+        let e = word_at(forwards, u * NODES + self.v);
+        let opens = opens_below(e);
+        if opens <= early {
+            return word;
         }
-        let l = leaves_at(word_at(backs, v * NODES + w));
-        best = lesser(best, l);
-        w += 1;
+        if opens == PLACES {
+            return word | self.nodes;
+        }
+        word | self.leads_through(e)
     }
-    best
+
+    // Whether some dangerous pair by way of v leads from u to one of its nodes in `reach`.
+    fn wraps_from(&self, forwards: &[u64], early: u64, reach: &[u64; NODES], u: usize) -> bool
+        requires { (u < 64) × (early ≡ earliest self.now.backs.now self.now.v) }
+        ensures { result ≡ wraps_from forwards.now self.now.backs.now reach.now self.now.v u }
+    {
+        let near = reach[u];
+        if self.nodes & near == 0 {
+            return false;
+        }
+        let e = word_at(forwards, u * NODES + self.v);
+        if opens_below(e) <= early {
+            return false;
+        }
+        self.leads_through(e) & near != 0
+    }
+
+    // Whether some dangerous pair by way of v leads from a node to one of its nodes in `reach`.
+    fn wraps_at(&self, forwards: &[u64], reach: &[u64; NODES]) -> bool
+        ensures { result ≡ wraps_among forwards.now self.now.backs.now reach.now (rows_in forwards.now) self.now.v }
+    {
+        if self.nodes == 0 {
+            return false;
+        }
+        let early = self.first_place();
+        for u in 0..rows_in(forwards) {
+            if self.wraps_from(forwards, early, reach, u) {
+                return true;
+            }
+        }
+        false
+    }
 }
 
-// The same for each node that has a row.
+// For each node that has a row of back edges the first place at which one leaves it.
 fn first_places(backs: &[u64], turns: &[u64; NODES]) -> [u64; NODES]
     requires { turns.now ≡ rows_filled backs.now }
     ensures { result ≡ early_filled backs.now }
 {
-    let n = rows_in(backs);
-    let mut early = [0u64; NODES];
-    let mut v: usize = 0;
-    while v < n {
-        early[v] = first_place(backs, turns[v], v);
-        v += 1;
-    }
-    early
-}
-
-// The nodes of a word, and those to which a dangerous pair leads from u by way of v, from where back edges go (`turns`) and where the first leaves.
-// Most edges are told by these alone.
-fn lead_onward(
-    forwards: &[u64],
-    backs: &[u64],
-    turns: u64,
-    early: u64,
-    u: usize,
-    v: usize,
-    word: u64,
-) -> u64
-    requires { (u < 64) × (v < 64) × (turns ≡ joined_row backs.now v) × (early ≡ earliest backs.now v) }
-    ensures { result ≡ leads_on forwards.now backs.now u v word }
-{
-    if word | turns == word {
-        return word;
-    }
-    let e = word_at(forwards, u * NODES + v);
-    let opens = opens_below(e);
-    if opens <= early {
-        return word;
-    }
-    if opens == PLACES {
-        return word | turns;
-    }
-    word | leads_through(backs, turns, e, v)
+    rows_by(
+        rows_in(backs),
+        |v| Turn::listed(backs, turns, v).first_place(),
+    )
 }
 
 // The nodes to which a dangerous pair leads from u.
@@ -128,12 +164,10 @@ fn lead_row(
     requires { (u < 64) × (turns.now ≡ rows_filled backs.now) × (early.now ≡ early_filled backs.now) }
     ensures { result ≡ lead_row forwards.now backs.now u }
 {
-    let n = rows_in(backs);
     let mut word: u64 = 0;
-    let mut v: usize = 0;
-    while v < n {
-        word = lead_onward(forwards, backs, turns[v], early[v], u, v, word);
-        v += 1;
+    for v in 0..rows_in(backs) {
+        let turn = Turn::listed(backs, turns, v);
+        word = turn.lead_onward(forwards, early[v], u, word);
     }
     word
 }
@@ -144,14 +178,10 @@ pub fn lead_rows(forwards: &[u64], backs: &[u64]) -> [u64; NODES]
 {
     let turns = joined_rows(backs);
     let early = first_places(backs, &turns);
-    let n = rows_in(forwards);
-    let mut rows = [0u64; NODES];
-    let mut u: usize = 0;
-    while u < n {
-        rows[u] = lead_row(forwards, backs, &turns, &early, u);
-        u += 1;
-    }
-    rows
+    rows_by(
+        rows_in(forwards),
+        |u| lead_row(forwards, backs, &turns, &early, u),
+    )
 }
 
 // For each node below n the nodes from which it is reached in at most d steps.
@@ -159,57 +189,7 @@ fn layers_at(rows: &[u64], d: usize, n: usize) -> [u64; NODES]
     requires { n ≤ 64 }
     ensures { result ≡ layers_at rows.now d n }
 {
-    let mut reach = [0u64; NODES];
-    let mut u: usize = 0;
-    while u < n {
-        reach[u] = layer_at(rows, u, d);
-        u += 1;
-    }
-    reach
-}
-
-// Whether some dangerous pair by way of v leads from u to one of its nodes in `reach`.
-fn wraps_from(
-    forwards: &[u64],
-    backs: &[u64],
-    turns: u64,
-    early: u64,
-    reach: &[u64; NODES],
-    v: usize,
-    u: usize,
-) -> bool
-    requires { (u < 64) × (v < 64) × (turns ≡ joined_row backs.now v) × (early ≡ earliest backs.now v) }
-    ensures { result ≡ wraps_from forwards.now backs.now reach.now v u }
-{
-    let near = reach[u];
-    if turns & near == 0 {
-        return false;
-    }
-    let e = word_at(forwards, u * NODES + v);
-    if opens_below(e) <= early {
-        return false;
-    }
-    leads_through(backs, turns, e, v) & near != 0
-}
-
-// Whether some dangerous pair by way of v leads from a node to one of its nodes in `reach`.
-fn wraps_at(forwards: &[u64], backs: &[u64], turns: u64, reach: &[u64; NODES], v: usize) -> bool
-    requires { (v < 64) × (turns ≡ joined_row backs.now v) }
-    ensures { result ≡ wraps_among forwards.now backs.now reach.now (rows_in forwards.now) v }
-{
-    if turns == 0 {
-        return false;
-    }
-    let early = first_place(backs, turns, v);
-    let n = rows_in(forwards);
-    let mut u: usize = 0;
-    while u < n {
-        if wraps_from(forwards, backs, turns, early, reach, v, u) {
-            return true;
-        }
-        u += 1;
-    }
-    false
+    rows_by(n, |u| layer_at(rows, u, d))
 }
 
 // The first node below `below`, and below 64, by way of which a dangerous pair leads from a node to one from which that node is reached in at most d
@@ -223,13 +203,10 @@ pub fn wrap_start(forwards: &[u64], backs: &[u64], rows: &[u64], d: usize, below
     let end = capped(below);
     let n = rows_in(forwards);
     let reach = layers_at(rows, d, n);
-    let mut v: usize = 0;
-    while v < end {
-        let turns = node_row(backs, v);
-        if wraps_at(forwards, backs, turns, &reach, v) {
+    for v in 0..end {
+        if Turn::worked(backs, v).wraps_at(forwards, &reach) {
             return v;
         }
-        v += 1;
     }
     end
 }

@@ -10,6 +10,7 @@ ghost use Rattle.walk_limit.specs.Limits.{starting_limit_at, limit_at, limit_amo
 use edge_word::NODES;
 use pick_laws::Going;
 use walk_nodes::capped;
+use walk_reach::fill_words;
 use word_list::{has_bit, word_at};
 
 // Below which place a first step into y must leave if it is a back one: the walk's last step must open it.
@@ -62,10 +63,5 @@ pub fn limits_in(ways: &[u64], wide: &[u64], nodes: u64, r: usize, going: Going,
         limits.old limits.new }
 {
     let n = capped(limits.len());
-    let mut y: usize = 0;
-    while y < n {
-        let x = limit_among(ways, wide, nodes, r, going, y);
-        limits[y] = x;
-        y += 1;
-    }
+    fill_words(limits, n, |y| limit_among(ways, wide, nodes, r, going, y));
 }

@@ -102,7 +102,8 @@ module _ (wide : List ℕ) (s k r y : ℕ) where
   unfolding ending_need
   ending_elsewhere e h = rw (e, ne_eqb y s h) refl
 
-  pub ending_later : (r ≡ 0 → ⊥) → {x : ℕ} {b : Bool} {n : ℕ} → x ≡ wide_at wide (r - 1) y → b ≡ ltb k x → n ≡ only_if b → n ≡ ending_need wide s k r y
+  pub ending_later : (r ≡ 0 → ⊥) → {x : ℕ} {b : Bool} {n : ℕ} → x ≡ wide_at wide (r - 1) y → b ≡ ltb k x → n ≡ only_if b
+      → n ≡ ending_need wide s k r y
   unfolding ending_need
   ending_later left {x} {b} {n} e h q = by_left r left (q ∙ ap only_if (h ∙ ap (ltb k) e))
     where

@@ -13,9 +13,10 @@ use edge_opens::leaves_at;
 use edge_word::{NODES, PLACES};
 use pick_laws::Going;
 use walk_nodes::capped;
+use walk_reach::fill_words;
 use word_list::{has_bit, word_at};
 
-// Further than any edge opens: no step counts that needs so much.
+// Further than any edge opens: no step counts that needs so much. A number and not None, since what a step opens is compared with its need alone.
 const NEVER: u64 = 1025;
 
 // The place at which a back edge leaves x for y, where y is one of the nodes; else 1024.
@@ -29,16 +30,6 @@ fn leaves_for(backs: &[u64], nodes: u64, x: usize, y: usize) -> u64
     PLACES
 }
 
-// The lesser of two numbers.
-fn lesser(a: u64, b: u64) -> u64
-    ensures { result ≡ min a b }
-{
-    if b < a {
-        return b;
-    }
-    a
-}
-
 // The first place at which a back edge leaves x for one of the nodes, or 1024 where none does. No word is looked at where x has no row, or past the
 // last of the nodes.
 fn first_leaving(backs: &[u64], nodes: u64, x: usize) -> u64
@@ -49,14 +40,11 @@ fn first_leaving(backs: &[u64], nodes: u64, x: usize) -> u64
         return PLACES;
     }
     let mut best = PLACES;
-    let mut y: usize = 0;
-    while y < NODES {
+    for y in 0..NODES {
         if nodes >> y == 0 {
             return best;
         }
-        let l = leaves_for(backs, nodes, x, y);
-        best = lesser(best, l);
-        y += 1;
+        best = best.min(leaves_for(backs, nodes, x, y));
     }
     best
 }
@@ -112,47 +100,47 @@ fn ending_need(wide: &[u64], s: usize, k: u64, r: usize, y: usize) -> u64
     only_if(k < wide_at(wide, r - 1, y))
 }
 
-// How far a forward step into y must open, where r steps are left after it.
-fn need_at(
-    backs: &[u64],
-    ways: &[u64],
-    opened: &[u64],
-    wide: &[u64],
-    s: usize,
-    r: usize,
-    going: Going,
-    y: usize,
-) -> u64
-    requires { y < 64 }
-    ensures { result ≡ need_at backs.now ways.now opened.now wide.now s r going y }
-{
-    match going {
-        Going::Starting => opening_need(backs, ways, opened, r, y),
-        Going::Opening(_k) => opening_need(backs, ways, opened, r, y),
-        Going::Closing => only_if(has_bit(word_at(ways, r), y as u64)),
-        Going::Ending(k) => ending_need(wide, s, k, r, y),
-    }
-}
-
-// The same where y is one of the nodes; no step into another counts.
-fn need_among(
-    backs: &[u64],
-    ways: &[u64],
-    opened: &[u64],
-    wide: &[u64],
+// What is asked of a forward step: the tables that tell it, the node at which the walk ends, the nodes that count, how many steps are left after the
+// step, and the phase.
+#[derive(Clone, Copy)]
+struct Asked<'a> {
+    backs: &'a [u64],
+    ways: &'a [u64],
+    opened: &'a [u64],
+    wide: &'a [u64],
     s: usize,
     nodes: u64,
     r: usize,
     going: Going,
-    y: usize,
-) -> u64
-    requires { y < 64 }
-    ensures { result ≡ need_among backs.now ways.now opened.now wide.now s nodes r going y }
-{
-    if has_bit(nodes, y as u64) {
-        return need_at(backs, ways, opened, wide, s, r, going, y);
+}
+
+impl<'a> Asked<'a> {
+    // How far a step into y must open.
+    fn need_at(&self, y: usize) -> u64
+        requires { y < 64 }
+        ensures { result ≡ need_at self.now.backs.now self.now.ways.now self.now.opened.now self.now.wide.now self.now.s
+            self.now.r self.now.going y }
+    {
+        match self.going {
+            Going::Starting | Going::Opening(_) => {
+                opening_need(self.backs, self.ways, self.opened, self.r, y)
+            }
+            Going::Closing => only_if(has_bit(word_at(self.ways, self.r), y as u64)),
+            Going::Ending(k) => ending_need(self.wide, self.s, k, self.r, y),
+        }
     }
-    NEVER
+
+    // The same where y is one of the nodes; no step into another counts.
+    fn need_among(&self, y: usize) -> u64
+        requires { y < 64 }
+        ensures { result ≡ need_among self.now.backs.now self.now.ways.now self.now.opened.now self.now.wide.now self.now.s
+            self.now.nodes self.now.r self.now.going y }
+    {
+        if has_bit(self.nodes, y as u64) {
+            return self.need_at(y);
+        }
+        NEVER
+    }
 }
 
 // Writes how far a forward step into each node must open, for as many nodes as there is room for, 64 at most, where r steps are left after it; only
@@ -171,11 +159,16 @@ pub fn needs_in(
     ensures { Written (need_among backs.now ways.now opened.now wide.now s nodes r going) 0
         (min (length needs.old) 64) needs.old needs.new }
 {
+    let asked = Asked {
+        backs,
+        ways,
+        opened,
+        wide,
+        s,
+        nodes,
+        r,
+        going,
+    };
     let n = capped(needs.len());
-    let mut y: usize = 0;
-    while y < n {
-        let x = need_among(backs, ways, opened, wide, s, nodes, r, going, y);
-        needs[y] = x;
-        y += 1;
-    }
+    fill_words(needs, n, |y| asked.need_among(y));
 }

@@ -1,9 +1,11 @@
 -- Words and lists that are filled one by one, the word of one node, and the rows of a table.
 use Rattle.std.specs.Prelude.{◌≡◌, Bool, true, false, cond, ◌||◌, List, ◌⊎◌, eqb, ltb, length, get_or, set, replicate, take}
 use Rattle.std.proofs.Math.Path.{refl, sym, ap}
-use Rattle.std.proofs.Common.{ap₂, ◌∙◌, inl, inr, one-mul, mod-eq_of_lt, not-suc-le-zero, add-one, length-set, length-take, shr-shr, get_or-set_same, get_or-set_other, get_or-take}
+use Rattle.std.proofs.Common.{ap₂, ◌∙◌, inl, inr, one-mul, mod-eq_of_lt, not-suc-le-zero, add-one}
+use Rattle.std.proofs.Common.{length-set, length-take, shr-shr, get_or-set_same, get_or-set_other, get_or-take}
 use Prim.Native.Nat.{ℕ, zero, suc, ◌+◌, ◌-◌, ◌*◌, ◌/◌, ◌%◌, ◌^◌, ◌≤◌, ◌<◌, min}
 use Rattle.std.proofs.Math.Nat.{zero-div}
+use Rattle.std.proofs.Math.Bool.{or-false}
 use Rattle.std.proofs.Math.Decide.{dec_lt}
 use native.Mathlib.Omega.{arith}
 use Rattle.std.specs.Int.Bits.{bit_and, bit_or}
@@ -45,19 +47,15 @@ last_turn f n k e h l = let same : k ≡ n = omega arith in e ∙ ap f same
 
 -- ---- what they hold
 
-or_none : (b : Bool) → b || false ≡ b
-or_none true = refl
-or_none false = refl
-
 with_same : (word : ℕ) (b : Bool) (j : ℕ) → has (with_node word b j) j ≡ has word j || b
 unfolding with_node
 with_same word true j = has_bit_or word (2 ^ j) j ∙ ap (λ (c : Bool). has word j || c) (has_bit j j ∙ eq-eqb j j refl)
-with_same word false j = sym (or_none (has word j))
+with_same word false j = sym (or-false (has word j))
 
 with_other : (word : ℕ) (b : Bool) (j k : ℕ) → (k ≡ j → ⊥) → has (with_node word b j) k ≡ has word k
 unfolding with_node
 with_other word true j k h =
-    has_bit_or word (2 ^ j) k ∙ ap (λ (c : Bool). has word k || c) (has_bit j k ∙ ne_eqb k j h) ∙ or_none (has word k)
+    has_bit_or word (2 ^ j) k ∙ ap (λ (c : Bool). has word k || c) (has_bit j k ∙ ne_eqb k j h) ∙ or-false (has word k)
 with_other word false j k h = refl
 
 module _ (test : ℕ → Bool) where
@@ -136,7 +134,8 @@ list_at f (suc n) i h l = go (λ k. list_at f n i (omega arith) k) (decide (eqb 
     go rest (inr e) =
         let apart = eqb-false i n e in get_or-set_other (list_below f n) n i (f n) 0 apart ∙ rest (omega arith)
 
-zeros_at : (n i : ℕ) → get_or {A = ℕ} (replicate n 0) i 0 ≡ 0
+-- a word of a list of zeros
+pub zeros_at : (n i : ℕ) → get_or {A = ℕ} (replicate n 0) i 0 ≡ 0
 zeros_at zero i = refl
 zeros_at (suc n) zero = refl
 zeros_at (suc n) (suc i) = zeros_at n i

@@ -6,27 +6,21 @@ ghost use Rattle.std.specs.Prelude.{cond, ◌≡◌, ◌≤◌, min};
 ghost use Rattle.std.specs.Int.Bits.{bit_or};
 ghost use Rattle.walk_nodes.specs.Nodes.{rows_in, nodes_into, node_word, grown};
 
-use edge_word::{NODES, PAIRS};
+use edge_word::NODES;
 
 // How many rows of 64 words a table has, the last of them perhaps in part, and at most 64.
+#[tactic(auto, unfolding(crate::specs::Nodes::rows_in))]
 pub fn rows_in(table: &[u64]) -> usize
     ensures { (result ≡ rows_in table.now) × (result ≤ 64) }
 {
-    let n = table.len();
-    if n < PAIRS {
-        return (n + 63) / NODES;
-    }
-    NODES
+    ((table.len() + 63) / NODES).min(NODES)
 }
 
 // A number, but at most 64.
 pub fn capped(x: usize) -> usize
     ensures { result ≡ min x 64 }
 {
-    if x < NODES {
-        return x;
-    }
-    NODES
+    x.min(NODES)
 }
 
 // The word of node u alone; none where u is no node.
@@ -53,12 +47,9 @@ pub fn with_node(word: u64, test: bool, k: usize) -> u64
 pub fn nodes_into(rows: &[u64], nodes: u64) -> u64
     ensures { result ≡ nodes_into rows.now nodes }
 {
-    let n = capped(rows.len());
     let mut word: u64 = 0;
-    let mut x: usize = 0;
-    while x < n {
+    for x in 0..capped(rows.len()) {
         word = with_node(word, rows[x] & nodes != 0, x);
-        x += 1;
     }
     word
 }

@@ -17,15 +17,13 @@ ghost use Rattle.place_row.specs.RowTable.{row_at, row_count};
 mod leaving;
 
 use edge_count::Counts;
-use edge_kinds::{LOOSE, kind_has, kind_of};
+use edge_kinds::{LOOSE, kind_has};
 use edge_pair::{Entered, Left, entered_words, left_words};
 use edge_word::{NODES, PLACES, back_word, forward_word};
 use leaving::Leaving;
-use place_fetch::row_count;
+use place_fetch::{row_count, row_of};
 use place_next::chain_rows;
-use place_row::{
-    KEYS, KIND, PLACE, READS, RELATION, ROW_WORDS, ROWS, Row, TABLE_WORDS, TESTS, WRITES,
-};
+use place_row::{ROW_WORDS, ROWS, Row, TABLE_WORDS};
 use word_list::clear;
 use word_rows::put_row;
 
@@ -87,23 +85,12 @@ fn keep_between(words: &mut [u64], limit: usize, p: Row, q: Row, word: u64)
 }
 
 // Row number j, which is whole.
-#[tactic(auto, unfolding(place_row::specs::RowTable::row_at))]
 fn whole_row(table: &[u64], j: usize) -> Row
     requires { WholeRow table.now j }
     ensures { result ≡ row_at table.now j }
 {
-    let b = j * ROW_WORDS;
-    let k = kind_of(table[b + KIND]);
-    Row {
-        node: table[b],
-        place: table[b + PLACE],
-        kind: k,
-        relation: table[b + RELATION],
-        reads: table[b + READS],
-        writes: table[b + WRITES],
-        tests: table[b + TESTS],
-        keys: table[b + KEYS],
-    }
+    let (rows, _) = table.as_chunks::<ROW_WORDS>();
+    row_of(&rows[j])
 }
 
 // Whether a row goes on a run of the row before it on its chain.

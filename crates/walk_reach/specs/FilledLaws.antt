@@ -1,5 +1,5 @@
 -- Lists of words that are filled one by one, whatever their size, and words that are written in place.
-use Rattle.std.specs.Prelude.{◌≡◌, refl, length}
+use Rattle.std.specs.Prelude.{◌≡◌, refl, length, replicate}
 use Rattle.std.proofs.Common.{sym, subst, ◌∙◌, not-suc-le-zero, arith, lt-ltb, le-ltb}
 use Rattle.std.proofs.Math.Path.{ap, ap₂}
 use mathlib.Core.List.{List}
@@ -9,7 +9,10 @@ use Rattle.std.proofs.Math.Numerals.{add-one}
 use Rattle.std.proofs.Math.ListN.{get_or, set, length-set, length-replicate}
 use Rattle.std.proofs.Math.Seq.{get_or-set_same, get_or-set_other}
 use Rattle.word_list.specs.Clear.{Cleared}
-use Rattle.walk_reach.specs.Layers.{filled, Written, wide_at}
+use Rattle.std.proofs.lemmas.Grind.{same_number_lists}
+use Rattle.walk_nodes.specs.Nodes.{list_below}
+use Rattle.walk_nodes.specs.NodeWordLaws.{list_length, list_at, list_past, zeros_at}
+use Rattle.walk_reach.specs.Layers.{filled, Written, FilledBy, wide_at}
 
 module _ (size : ℕ) (f : ℕ → ℕ) where
   -- a turn of a loop that fills the next word
@@ -84,6 +87,30 @@ module _ (f : ℕ → ℕ) where
   pub written_end : {from i to : ℕ} {before after : List ℕ} → i ≤ to → to ≤ i → Written f from i before after → Written f from to before after
   written_end {from} {i} {to} {before} {after} h l p =
       let same : i ≡ to = omega arith in subst (λ (k : ℕ). Written f from k before after) same p
+
+-- ---- words that a function tells
+
+module _ {told : ℕ → ℕ → Type 0} where
+  -- where the function tells what is to be written, that is written
+  pub written_by : (f : ℕ → ℕ) (n : ℕ) {before after : List ℕ} → ((i x : ℕ) → i < n → told i x → x ≡ f i) → FilledBy told n before after
+      → Written f 0 n before after
+  written_by f n same p =
+      record {
+        size = p.size;
+        inside = λ i h l. same i _ l (p.inside i l);
+        below = λ i h. absurd (not-suc-le-zero h);
+        above = p.above;
+      }
+
+  -- and 64 words are filled by it
+  pub rows_told : (f : ℕ → ℕ) (n : ℕ) {rows : List ℕ} → n ≤ 64 → ((i x : ℕ) → i < n → told i x → x ≡ f i) → FilledBy told n (replicate 64 0) rows
+      → rows ≡ list_below f n
+  rows_told f n {rows} few same p =
+      same_number_lists rows (list_below f n) (p.size ∙ length-replicate {A = ℕ} 64 0 ∙ sym (list_length f n)) (λ i h. go i (dec_lt i n))
+    where
+      go : (i : ℕ) → Dec (i < n) → get_or rows i 0 ≡ get_or (list_below f n) i 0
+      go i (yes l) = same i _ l (p.inside i l) ∙ sym (list_at f n i few l)
+      go i (no d) = p.above i (omega arith) ∙ zeros_at 64 i ∙ sym (list_past f n i (omega arith))
 
 -- a word of a table
 pub wide_inside : (wide : List ℕ) (r y : ℕ) {x : ℕ} → r < 64 → x ≡ get_or wide (r * 64 + y) 0 → x ≡ wide_at wide r y

@@ -17,6 +17,12 @@ pub record Written (f : ℕ → ℕ) (from to : ℕ) (before after : List ℕ) :
   pub below : (i : ℕ) → i < from → get_or after i 0 ≡ get_or before i 0
   pub above : (i : ℕ) → to ≤ i → get_or after i 0 ≡ get_or before i 0
 
+-- each of the first n words is one that its place may have, the others are as before
+pub record FilledBy (told : ℕ → ℕ → Type 0) (n : ℕ) (before after : List ℕ) : Type 0 where
+  pub size : length after ≡ length before
+  pub inside : (i : ℕ) → i < n → told i (get_or after i 0)
+  pub above : (i : ℕ) → n ≤ i → get_or after i 0 ≡ get_or before i 0
+
 -- the words from one to another are 0
 pub record Blank (table : List ℕ) (from to : ℕ) : Type 0 where
   pub none : (i : ℕ) → from ≤ i → i < to → get_or table i 0 ≡ 0

@@ -2,12 +2,34 @@
 // table need only be as long as the rows of its nodes, and a list of rows too: what is past the end counts as 0.
 #![tactic(auto)]
 
-ghost use Rattle.std.specs.Prelude.{cond, ◌≡◌, ◌+◌, ◌*◌, ◌≤◌, ◌<◌, ltb, length};
+ghost use Rattle.std.specs.Prelude.{cond, ◌≡◌, ℕ, ◌+◌, ◌*◌, ◌≤◌, ◌<◌, ltb, length, replicate};
 ghost use Rattle.walk_nodes.specs.Nodes.{word_below};
-ghost use Rattle.walk_reach.specs.Layers.{Blank, joined_bit, joined_row, rows_filled, layer};
+ghost use Rattle.walk_reach.specs.Layers.{Blank, FilledBy, joined_bit, joined_row, rows_filled, layer};
 
 use edge_word::NODES;
 use walk_nodes::{grow, node_word, rows_in, with_node};
+
+// Writes into each of the first n words what the function tells of its place. The other words stay as they were.
+pub fn fill_words<F: Fn(usize) -> u64>(words: &mut [u64], n: usize, word_of: F)
+    requires room { n ≤ length words.old }
+    requires callable { (i : ℕ) → i < n → F.pre word_of i }
+    ensures { FilledBy (F.post word_of) n words.old words.new }
+{
+    for i in 0..n {
+        words[i] = word_of(i);
+    }
+}
+
+// A word for each node: for the first n of them as the function tells, and 0 for the others.
+pub fn rows_by<F: Fn(usize) -> u64>(n: usize, word_of: F) -> [u64; NODES]
+    requires few { n ≤ 64 }
+    requires callable { (i : ℕ) → i < n → F.pre word_of i }
+    ensures { FilledBy (F.post word_of) n (replicate 64 0) result }
+{
+    let mut rows = [0u64; NODES];
+    fill_words(&mut rows, n, word_of);
+    rows
+}
 
 // Words from one to another as one word: it is 0 where they all are.
 fn words_joined(table: &[u64], from: usize, to: usize) -> u64
@@ -15,10 +37,8 @@ fn words_joined(table: &[u64], from: usize, to: usize) -> u64
     ensures { result ≡ 0 → Blank table.now from to }
 {
     let mut all: u64 = 0;
-    let mut i = from;
-    while i < to {
-        all = all | table[i];
-        i += 1;
+    for i in from..to {
+        all |= table[i];
     }
     all
 }
@@ -29,10 +49,8 @@ fn row_below(forwards: &[u64], u: usize, end: usize) -> u64
     ensures { result ≡ word_below (joined_bit forwards.now u) end }
 {
     let mut word: u64 = 0;
-    let mut v: usize = 0;
-    while v < end {
+    for v in 0..end {
         word = with_node(word, forwards[u * NODES + v] != 0, v);
-        v += 1;
     }
     word
 }
@@ -82,13 +100,7 @@ pub fn joined_rows(forwards: &[u64]) -> [u64; NODES]
     ensures { result ≡ rows_filled forwards.now }
 {
     let n = rows_in(forwards);
-    let mut rows = [0u64; NODES];
-    let mut u: usize = 0;
-    while u < n {
-        rows[u] = joined_row(forwards, u, n);
-        u += 1;
-    }
-    rows
+    rows_by(n, |u| joined_row(forwards, u, n))
 }
 
 // The nodes from which u is reached along forward edges in at most d steps; none where u is no node. Once a step adds nothing, none does.
@@ -96,14 +108,12 @@ pub fn layer_at(rows: &[u64], u: usize, d: usize) -> u64
     ensures { result ≡ layer rows.now u d }
 {
     let mut nodes = node_word(u);
-    let mut k: usize = 0;
-    while k < d {
+    for _k in 0..d {
         let next = grow(rows, nodes);
         if next == nodes {
             return nodes;
         }
         nodes = next;
-        k += 1;
     }
     nodes
 }

@@ -1,6 +1,6 @@
 -- Returns turn by turn: one law for each path of the code.
-use Rattle.std.specs.Prelude.{◌≡◌, List, ℕ, zero, suc, ◌+◌, ◌-◌, ◌≤◌, ◌<◌, min, length, get_or}
-use Rattle.std.proofs.Common.{sym, ap₂, ◌∙◌, add-one}
+use Rattle.std.specs.Prelude.{◌≡◌, List, ℕ, ◌+◌, ◌-◌, ◌≤◌, ◌<◌, min, length, get_or}
+use Rattle.std.proofs.Common.{sym, ◌∙◌, add-one}
 use Rattle.std.proofs.Math.Path.{ap}
 use Rattle.std.proofs.Math.Decide.{dec_lt}
 use native.Mathlib.Omega.{arith}
@@ -9,7 +9,7 @@ use Rattle.std.proofs.Math.ListN.{get_or-eq_default}
 use Rattle.spec_base.specs.Basic.{meets}
 use Rattle.law_base.specs.SetLaws.{meets_empty}
 use Rattle.pick_laws.specs.Completing.{least_below}
-use Rattle.pick_laws.specs.LeastLaws.{least_most}
+use Rattle.pick_laws.specs.LeastLaws.{least_rest}
 use Rattle.walk_nodes.specs.Nodes.{grown}
 use Rattle.walk_reach.specs.Layers.{layer}
 use Rattle.walk_reach.specs.LayerLaws.{layer_still}
@@ -67,21 +67,6 @@ pub return_turn : (rows leads : List ℕ) (u : ℕ) {least more : ℕ} → least
 unfolding least_below return_from
 return_turn rows leads u a b = rw add-one (b ∙ ap (λ (k : ℕ). min k (first_meeting rows (get_or leads u 0) u)) a)
 
--- numbers from which on nothing is less change nothing
-least_rest : (f : ℕ → ℕ) (most n m : ℕ) → n ≤ m → ((k : ℕ) → n ≤ k → most ≤ f k) → least_below f most n ≡ least_below f most m
-unfolding least_below
-least_rest f most n zero h past = let none : n ≡ 0 = omega arith in ap (least_below f most) none
-least_rest f most n (suc m) h past = go (λ l. least_rest f most n m l past) (dec_lt m n)
-  where
-    go : (n ≤ m → least_below f most n ≡ least_below f most m) → Dec (m < n) → least_below f most n ≡ min (least_below f most m) (f m)
-    go rest (yes l) = let last : n ≡ suc m = omega arith in ap (least_below f most) last
-    go rest (no d) =
-        let l : n ≤ m = omega arith in
-        let same = rest l in
-        let big = past m l in
-        let small = least_most f most m in
-        omega arith
-
 -- the end of the loop over the nodes for which one stands
 pub return_end : (rows leads : List ℕ) {least u n : ℕ} → n ≡ min (length leads) 64 → least ≡ least_below (return_from rows leads) 64 u → u ≤ n → n ≤ u
     → least ≡ shortest_return rows leads
@@ -92,5 +77,5 @@ return_end rows leads {least} {u} {n} m e h l = e ∙ go (dec_lt (length leads) 
     past k i = let none = meeting_none rows (get_or leads k 0) k (get_or-eq_default leads 0 i) in omega arith
 
     go : Dec (length leads < 64) → least_below (return_from rows leads) 64 u ≡ least_below (return_from rows leads) 64 64
-    go (yes i) = least_rest (return_from rows leads) 64 u 64 (omega arith) (λ k j. past k (omega arith))
+    go (yes i) = least_rest (return_from rows leads) 64 u 64 (omega arith) (λ k j _. past k (omega arith))
     go (no i) = let same : u ≡ 64 = omega arith in ap (least_below (return_from rows leads) 64) same

@@ -18,8 +18,7 @@ fn return_from(rows: &[u64], nodes: u64, u: usize, most: usize) -> usize
         return most;
     }
     let mut layer = node_word(u);
-    let mut d: usize = 0;
-    while d < most {
+    for d in 0..most {
         if nodes & layer != 0 {
             return d;
         }
@@ -28,7 +27,6 @@ fn return_from(rows: &[u64], nodes: u64, u: usize, most: usize) -> usize
             return most;
         }
         layer = next;
-        d += 1;
     }
     most
 }
@@ -37,12 +35,9 @@ fn return_from(rows: &[u64], nodes: u64, u: usize, most: usize) -> usize
 pub fn shortest_return(rows: &[u64], leads: &[u64]) -> usize
     ensures { result ≡ shortest_return rows.now leads.now }
 {
-    let n = capped(leads.len());
     let mut least = NODES;
-    let mut u: usize = 0;
-    while u < n {
+    for u in 0..capped(leads.len()) {
         least = return_from(rows, leads[u], u, least);
-        u += 1;
     }
     least
 }

@@ -1,5 +1,5 @@
 -- The tables turn by turn, one law for each path of the code.
-use Rattle.std.specs.Prelude.{◌≡◌, Bool, false, List, length, set, replicate}
+use Rattle.std.specs.Prelude.{◌≡◌, Bool, false, List, set, replicate}
 use Rattle.std.proofs.Math.Path.{refl, sym, ap, ap₂}
 use Rattle.std.proofs.Common.{◌∙◌, eq-eqb, ne_eqb}
 use Prim.Native.Nat.{ℕ, suc, ◌+◌, ◌-◌, ◌≤◌, ◌<◌, min}
@@ -27,7 +27,8 @@ unfolding filled exact_word
 ways_first rows s p = ap (set (replicate 65 0) 0) p
 
 -- one step more
-pub way_turn : (rows : List ℕ) (s r : ℕ) {nodes more : ℕ} → nodes ≡ exact_word rows s r → more ≡ nodes_into rows nodes → more ≡ exact_word rows s (r + 1)
+pub way_turn : (rows : List ℕ) (s r : ℕ) {nodes more : ℕ} → nodes ≡ exact_word rows s r → more ≡ nodes_into rows nodes
+    → more ≡ exact_word rows s (r + 1)
 unfolding exact_word
 way_turn rows s r p q = rw add-one (q ∙ ap (nodes_into rows) p)
 

@@ -104,7 +104,8 @@ module _ (forwards backs : List ℕ) (n : ℕ) (full : n ≡ 64) (lead_rows : Li
   opening_has s steps zero x h l k = has_empty x ∙ sym (needed_none (forwards_in forwards) (backs_in backs) n s x)
   opening_has s steps (suc zero) x h l k =
       has_empty x
-      ∙ sym (needed_first (forwards_in forwards) (backs_in backs) n s (λ u v. word_opens (entry forwards u v)) (λ v w. word_leaves (entry backs v w)) x)
+      ∙ sym (needed_first (forwards_in forwards) (backs_in backs) n s (λ u v. word_opens (entry forwards u v))
+      (λ v w. word_leaves (entry backs v w)) x)
   opening_has s steps (suc (suc r)) x h l k =
       let ways = ways_to (joined_rows forwards) s steps in
       let now = opening (joined_rows forwards) lead_rows ways (suc r) in

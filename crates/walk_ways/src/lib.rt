@@ -2,7 +2,7 @@
 // has for each node the nodes to which a forward edge goes from it (walk_reach), `leads` those to which a dangerous pair of edges leads from it.
 #![tactic(auto)]
 
-ghost use Rattle.std.specs.Prelude.{◌≡◌, ◌≤◌, ◌<◌, min};
+ghost use Rattle.std.specs.Prelude.{◌≡◌, ◌≤◌, ◌<◌};
 ghost use Rattle.walk_ways.specs.Ways.{ways_to, next_opening, opening, openings, starts_at, first_start};
 
 use edge_word::NODES;
@@ -14,29 +14,17 @@ pub const WAYS: usize = 65;
 
 pub const OPENINGS: usize = 66;
 
-// A number, but at most `most`.
-fn capped(x: usize, most: usize) -> usize
-    ensures { result ≡ min x most }
-{
-    if x < most {
-        return x;
-    }
-    most
-}
-
 // For each number of steps up to `steps`, and up to 64, the nodes from which exactly so many forward steps lead to s; the other words are 0.
 pub fn ways_to(rows: &[u64], s: usize, steps: usize) -> [u64; WAYS]
     ensures { result ≡ ways_to rows.now s steps }
 {
-    let last = capped(steps, NODES);
+    let last = steps.min(NODES);
     let mut ways = [0u64; WAYS];
     let mut nodes = node_word(s);
     ways[0] = nodes;
-    let mut r: usize = 0;
-    while r < last {
+    for r in 0..last {
         nodes = nodes_into(rows, nodes);
-        r += 1;
-        ways[r] = nodes;
+        ways[r + 1] = nodes;
     }
     ways
 }
@@ -57,15 +45,13 @@ fn next_opening(rows: &[u64], leads: &[u64], ways: &[u64; WAYS], r: usize, nodes
 pub fn openings(rows: &[u64], leads: &[u64], ways: &[u64; WAYS], steps: usize) -> [u64; OPENINGS]
     ensures { result ≡ openings rows.now leads.now ways.now steps }
 {
-    let last = capped(steps, WAYS);
+    let last = steps.min(WAYS);
     let mut words = [0u64; OPENINGS];
     let mut nodes: u64 = 0;
     words[0] = nodes;
-    let mut r: usize = 0;
-    while r < last {
+    for r in 0..last {
         nodes = next_opening(rows, leads, ways, r, nodes);
-        r += 1;
-        words[r] = nodes;
+        words[r + 1] = nodes;
     }
     words
 }
@@ -77,11 +63,9 @@ fn open_word(rows: &[u64], leads: &[u64], s: usize, steps: usize) -> u64
 {
     let mut nodes: u64 = 0;
     let mut way = node_word(s);
-    let mut r: usize = 1;
-    while r < steps {
+    for _r in 1..steps {
         nodes = nodes_into(rows, nodes) | nodes_into(leads, way);
         way = nodes_into(rows, way);
-        r += 1;
     }
     nodes
 }
@@ -107,12 +91,10 @@ fn starts_at(rows: &[u64], leads: &[u64], s: usize, steps: usize) -> bool
 pub fn first_start(rows: &[u64], leads: &[u64], steps: usize) -> usize
     ensures { result ≡ first_start rows.now leads.now steps }
 {
-    let mut s: usize = 0;
-    while s < NODES {
+    for s in 0..NODES {
         if starts_at(rows, leads, s, steps) {
             return s;
         }
-        s += 1;
     }
     NODES
 }

@@ -31,9 +31,15 @@ unfolding greatest_below
 greatest_turn f k p q r = rw add-one (r ∙ ap₂ max p q)
 
 -- the word of one more node
-pub word_for_lem : (table : List ℕ) (from nodes y : ℕ) {t : Bool} → t ≡ has nodes y → cond t (get_or table (from + y) 0) 0 ≡ word_for table from nodes y
+pub word_for_lem : (table : List ℕ) (from nodes y : ℕ) {t : Bool} → t ≡ has nodes y
+    → cond t (get_or table (from + y) 0) 0 ≡ word_for table from nodes y
 unfolding word_for
 word_for_lem table from nodes y e = ap (λ (b : Bool). cond b (get_or table (from + y) 0) 0) e
+
+-- a word that stands at one of the nodes is compared, another is passed over
+pub word_turn : (table : List ℕ) (from nodes y : ℕ) {t : Bool} {best more : ℕ} → best ≡ greatest_below (word_for table from nodes) y → t ≡ has nodes y
+    → more ≡ max best (cond t (get_or table (from + y) 0) 0) → more ≡ greatest_below (word_for table from nodes) (y + 1)
+word_turn table from nodes y p e q = greatest_turn (word_for table from nodes) y p (word_for_lem table from nodes y e) q
 
 -- past the last of the nodes there is none
 pub greatest_past : (table : List ℕ) (from nodes y : ℕ) {best : ℕ} → y ≤ 64 → nodes / 2 ^ y ≡ 0 → best ≡ greatest_below (word_for table from nodes) y

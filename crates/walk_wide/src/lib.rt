@@ -2,7 +2,7 @@
 // it (walk_reach), as a word.
 #![tactic(auto)]
 
-ghost use Rattle.std.specs.Prelude.{cond, ◌≡◌, ◌+◌, ◌*◌, ◌≤◌, ◌<◌, min, max, length};
+ghost use Rattle.std.specs.Prelude.{◌≡◌, ◌+◌, ◌*◌, ◌≤◌, ◌<◌, min, length};
 ghost use Rattle.walk_nodes.specs.Nodes.{rows_in};
 ghost use Rattle.walk_reach.specs.Layers.{Written};
 ghost use Rattle.walk_wide.specs.Wide.{greatest_in, width_into, widest_at, widest_from, Above};
@@ -12,32 +12,19 @@ use edge_word::{NODES, PAIRS};
 use walk_nodes::{capped, rows_in};
 use word_list::{clear, has_bit, word_at};
 
-// The greater of a number and, where the test passed, another.
-fn greater(best: u64, test: bool, x: u64) -> u64
-    ensures { result ≡ max best (cond test x 0) }
-{
-    if test {
-        if best < x {
-            return x;
-        }
-    }
-    best
-}
-
 // The greatest of the 64 words from a place on that stand at one of the nodes. Past the last of the nodes no word is looked at.
 fn greatest_in(table: &[u64], from: usize, nodes: u64) -> u64
     requires { from + 64 ≤ length table.now }
     ensures { result ≡ greatest_in table.now from nodes }
 {
     let mut best: u64 = 0;
-    let mut y: usize = 0;
-    while y < NODES {
+    for y in 0..NODES {
         if nodes >> y == 0 {
             return best;
         }
-        let t = has_bit(nodes, y as u64);
-        best = greater(best, t, table[from + y]);
-        y += 1;
+        if has_bit(nodes, y as u64) {
+            best = best.max(table[from + y]);
+        }
     }
     best
 }
@@ -69,12 +56,7 @@ fn widest_from(forwards: &[u64], rows: &[u64], s: usize, table: &[u64], i: usize
 fn nodes_there(forwards: &[u64], rows: &[u64]) -> usize
     ensures { (rows_in forwards.now ≤ result) × (min (length rows.now) 64 ≤ result) × (result ≤ 64) }
 {
-    let n = rows_in(forwards);
-    let m = capped(rows.len());
-    if n < m {
-        return m;
-    }
-    n
+    rows_in(forwards).max(capped(rows.len()))
 }
 
 // The 64 words of round r, from those before it: 0 for a node past those that are there.
@@ -84,11 +66,8 @@ fn widest_row(forwards: &[u64], rows: &[u64], s: usize, n: usize, r: usize, tabl
     ensures { Written (widest_at forwards.now rows.now s) (r * 64) (r * 64 + 64) table.old table.new }
 {
     let b = r * NODES;
-    let mut x: usize = 0;
-    while x < n {
-        let w = widest_from(forwards, rows, s, table, b + x);
-        table[b + x] = w;
-        x += 1;
+    for x in 0..n {
+        table[b + x] = widest_from(forwards, rows, s, table, b + x);
     }
     clear(table, b + n, b + NODES);
 }
@@ -99,10 +78,8 @@ fn widest_rows(forwards: &[u64], rows: &[u64], s: usize, rounds: usize, table: &
     ensures { Written (widest_at forwards.now rows.now s) 0 (rounds * 64) table.old table.new }
 {
     let n = nodes_there(forwards, rows);
-    let mut r: usize = 0;
-    while r < rounds {
+    for r in 0..rounds {
         widest_row(forwards, rows, s, n, r, table);
-        r += 1;
     }
 }
 

@@ -15,27 +15,21 @@ returns-then-y-eq0 c = simp (ne_eqb _ _ c.if-x-eq0.false, eq-eqb _ _ c.if-y-eq0.
 pub returns-then-c-e : goal.returns-then-c-e
 unfolding forward_pick back_pick
 returns-then-c-e c =
-    let c3 = c in
-    let c4 = c3 in
-    let c5 = c4 in
     simp (
-      ne_eqb _ _ c5.if-x-eq0.false,
-      ne_eqb _ _ c5.if-y-eq0.false,
-      ← c4.forward_edge-e.ensures,
-      ← c3.back_edge-c.ensures,
+      ne_eqb _ _ c.if-x-eq0.false,
+      ne_eqb _ _ c.if-y-eq0.false,
+      ← c.forward_edge-e.ensures,
+      ← c.back_edge-c.ensures,
       lt-ltb _ _ c.if-c-e.true,
     )
 
 pub returns : goal.returns
 unfolding forward_pick back_pick
 returns c =
-    let c3 = c in
-    let c4 = c3 in
-    let c5 = c4 in
     simp (
-      ne_eqb _ _ c5.if-x-eq0.false,
-      ne_eqb _ _ c5.if-y-eq0.false,
-      ← c4.forward_edge-e.ensures,
-      ← c3.back_edge-c.ensures,
+      ne_eqb _ _ c.if-x-eq0.false,
+      ne_eqb _ _ c.if-y-eq0.false,
+      ← c.forward_edge-e.ensures,
+      ← c.back_edge-c.ensures,
       le-ltb _ _ c.if-c-e.false,
     )

@@ -1,7 +1,5 @@
 -- A node of the word has the limit of its phase (among-limit); another has none (outside-limit).
 use Rattle.walk_limit.specs.LimitTurns.{among_limit, outside_limit}
-use Prim.Native.Nat.{◌-◌}
-use borrow.Author.Rules.{rules}
 use Rattle.walk_limit.proofs.limit_among.Goals as goal
 
 pub returns-then-has_bit : goal.returns-then-has_bit

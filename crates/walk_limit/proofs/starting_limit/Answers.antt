@@ -1,7 +1,6 @@
 -- With no step left none may be back (starting-last); else the last step must open the first: past the table none does (starting-past), within it its
 -- word tells how far (starting-inside).
 use Rattle.walk_limit.specs.LimitTurns.{starting_last, starting_past, starting_inside}
-use borrow.Author.Rules.{rules}
 use Rattle.walk_limit.proofs.starting_limit.Goals as goal
 
 pub returns-then-r-eq0 : goal.returns-then-r-eq0

@@ -1,8 +1,6 @@
 -- With no step left the walk must end at s and open k (ending_here); else the last step must be able to (ending-later).
 use Rattle.walk_need.specs.NeedTurns.{ending_here, ending_far, ending_elsewhere, ending_later}
 use mathlib.Core.Path.{refl}
-use Prim.Native.Nat.{◌-◌}
-use borrow.Author.Rules.{rules}
 use Rattle.walk_need.proofs.ending_need.Goals as goal
 
 pub returns-then-k-lt-NEVER : goal.returns-then-k-lt-NEVER

@@ -1,7 +1,5 @@
 -- Within the table its word is taken (wide-inside), past it 0 (wide-past).
 use Rattle.walk_reach.specs.FilledLaws.{wide_inside, wide_past}
-use Prim.Native.Nat.{◌-◌}
-use borrow.Author.Rules.{rules}
 use Rattle.walk_need.proofs.wide_at.Goals as goal
 
 pub returns-then-r-lt-NODES : goal.returns-then-r-lt-NODES

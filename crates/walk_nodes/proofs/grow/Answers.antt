@@ -1,5 +1,4 @@
 -- The nodes, joined with those that have an edge into one of them.
-use borrow.Author.Rules.{rules}
 use Rattle.walk_nodes.specs.Nodes.{grown}
 use Rattle.walk_nodes.proofs.grow.Goals as goal
 

@@ -1,5 +1,4 @@
 -- The shift makes 2 to u, which fits a word since u is below 64.
-use borrow.Author.Rules.{rules}
 use borrow.Author.Tests.{lt-ltb, le-ltb}
 use Rattle.walk_nodes.specs.Nodes.{node_word}
 use Rattle.walk_nodes.specs.NodeWordLaws.{bit_shifted}

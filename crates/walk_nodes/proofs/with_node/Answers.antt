@@ -1,5 +1,4 @@
 -- Where the test passed, `|` joins the word of the node; else the word stays.
-use borrow.Author.Rules.{rules}
 use Rattle.walk_nodes.proofs.with_node.Goals as goal
 
 pub returns-then-test : goal.returns-then-test

@@ -1,6 +1,5 @@
 -- Past the end of the table there are no nodes (row-part, row-none).
 use native.Mathlib.Omega.{arith}
-use borrow.Author.Rules.{rules}
 use Rattle.walk_reach.specs.LayerLaws.{row_part, row_none}
 use Rattle.walk_reach.proofs.joined_row.Goals as goal
 

@@ -1,7 +1,5 @@
 -- Where the words past the first n are all 0 they add no node (row-rest); else all words are looked at (row-all).
 use native.Mathlib.Omega.{arith}
-use mathlib.Core.Path.{◌≡◌, refl}
-use borrow.Author.Rules.{rules}
 use Rattle.walk_reach.specs.LayerLaws.{row_rest, row_all}
 use Rattle.walk_reach.proofs.whole_row.Goals as goal
 

@@ -1,6 +1,5 @@
 -- With no step left after this nothing is opened (opening-last); else by a step that leads on or by a pair (opening-before).
 use Rattle.walk_ways.specs.TurnLaws.{opening_last, opening_before}
-use borrow.Author.Rules.{rules}
 use Rattle.walk_ways.proofs.next_opening.Goals as goal
 
 pub returns-then-r-eq0 : goal.returns-then-r-eq0

@@ -1,6 +1,5 @@
 -- A word of the first row is how far the edge itself opens (widest-first), a later one the greatest in the row before it (widest-later).
 use Rattle.walk_wide.specs.WideLaws.{widest_first, widest_later}
-use borrow.Author.Rules.{rules}
 use Rattle.walk_wide.proofs.widest_from.Goals as goal
 
 pub returns-then-i-lt-NODES : goal.returns-then-i-lt-NODES

@@ -1,5 +1,4 @@
 -- The words of as many rounds as there are, 64 at most, are written (rounds-capped).
-use borrow.Author.Rules.{rules}
 use Rattle.walk_wide.specs.WideLaws.{rounds_capped}
 use Rattle.walk_wide.proofs.widest_table.Goals as goal
 

@@ -1,6 +1,5 @@
 -- The word of the edge to a node is asked how far it opens (width-in); to another number there is no edge (width-out).
 use Rattle.walk_wide.specs.WideLaws.{width_in, width_out}
-use borrow.Author.Rules.{rules}
 use Rattle.walk_wide.proofs.width_into.Goals as goal
 
 pub returns-then-s-lt-NODES : goal.returns-then-s-lt-NODES
