@@ -1,8 +1,9 @@
 -- The paths through `choices_over`, and the promise over the lines of a given value.
-use mathlib.Core.Bool.{Bool, true, false}
+use mathlib.Core.Bool.{Bool, true, false, cond}
 use mathlib.Core.List.{List, []}
 use mathlib.Core.Option.{Option, none, some, none-ne-some}
 use mathlib.Core.Path.{◌≡◌, refl, sym, ap, ◌∙◌}
+use Rattle.std.specs.Prelude.{Option as Maybe, Some, None, Result, Ok, Err}
 use Prim.Native.Nat.{ℕ, suc, ◌+◌, ◌-◌, ◌≤◌}
 use native.Mathlib.Omega.{arith}
 use lib.Dec.{eqb, ltb}
@@ -33,10 +34,12 @@ use Rattle.unfold.specs.OwnLaws.{first_there, body_there}
 use Rattle.unfold.specs.Stand.{few_nodes}
 use Rattle.unfold.proofs.UnfoldSettledLaws.{over_nodes}
 use Rattle.unfold_program.specs.ProgramLaws.{program_at, program_there}
+use Rattle.refusal.specs.declared.Fault.{Fault}
+use Rattle.refusal.specs.declared.Fault.TheVariants.{Area, NotGiven, Unfoldings}
 use Rattle.unfold_choice.specs.declared.Choices.{Choices}
 use Rattle.unfold_choice.specs.declared.ChoiceTable.{ChoiceTable}
 use Rattle.unfold_choice.specs.declared.NodePlace.{NodePlace}
-use Rattle.unfold_choice.specs.ChoicesSettled.{unfoldings_of, choice_words, no_choices, choices_told, ChoicesSettled}
+use Rattle.unfold_choice.specs.ChoicesSettled.{unfoldings_of, choice_words, choices_told, ChoicesSettled}
 use Rattle.unfold_choice.specs.ChoicesSettled.ChoicesSettled.{refused, missing, told}
 use Rattle.unfold_choice.specs.ChoiceSteps.{Standing, NodeFound, Bodies, ChoicesOver}
 use Rattle.unfold_choice.specs.ChoiceTable.{put_all, table_of}
@@ -107,8 +110,7 @@ module _ (lines : List Line) (node : ℕ) (f : NodePlace) (stands : Standing lin
     words_few = omega (arith, ap length words_run, run_fewer program.body (f.line + 1) f.number, small)
 
     node_told : (c : ChoiceTable) (u : Unfolding) → c ≡ put_all (table_of []) words → get_elem? (unfoldings_of lines) node ≡ some u
-        → record { refusal = 0; found = true; program = f.program; number = f.number; count = c.count; words = c.words }
-        ≡ choices_told lines node u
+        → record { program = f.program; number = f.number; count = c.count; words = c.words } ≡ choices_told lines node u
     unfolding choices_told table_of
     node_told c u put h =
         let all : c ≡ table_of words = put ∙ put_whole words words_few in
@@ -119,15 +121,17 @@ module _ (lines : List Line) (node : ℕ) (f : NodePlace) (stands : Standing lin
 -- ---- S22
 
 -- without a lent area totals are refused where there are too many alone
-many_refused : (t : UnfoldingTotals) → (refused_by t 512 ≡ 0 → ⊥) → many_in t ≡ true
+many_refused : (t : UnfoldingTotals) (fault : Fault) → refused_by t 512 ≡ Some fault → (many_in t ≡ true) × (fault ≡ Unfoldings)
 unfolding refused_by many_in
-many_refused t h = go (many_in t) refl
+many_refused t fault h = go (many_in t) (ltb 512 t.statements) refl refl h
   where
-    go : (b : Bool) → many_in t ≡ b → b ≡ true
-    go true e = refl
-    go false e =
+    go : (a b : Bool) → many_in t ≡ a → ltb 512 t.statements ≡ b → cond a (Some Unfoldings) (cond b (Some Area) None) ≡ Some fault
+        → (a ≡ true) × (fault ≡ Unfoldings)
+    go true b e s r = (refl, cc)
+    go false true e s r =
         let short : ltb 512 t.statements ≡ false = (or_false (ltb 64 t.count) (ltb 512 t.statements) e).1 in
-        absurd (h (rw (e, short) refl))
+        absurd (true_false s short)
+    go false false e s r = let never : ⊥ = cc in absurd never
 
 module _ (codes : List ℕ) (node : ℕ) (t : UnfoldingTotals) (all : AllCounted codes t) where
   -- the totals tell S22
@@ -135,36 +139,38 @@ module _ (codes : List ℕ) (node : ℕ) (t : UnfoldingTotals) (all : AllCounted
   unfolding over_many many_in
   many_told lines e = ap many_in all.totalled.same ∙ rw e (over_nodes lines)
 
-  pub over_many_lem : (number : ℕ) (r : Choices) → number ≡ refused_by t 512 → (number ≡ 0 → ⊥) → r ≡ no_choices 22 → ChoicesOver codes node r
-  over_many_lem number r e other d =
-      let many : many_in t ≡ true = many_refused t (λ z. other (e ∙ z)) in
+  pub over_many_lem : (fault : Fault) → refused_by t 512 ≡ Some fault → ChoicesOver codes node (Err fault)
+  over_many_lem fault e =
+      let refused = many_refused t fault e in
+      let many = refused.0 in
       record {
-        many = λ lines c h. d;
+        many = λ lines c h. ap Err refused.1;
         missing = λ lines c few. absurd (true_false (sym (many_told lines c) ∙ many) few);
         told = λ lines c few. absurd (true_false (sym (many_told lines c) ∙ many) few);
       }
 
-  module _ (number : ℕ) (e : number ≡ refused_by t 512) (zero : number ≡ 0) (f : NodePlace) (found : NodeFound codes node f) where
+  module _ (taken_lem : refused_by t 512 ≡ None) where
     few_told : (lines : List Line) → codes ≡ codes_of lines → is_too_many lines ≡ true → ⊥
-    few_told lines c h = true_false (many_told lines c ∙ h) (passed t 512 (sym e ∙ zero)).few
+    few_told lines c h = true_false (many_told lines c ∙ h) (passed t 512 taken_lem).few
 
-    pub over_missing : (r : Choices) → f.found ≡ false → r ≡ no_choices 0 → ChoicesOver codes node r
-    over_missing r lost d =
+    pub over_missing : NodeFound codes node None → ChoicesOver codes node (Ok None)
+    over_missing none_found =
         record {
           many = λ lines c h. absurd (few_told lines c h);
-          missing = λ lines c few n. d;
-          told = λ lines c few bodies u there. absurd (none-ne-some u (sym (found.none lines c few lost) ∙ there));
+          missing = λ lines c few n. refl;
+          told = λ lines c few bodies u there. absurd (none-ne-some u (sym (none_found lines c few) ∙ there));
         }
 
-    pub over_told : (empty c : ChoiceTable) → f.found ≡ true → empty ≡ table_of []
-        → (n : ℕ) → n ≡ length codes → c ≡ put_all empty (tell_at (n - (f.line + 1)) codes (f.line + 1) f.number)
+    pub over_told : (f : NodePlace) → NodeFound codes node (Some f) → (empty c : ChoiceTable) → empty ≡ table_of [] → (n : ℕ) → n ≡ length codes → c ≡ put_all empty (tell_at (n - (f.line + 1)) codes (f.line + 1) f.number)
         → ChoicesOver codes node
-        (record { refusal = 0; found = true; program = f.program; number = f.number; count = c.count; words = c.words })
-    over_told empty c is_found start n many put =
+        (Ok (Some (record { program = f.program; number = f.number; count = c.count; words = c.words })))
+    over_told f found empty c start n many put =
         record {
           many = λ lines e h. absurd (few_told lines e h);
-          missing = λ lines e few n. absurd (none-ne-some _ (sym n ∙ own_there lines node f (found.there lines e few is_found)));
-          told = λ lines e few bodies u h. node_told lines node f (found.there lines e few is_found) few bodies c u (over lines e) h;
+          missing = λ lines e few n. absurd (none-ne-some _ (sym n ∙ own_there lines node f (found.1 lines e few)));
+          told = λ lines e few bodies u h.
+              let same = node_told lines node f (found.1 lines e few) few bodies c u (over lines e) h in
+              ap (λ (x : Choices). Ok (Some x)) same;
         }
       where
         over : (lines : List Line) → codes ≡ codes_of lines
@@ -174,17 +180,17 @@ module _ (codes : List ℕ) (node : ℕ) (t : UnfoldingTotals) (all : AllCounted
 -- ---- the promise
 
 -- a value that no text gives
-pub not_told : (w : Workload) (node : ℕ) (r : Choices) → (Given w → ⊥) → r ≡ no_choices 21 → ChoicesSettled w node r
-not_told w node r never e = rw e (refused 21 (not_given never))
+pub not_told : (w : Workload) (node : ℕ) → (Given w → ⊥) → ChoicesSettled w node (Err NotGiven)
+not_told w node never = refused NotGiven (not_given never)
 
 -- a given value, over the codes of its lines
-pub settled_over : (w : Workload) (node : ℕ) (codes : List ℕ) (r : Choices) → Given w → codes ≡ codes_of (lines_of w) → ChoicesOver codes node r
+pub settled_over : (w : Workload) (node : ℕ) (codes : List ℕ) (r : Result (Maybe Choices) Fault) → Given w → codes ≡ codes_of (lines_of w) → ChoicesOver codes node r
     → ChoicesSettled w node r
 unfolding Bodies
 settled_over w node codes r g e h = go (is_too_many (lines_of w)) refl (get_elem? (unfoldings_of (lines_of w)) node) refl
   where
     go : (b : Bool) → is_too_many (lines_of w) ≡ b → (o : Option Unfolding) → get_elem? (unfoldings_of (lines_of w)) node ≡ o → ChoicesSettled w node r
-    go true p o q = rw (h.many (lines_of w) e p) (refused 22 (too_many g p))
+    go true p o q = rw (h.many (lines_of w) e p) (refused Unfoldings (too_many g p))
     go false p none q = rw (h.missing (lines_of w) e p q) (missing (taken g p refl) q)
     go false p (some u) q =
         rw (h.told (lines_of w) e p (λ i begins. body_there g.text (lines_of w) (given_read g) i begins) u q) (told (taken g p refl) u q)

@@ -5,16 +5,16 @@ ghost use Rattle.std.specs.Prelude.{[], ◌≡◌, ◌≤◌, ◌<◌, length};
 ghost use Rattle.unfold_laws.specs.Codes.{count_at};
 ghost use Rattle.value_tables.specs.Lines.{table_codes};
 ghost use Rattle.unfold_choice.specs.ChoiceWord.{choice_word};
-ghost use Rattle.unfold_choice.specs.ChoicesSettled.{ChoicesSettled, no_choices};
+ghost use Rattle.unfold_choice.specs.ChoicesSettled.{ChoicesSettled};
 ghost use Rattle.unfold_choice.specs.ChoiceTable.{put_word, put_all, table_of};
 ghost use Rattle.unfold_choice.specs.ChoiceSteps.{NodeFound, ChoicesOver};
 ghost use Rattle.unfold_choice.specs.Telling.{tell_block, tell_at};
 
+use refusal::Fault;
 use spec_text::Workload;
 use unfold_bounds::{line_after, totals_refused};
 use unfold_count::{count_all, count_place, count_run};
-use unfold_laws::{BRANCH, LOOP, STATEMENT, STATEMENTS};
-use unfold_program::program_line;
+use unfold_laws::{BRANCH, LOOP, PROGRAM, STATEMENT, STATEMENTS};
 use value_given::is_given;
 use value_lines::line_table;
 use value_tables::{LINE_WORDS, code_at, lines_in};
@@ -26,12 +26,9 @@ pub const TAKEN: u64 = 4;
 // An unfolding of a workload that S22 lets pass makes fewer choices than this.
 pub const CHOICES: usize = 64;
 
-// The choices of a node: the number of the refusal, or 0 and whether there is such a node; its program, which unfolding of that program it is, how
-// many choices it makes, and a word for each.
+// The choices of a node: its program, which unfolding of that program it is, how many choices it makes, and a word for each.
 #[derive(Clone, Copy)]
 pub struct Choices {
-    pub refusal: u8,
-    pub found: bool,
     pub program: u64,
     pub number: u64,
     pub count: u64,
@@ -48,25 +45,34 @@ struct ChoiceTable {
 // A node among the programs: the `pr` line of its program, the program's number, and which unfolding of the program it is.
 #[derive(Clone, Copy)]
 struct NodePlace {
-    found: bool,
     line: usize,
     program: u64,
     number: u64,
 }
 
-// Puts one choice, where there is room.
-fn put(t: ChoiceTable, at: usize, taken: u64) -> ChoiceTable
-    requires { (at ≤ 2048) × (taken ≤ 2) }
-    ensures { result ≡ put_word t (choice_word at taken) }
-{
-    let j = t.count;
-    if CHOICES <= j {
-        return t;
+impl ChoiceTable {
+    // No words.
+    fn empty() -> ChoiceTable
+        ensures { result ≡ table_of [] }
+    {
+        ChoiceTable {
+            count: 0,
+            words: [0u64; CHOICES],
+        }
     }
-    let mut f = t;
-    f.words[j] = at as u64 * TAKEN + taken;
-    f.count = j + 1;
-    f
+
+    // With one choice more, where there is room.
+    fn put(self, at: usize, taken: u64) -> ChoiceTable
+        requires { (at ≤ 2048) × (taken ≤ 2) }
+        ensures { result ≡ put_word self (choice_word at taken) }
+    {
+        let mut t = self;
+        if t.count < CHOICES {
+            t.words[t.count] = at as u64 * TAKEN + taken;
+            t.count += 1;
+        }
+        t
+    }
 }
 
 // Puts the choices of unfolding number k of the run at a place.
@@ -109,117 +115,82 @@ fn tell_block(lines: &[u64], at: usize, left: usize, k: u64, t: ChoiceTable) -> 
     let n = body.count;
     if code_at(lines, at) == LOOP {
         if k == 0 {
-            return put(t, at, 0);
+            return t.put(at, 0);
         }
         if k <= n {
-            let once = put(t, at, 1);
+            let once = t.put(at, 1);
             return tell_run(lines, first, left, k - 1, once);
         }
         let j = k - 1 - n;
-        let twice = put(t, at, 2);
+        let twice = t.put(at, 2);
         let turn = tell_run(lines, first, left, j / n, twice);
         return tell_run(lines, first, left, j % n, turn);
     }
     if k < n {
-        let one = put(t, at, 1);
+        let one = t.put(at, 1);
         return tell_run(lines, first, left, k, one);
     }
     let second = line_after(lines_in(lines), body.end);
-    let two = put(t, at, 2);
+    let two = t.put(at, 2);
     tell_run(lines, second, left, k - n, two)
 }
 
-fn empty_table() -> ChoiceTable
-    ensures { result ≡ table_of [] }
-{
-    ChoiceTable {
-        count: 0,
-        words: [0u64; CHOICES],
-    }
-}
-
-// Finds a node: program after program its unfoldings are passed, until those of a program reach it.
-fn find_node(lines: &[u64], node: u64) -> NodePlace
+// Finds a node: the unfoldings of program after program are passed, until those of a program reach it.
+fn find_node(lines: &[u64], node: u64) -> Option<NodePlace>
     ensures { NodeFound (table_codes lines.now) node result }
 {
+    let n = lines_in(lines);
     let mut program: u64 = 0;
     let mut number = node;
-    let mut i = program_line(lines, 0);
-    while i < lines_in(lines) {
-        let c = count_run(lines, i + 1, lines_in(lines) - (i + 1));
-        let n = c.count;
-        if number < n {
-            return NodePlace {
-                found: true,
-                line: i,
-                program: program,
-                number: number,
-            };
+    for line in 0..n {
+        if code_at(lines, line) != PROGRAM {
+            continue;
         }
-        number -= n;
+        let c = count_run(lines, line + 1, n - (line + 1));
+        if number < c.count {
+            return Some(NodePlace {
+                line,
+                program,
+                number,
+            });
+        }
+        number -= c.count;
         program += 1;
-        i = program_line(lines, program);
     }
-    NodePlace {
-        found: false,
-        line: 0,
-        program: 0,
-        number: 0,
-    }
+    None
 }
 
-fn no_choices(refusal: u8) -> Choices
-    ensures { result ≡ no_choices refusal }
-{
-    Choices {
-        refusal: refusal,
-        found: false,
-        program: 0,
-        number: 0,
-        count: 0,
-        words: [0u64; CHOICES],
-    }
-}
-
-// The choices of a node over a table of lines, or refuses 22. No lent area can be too short: the totals that pass 22 have room in 512.
-fn choices_over(lines: &[u64], node: u64) -> Choices
+// The choices of a node over a table of lines, where there is one, or refuses 22. No lent area can be too short: the totals that pass 22 have room
+// in 512.
+fn choices_over(lines: &[u64], node: u64) -> Result<Option<Choices>, Fault>
     requires { length (table_codes lines.now) ≤ 2048 }
     ensures { ChoicesOver (table_codes lines.now) node result }
 {
     let t = count_all(lines);
-    let refusal = totals_refused(t, STATEMENTS);
-    if refusal != 0 {
-        return no_choices(22);
+    if let Some(fault) = totals_refused(t, STATEMENTS) {
+        return Err(fault);
     }
-    let f = find_node(lines, node);
-    if !f.found {
-        return no_choices(0);
-    }
+    let Some(f) = find_node(lines, node) else {
+        return Ok(None);
+    };
     let first = f.line + 1;
-    let c = tell_run(
-        lines,
-        first,
-        lines_in(lines) - first,
-        f.number,
-        empty_table(),
-    );
+    let left = lines_in(lines) - first;
+    let c = tell_run(lines, first, left, f.number, ChoiceTable::empty());
     let words = c.words;
-    Choices {
-        refusal: 0,
-        found: true,
+    Ok(Some(Choices {
         program: f.program,
         number: f.number,
         count: c.count as u64,
-        words: words,
-    }
+        words,
+    }))
 }
 
-// The choices of a node of a workload value, or refuses 21 or 22.
-pub fn choices_of(w: Workload, node: u64) -> Choices
+// The choices of a node of a workload value; that there is no such node; or refuses 21 or 22.
+pub fn choices_of(w: Workload, node: u64) -> Result<Option<Choices>, Fault>
     ensures { ChoicesSettled w node result }
 {
     if !is_given(w) {
-        return no_choices(21);
+        return Err(Fault::NotGiven);
     }
     let n = w.count * LINE_WORDS;
     let lines = line_table(w);

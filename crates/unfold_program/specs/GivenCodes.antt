@@ -1,6 +1,6 @@
 -- The table of the lines of a given workload value, cut to its lines: they are there, and its codes are those of the lines.
 use Rattle.std.specs.Prelude.{List, ◌≡◌, ℕ, ◌*◌, ◌≤◌, length, take}
-use Rattle.std.proofs.Common.{sym, ap, ◌∙◌, arith, length-take}
+use Rattle.std.proofs.Common.{ap, ◌∙◌, arith, length-take}
 use Rattle.spec_text.specs.declared.Workload.{Workload}
 use Rattle.spec_text.specs.Value.{Given, lines_of}
 use Rattle.law_text.specs.ValueLaws.{given_fits}

@@ -4,9 +4,10 @@
 ghost use Rattle.std.specs.Prelude.{◌≡◌, ◌≤◌, ◌<◌, length};
 ghost use Rattle.unfold_laws.specs.Pieces.{line_programs};
 ghost use Rattle.value_tables.specs.Lines.{table_codes};
-ghost use Rattle.unfold_program.specs.ProgramSettled.{ProgramSettled, no_program};
+ghost use Rattle.unfold_program.specs.ProgramSettled.{ProgramSettled};
 ghost use Rattle.unfold_program.specs.ProgramSteps.{ProgramLine, ProgramOver};
 
+use refusal::Fault;
 use spec_text::Workload;
 use unfold_count::count_run;
 use unfold_laws::PROGRAM;
@@ -14,12 +15,9 @@ use value_given::is_given;
 use value_lines::line_table;
 use value_tables::{LINE_WORDS, code_at, lines_in};
 
-// What is told of a program: the number of the refusal, or 0 and whether there is a program with this number; the number of its `pr` line,
-// its unfoldings and the statements in them, each stopped at 513.
-#[derive(Clone, Copy)]
+// What is told of a program: the number of its `pr` line, its unfoldings and the statements in them, each stopped at 513.
+#[derive(Clone, Copy, Debug, Default, PartialEq, Eq)]
 pub struct ProgramUnfoldings {
-    pub refusal: u8,
-    pub found: bool,
     pub line: u64,
     pub count: u64,
     pub statements: u64,
@@ -36,60 +34,41 @@ fn programs_past(lines: &[u64], i: usize, before: u64) -> u64
     before
 }
 
-// The number of the `pr` line of program k; where there is none, the number of lines.
-pub fn program_line(lines: &[u64], k: u64) -> usize
+// The number of the `pr` line of program k, where there is one.
+pub fn program_line(lines: &[u64], k: u64) -> Option<usize>
     ensures { ProgramLine (table_codes lines.now) k result }
 {
     let mut before: u64 = 0;
-    let mut i: usize = 0;
-    while i < lines_in(lines) {
+    for i in 0..lines_in(lines) {
         before = programs_past(lines, i, before);
         if k < before {
-            return i;
+            return Some(i);
         }
-        i += 1;
     }
-    i
+    None
 }
 
-fn no_program(refusal: u8) -> ProgramUnfoldings
-    ensures { result ≡ no_program refusal }
-{
-    ProgramUnfoldings {
-        refusal: refusal,
-        found: false,
-        line: 0,
-        count: 0,
-        statements: 0,
-    }
-}
-
-// The same over a table of lines.
-fn program_over(lines: &[u64], k: u64) -> ProgramUnfoldings
+// What is told of program k over a table of lines, where there is one.
+fn program_over(lines: &[u64], k: u64) -> Option<ProgramUnfoldings>
     ensures { ProgramOver (table_codes lines.now) k result }
 {
-    let i = program_line(lines, k);
-    if lines_in(lines) <= i {
-        return no_program(0);
-    }
+    let i = program_line(lines, k)?;
     let c = count_run(lines, i + 1, lines_in(lines) - (i + 1));
-    ProgramUnfoldings {
-        refusal: 0,
-        found: true,
+    Some(ProgramUnfoldings {
         line: i as u64,
         count: c.count,
         statements: c.statements,
-    }
+    })
 }
 
-// Program k of a workload value: where it stands, its unfoldings and the statements in them, or refuses 21.
-pub fn program_unfoldings(w: Workload, k: u64) -> ProgramUnfoldings
+// Program k of a workload value: where it stands, its unfoldings and the statements in them; that there is none; or refuses 21.
+pub fn program_unfoldings(w: Workload, k: u64) -> Result<Option<ProgramUnfoldings>, Fault>
     ensures { ProgramSettled w k result }
 {
     if !is_given(w) {
-        return no_program(21);
+        return Err(Fault::NotGiven);
     }
     let n = w.count * LINE_WORDS;
     let lines = line_table(w);
-    program_over(&lines[..n], k)
+    Ok(program_over(&lines[..n], k))
 }

@@ -4,39 +4,30 @@ use Rattle.unfold_choice.proofs.OverLaws.{not_told, settled_over}
 use Rattle.unfold_program.specs.GivenCodes.{table_fits, table_many, codes_few, codes_given}
 use Rattle.law_text.specs.ValueLaws.{given_fits}
 use native.Mathlib.Omega.{arith}
-use borrow.Author.Rules.{rules}
-use borrow.Author.Tests.{not-true, not-false}
 use Rattle.unfold_choice.proofs.choices_of.Goals as goal
 
 pub returns-then-not-is_given : goal.returns-then-not-is_given
-returns-then-not-is_given c = not_told _ _ _ (c.is_given.ensures.no c.if-not-is_given.true) c.no_choices.ensures
+returns-then-not-is_given c = not_told _ _ (c.is_given.ensures.no c.if-not-is_given.true)
 
 pub slice_bounds-lines-end : goal.slice_bounds-lines-end
 slice_bounds-lines-end c =
-    let c3 = c in
-    table_fits _ (c3.is_given.ensures.yes c.if-not-is_given.false) c.line_table-lines.result c.line_table-lines.ensures.1
+    table_fits _ (c.is_given.ensures.yes c.if-not-is_given.false) c.line_table-lines.result c.line_table-lines.ensures.1
 
 pub slice_bounds-choices_over-end : goal.slice_bounds-choices_over-end
 slice_bounds-choices_over-end c =
-    let c3 = c in
-    let c4 = c3 in
-    table_many _ (c4.is_given.ensures.yes c3.if-not-is_given.false) _ c.line_table-lines.ensures.1
+    table_many _ (c.is_given.ensures.yes c.if-not-is_given.false) _ c.line_table-lines.ensures.1
 
 pub choices_over-requires : goal.choices_over-requires
 choices_over-requires c =
-    let c3 = c in
-    let c4 = c3 in
     omega (
       arith,
-      codes_few _ (c4.is_given.ensures.yes c3.if-not-is_given.false) c.line_table-lines.result
+      codes_few _ (c.is_given.ensures.yes c.if-not-is_given.false) c.line_table-lines.result
           c.line_table-lines.ensures.1,
     )
 
 pub returns : goal.returns
 returns c =
-    let c4 = c in
-    let c5 = c4 in
-    let given = (c5.is_given.ensures.yes c4.if-not-is_given.false) in
+    let given = (c.is_given.ensures.yes c.if-not-is_given.false) in
     settled_over _ _ _ _ given (codes_given _ given _ c.line_table-lines.ensures.1 c.line_table-lines.ensures.0)
     c.choices_over.ensures
 

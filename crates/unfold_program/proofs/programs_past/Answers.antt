@@ -1,6 +1,5 @@
 -- Each return is what `line_programs` picks where the line is a `pr` or not, as the test found it.
 use Rattle.unfold_laws.specs.Pieces.{line_programs}
-use borrow.Author.Rules.{rules}
 use borrow.Author.Tests.{eq-eqb, ne_eqb}
 use mathlib.Core.Path.{sym, ◌∙◌}
 use native.Mathlib.Omega.{arith}
