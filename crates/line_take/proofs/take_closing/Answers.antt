@@ -8,4 +8,4 @@ use Rattle.line_take.proofs.take_closing.Goals as goal
 
 pub returns : goal.returns
 unfolding stores_in store_in next_of
-returns c = took_closing c.previous-below.ensures refl
+returns c = took_closing c.saturating_sub-below.ensures refl

@@ -4,4 +4,4 @@ use borrow.Author.Rules.{rules}
 use Rattle.line_take.proofs.take_second.Goals as goal
 
 pub returns : goal.returns
-returns c = took_second c.previous.ensures c.push.ensures
+returns c = took_second c.saturating_sub.ensures c.push.ensures

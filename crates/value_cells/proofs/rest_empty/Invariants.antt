@@ -15,7 +15,4 @@ use Rattle.spec_text.specs.declared.Workload.{Workload}
 use Rattle.value_cells.proofs.rest_empty.Given as goal
 
 abbrev pub invariant-loop-i : goal.invariant-loop-i
-invariant-loop-i l = (l.w.count ≤ l.i) × (all is_empty (drop l.i l.w.lines) ≡ all is_empty (drop l.w.count l.w.lines))
-
-abbrev pub decreases-loop-i : goal.decreases-loop-i
-decreases-loop-i l = 1616 - l.i
+invariant-loop-i l = all is_empty (drop l.i l.w.lines) ≡ all is_empty (drop l.w.count l.w.lines)
