@@ -5,7 +5,6 @@ use native.Mathlib.Omega.{arith}
 use lib.Pow.{pow-lt}
 use borrow.Author.Tests.{eq-eqb, ne_eqb}
 use Rattle.line_state.specs.StateSteps.{mark_of}
-use borrow.Author.Rules.{rules}
 use Rattle.line_take.proofs.mark.Goals as goal
 
 pub returns-then-part-which : goal.returns-then-part-which

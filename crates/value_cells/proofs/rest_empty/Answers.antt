@@ -2,8 +2,7 @@
 -- false (cells-other), and past 1616 none is left (cells-past).
 use Rattle.value_cells.specs.CellLaws.{cells_past, cells_next, cells_other}
 use native.Mathlib.Omega.{arith}
-use mathlib.Core.Path.{◌≡◌, refl, sym, ◌∙◌}
-use lib.ListN.{length}
+use mathlib.Core.Path.{refl, sym, ◌∙◌}
 use Rattle.value_cells.proofs.rest_empty.Goals as goal
 
 pub loop-i-init : goal.loop-i-init
