@@ -2,6 +2,7 @@
 -- fault is (counts-lines).
 use mathlib.Core.Path.{sym, ◌∙◌}
 use Rattle.text_before.specs.TakenLaws.{counts_refused, counts_lines}
+use borrow.Author.Rules.{rules}
 use Rattle.text_before.proofs.before_fault.Goals as goal
 
 pub returns-in-Refused : goal.returns-in-Refused

@@ -4,13 +4,15 @@ use mathlib.Core.List.{[]}
 use mathlib.Core.Option.{some}
 use mathlib.Core.Path.{◌≡◌, sym, ◌∙◌}
 use native.Mathlib.Omega.{arith}
-use lib.ListN.{drop}
+use Prim.Native.Nat.{◌-◌}
+use lib.ListN.{length, drop}
+use borrow.Author.Rules.{rules}
 use Rattle.spec_text.specs.Text.{line_of, lines_in}
 use Rattle.text_fields.specs.LineIn.{line_bytes, place_after}
 use Rattle.text_fields.specs.LineInLaws.{step_value, step_wrong, line_here}
 use Rattle.line_rules.specs.WordsHold.{HoldsWords}
 use Rattle.text_before.specs.Before.{taken_before}
-use Rattle.text_before.specs.TakenLaws.{taking_first, taking_at, taking_wrong, taking_stops, taking_next, taking_ends}
+use Rattle.text_before.specs.TakenLaws.{Taking, taking_first, taking_at, taking_wrong, taking_stops, taking_next, taking_ends}
 use Rattle.text_before.proofs.before_lines.Goals as goal
 
 pub loop-at-init : goal.loop-at-init
