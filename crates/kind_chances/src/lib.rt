@@ -33,16 +33,15 @@ pub struct Entry {
 fn class_of(there: bool, some: bool, whole: bool) -> SetClass
     ensures { result ≡ class_by there some whole }
 {
-    if there {
-        if whole {
-            return SetClass::Whole;
-        }
-        if some {
-            return SetClass::Filled;
-        }
-        return SetClass::Any;
+    if !there {
+        SetClass::Lacking
+    } else if whole {
+        SetClass::Whole
+    } else if some {
+        SetClass::Filled
+    } else {
+        SetClass::Any
     }
-    SetClass::Lacking
 }
 
 // What T9 allows the reads of a kind to be.
@@ -82,31 +81,13 @@ fn has_tests(k: StatementKind) -> bool
 fn inserts(k: StatementKind) -> bool
     ensures { result ≡ inserts k }
 {
-    match k {
-        StatementKind::Is => true,
-        StatementKind::Ks => false,
-        StatementKind::Ps => false,
-        StatementKind::Ku => false,
-        StatementKind::Pu => false,
-        StatementKind::Kd => false,
-        StatementKind::Pd => false,
-        StatementKind::Kl => false,
-    }
+    matches!(k, StatementKind::Is)
 }
 
 fn deletes(k: StatementKind) -> bool
     ensures { result ≡ deletes k }
 {
-    match k {
-        StatementKind::Is => false,
-        StatementKind::Ks => false,
-        StatementKind::Ps => false,
-        StatementKind::Ku => false,
-        StatementKind::Pu => false,
-        StatementKind::Kd => true,
-        StatementKind::Pd => true,
-        StatementKind::Kl => false,
-    }
+    matches!(k, StatementKind::Kd | StatementKind::Pd)
 }
 
 // ---- two sets
@@ -114,64 +95,40 @@ fn deletes(k: StatementKind) -> bool
 fn is_there(c: SetClass) -> bool
     ensures { result ≡ is_there c }
 {
-    match c {
-        SetClass::Lacking => false,
-        SetClass::Any => true,
-        SetClass::Filled => true,
-        SetClass::Whole => true,
-    }
+    !matches!(c, SetClass::Lacking)
 }
 
 fn is_filled(c: SetClass) -> bool
     ensures { result ≡ is_filled c }
 {
-    match c {
-        SetClass::Lacking => false,
-        SetClass::Any => false,
-        SetClass::Filled => true,
-        SetClass::Whole => true,
-    }
+    matches!(c, SetClass::Filled | SetClass::Whole)
 }
 
 fn is_whole(c: SetClass) -> bool
     ensures { result ≡ is_whole c }
 {
-    match c {
-        SetClass::Lacking => false,
-        SetClass::Any => false,
-        SetClass::Filled => false,
-        SetClass::Whole => true,
-    }
+    matches!(c, SetClass::Whole)
 }
 
 // A chance, but where a kind rules the letter out.
 fn unless(out: bool, chance: Chance) -> Chance
     ensures { result ≡ cond out Impossible chance }
 {
-    if out {
-        return Chance::Impossible;
-    }
-    chance
+    if out { Chance::Impossible } else { chance }
 }
 
 // A chance, where what it needs is there.
 fn needing(there: bool, chance: Chance) -> Chance
     ensures { result ≡ cond there chance Impossible }
 {
-    if there {
-        return chance;
-    }
-    Chance::Impossible
+    if there { chance } else { Chance::Impossible }
 }
 
 // A chance, but where something is enough.
 fn or_certain(enough: bool, chance: Chance) -> Chance
     ensures { result ≡ cond enough Certain chance }
 {
-    if enough {
-        return Chance::Certain;
-    }
-    chance
+    if enough { Chance::Certain } else { chance }
 }
 
 // Whether two sets meet: never where one is not there, always where one is the whole relation and the other never empty.

@@ -24,22 +24,24 @@ pub const TABLE_BYTES: usize = 1042;
 const LINES: usize = 64;
 
 // The two letters of a kind.
+#[tactic(auto, unfolding(spec_text::specs::Text::word_of))]
 fn word_of(k: StatementKind) -> [u8; 2]
     ensures { result ≡ word_of (St k) }
 {
     match k {
-        StatementKind::Is => [b'i', b's'],
-        StatementKind::Ks => [b'k', b's'],
-        StatementKind::Ps => [b'p', b's'],
-        StatementKind::Ku => [b'k', b'u'],
-        StatementKind::Pu => [b'p', b'u'],
-        StatementKind::Kd => [b'k', b'd'],
-        StatementKind::Pd => [b'p', b'd'],
-        StatementKind::Kl => [b'k', b'l'],
+        StatementKind::Is => *b"is",
+        StatementKind::Ks => *b"ks",
+        StatementKind::Ps => *b"ps",
+        StatementKind::Ku => *b"ku",
+        StatementKind::Pu => *b"pu",
+        StatementKind::Kd => *b"kd",
+        StatementKind::Pd => *b"pd",
+        StatementKind::Kl => *b"kl",
     }
 }
 
 // The digit of a chance.
+#[tactic(auto, unfolding(spec_text::specs::Text::digit))]
 fn digit_of(c: Chance) -> u8
     ensures { result ≡ digit (digit_of c) }
 {
@@ -57,11 +59,6 @@ fn line_at(i: usize) -> [u8; LINE_BYTES]
     let from = word_of(kind_of(i as u64 / KINDS));
     let to = word_of(kind_of(i as u64 % KINDS));
     let entry = entry_of(kind_of(i as u64 / KINDS), kind_of(i as u64 % KINDS));
-    let a = entry.a;
-    let b = entry.b;
-    let c = entry.c;
-    let d = entry.d;
-    let e = entry.e;
     [
         from[0],
         from[1],
@@ -69,15 +66,15 @@ fn line_at(i: usize) -> [u8; LINE_BYTES]
         to[0],
         to[1],
         b' ',
-        digit_of(a),
+        digit_of(entry.a),
         b' ',
-        digit_of(b),
+        digit_of(entry.b),
         b' ',
-        digit_of(c),
+        digit_of(entry.c),
         b' ',
-        digit_of(d),
+        digit_of(entry.d),
         b' ',
-        digit_of(e),
+        digit_of(entry.e),
         b'\n',
     ]
 }
@@ -105,10 +102,8 @@ fn fill(out: &mut [u8])
     ensures { KindTable out.new }
 {
     put_front(b"from to a b c d e\n", out);
-    let mut i: usize = 0;
-    while i < LINES {
+    for i in 0..LINES {
         put_line(out, i);
-        i += 1;
     }
 }
 

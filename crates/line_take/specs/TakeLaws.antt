@@ -6,7 +6,7 @@ use Rattle.spec_text.specs.declared.Line.{Line}
 use Rattle.spec_text.specs.declared.LineKind.{LineKind}
 use Rattle.line_state.specs.StateSteps.{next_of, mark_of, pushed_of, popped_of, second_of, taken_relation, taken_key, taken_program}
 use Rattle.line_state.specs.StateSteps.{taken_statement, taken_flow, taken_link, take_as, take_of}
-use Rattle.line_state.specs.StateWords.{array_in, state_in, Taken}
+use Rattle.line_state.specs.StateWords.{state_in, Taken}
 use Rattle.line_state.specs.StateWordsLaws.{cell_at}
 use Rattle.line_take.specs.Stores.{fits, stores_in, state_after_stores, array_after_stores, count_after_stores, array_after, count_after, at_depth, Took}
 use Rattle.line_take.specs.Stores.Store.{cell, count, step}

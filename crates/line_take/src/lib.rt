@@ -2,7 +2,7 @@
 // test; where the words hold lines, neither changes anything.
 #![tactic(auto)]
 
-ghost use Rattle.std.specs.Prelude.{◌≡◌, cond, ◌-◌};
+ghost use Rattle.std.specs.Prelude.{◌≡◌, cond};
 ghost use Rattle.spec_text.specs.Reading.{can_be_parent};
 ghost use Rattle.line_state.specs.StateSteps.{mark_of, pushed_of, popped_of, second_of, take_as};
 ghost use Rattle.line_state.specs.StateSteps.{taken_relation, taken_key, taken_program, taken_statement, taken_flow, taken_link};
@@ -24,16 +24,7 @@ const CELLS: u64 = 32;
 
 const BITS: u64 = 64;
 
-// One less, 0 at 0.
-fn previous(n: u64) -> u64
-    ensures { result ≡ n - 1 }
-{
-    if n == 0 {
-        return 0;
-    }
-    n - 1
-}
-
+// A relation more, with its set.
 fn take_relation(words: &mut [u64; WORDS], reads: u64)
     ensures { Took words.old words.new (taken_relation (state_in words.old) reads) }
 {
@@ -92,10 +83,11 @@ fn take_statement(words: &mut [u64; WORDS], rel: u8, kind: StatementKind)
 fn mark(part: u64, which: u64, place: u64) -> u64
     ensures { result ≡ mark_of part which place }
 {
-    if part != which {
-        return 0;
+    if part == which {
+        1u64 << (place % BITS)
+    } else {
+        0
     }
-    1u64 << (place % BITS)
 }
 
 // One block more above a depth: its place is added to the places of its part.
@@ -125,14 +117,14 @@ fn take_second(words: &mut [u64; WORDS])
 {
     let depth = words[DEPTH];
     let place = words[OPEN_PLACES + (depth % CELLS) as usize];
-    push(words, previous(depth), place, SECOND_ARM);
+    push(words, depth.saturating_sub(1), place, SECOND_ARM);
 }
 
 // The innermost block closed.
 fn take_closing(words: &mut [u64; WORDS])
     ensures { Took words.old words.new (taken_flow (state_in words.old) (popped_of (state_in words.old).stack)) }
 {
-    let below = previous(words[DEPTH]);
+    let below = words[DEPTH].saturating_sub(1);
     words[BODY] = words[BODY] % COUNTS + 1;
     words[LINES] = words[LINES] % COUNTS + 1;
     words[DEPTH] = below;
@@ -148,6 +140,7 @@ fn take_opening(words: &mut [u64; WORDS], part: u64)
     push(words, depth, body, part);
 }
 
+// A link more.
 fn take_link(words: &mut [u64; WORDS])
     ensures { Took words.old words.new (taken_link (state_in words.old)) }
 {

@@ -1,5 +1,5 @@
 -- The test of a cell without a line tells the unused line, cell by cell.
-use Rattle.std.specs.Prelude.{Bool, true, false, List, [], ◌∷◌, ◌≡◌, refl, ℕ, zero, suc, ◌+◌, ◌≤◌, ◌<◌, eqb, length, get_or, drop, replicate}
+use Rattle.std.specs.Prelude.{true, false, List, [], ◌∷◌, ◌≡◌, refl, ℕ, zero, suc, ◌+◌, ◌≤◌, ◌<◌, eqb, length, get_or, drop, replicate}
 use Rattle.std.proofs.Common.{ap, add-one, arith, drop_of_length-le, drop-cons, eqb-true}
 use Rattle.spec_base.specs.Basic.{all}
 use Rattle.law_base.specs.BoolLaws.{and_true, and_of, true_false}

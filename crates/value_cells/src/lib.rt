@@ -11,8 +11,7 @@ use spec_text::{Line, Workload};
 fn is_empty(l: Line) -> bool
     ensures { result ≡ is_empty l }
 {
-    let kind = l.kind;
-    (line_kinds::line_facts(kind) == line_kinds::CLOSES)
+    (line_kinds::line_facts(l.kind) == line_kinds::CLOSES)
         & (l.id == 0)
         & (l.rel == 0)
         & (l.to == 0)
@@ -25,13 +24,10 @@ fn is_empty(l: Line) -> bool
 pub fn rest_empty(w: Workload) -> bool
     ensures { result ≡ all is_empty (drop w.count w.lines) }
 {
-    let mut i = w.count;
-    while i < spec_text::CELLS {
-        let l = w.lines[i];
-        if !is_empty(l) {
+    for i in w.count..spec_text::CELLS {
+        if !is_empty(w.lines[i]) {
             return false;
         }
-        i += 1;
     }
     true
 }

@@ -1,6 +1,9 @@
--- Words set to 0 one by one.
-use Rattle.std.specs.Prelude.{Bool, true, false, List, ◌≡◌, refl, ℕ, ◌+◌, ◌-◌, ◌≤◌, ◌<◌, eqb, ltb, length, get_or, set}
+-- Words set to 0.
+use Rattle.std.specs.Prelude.{Bool, true, false, List, ◌≡◌, refl, ℕ, ◌+◌, ◌-◌, ◌≤◌, ◌<◌, eqb, ltb, length, get_or, set, min, replicate}
 use Rattle.std.proofs.Common.{ap, ◌∙◌, arith, length-set, get_or-set_same, get_or-set_other, eqb-true, ltb-true, ltb-false}
+use borrow.Rule.Slice.PartMut.{put_mid}
+use Rattle.std.proofs.Common.{rules}
+use Rattle.std.proofs.lemmas.List.{places}
 use Rattle.std.proofs.Math.ListN.{get_or-eq_default}
 use Rattle.std.proofs.lemmas.Bool.{eqb-false}
 
@@ -67,3 +70,21 @@ cleared_past {from} {i} {to} {before} {after} n h c =
     rest : (p : ℕ) → from ≤ p → (d : Bool) → ltb p i ≡ d → get_or after p 0 ≡ 0
     rest p x true e = c.inside p x (ltb-true p i e)
     rest p x false e = get_or-eq_default after 0 (omega (arith, ltb-false p i e))
+
+-- a part filled with zeros, from one place up to the other or the last word there is
+pub cleared_fill : (from to end : ℕ) (words part : List ℕ) → end ≡ min to (length words) → from < end → part ≡ replicate (end - from) 0
+    → Cleared from to words (put_mid from (end - from) words part)
+cleared_fill from to end words part e h f =
+    record {
+      size = rw f (search (rules, places));
+      inside = λ p a b. inner p a b (ltb p end) refl;
+      below = λ p a. rw f (search (rules, places));
+      above = λ p a. rw f (grind (arith, places));
+    }
+  where
+    inner : (p : ℕ) → from ≤ p → p < to → (d : Bool) → ltb p end ≡ d → get_or (put_mid from (end - from) words part) p 0 ≡ 0
+    inner p a b true l = let under : p < end = ltb-true p end l in rw f (grind (arith, places))
+    inner p a b false l =
+        let past : end ≤ p = ltb-false p end l in
+        let long : length (put_mid from (end - from) words part) ≡ length words = rw f (search (rules, places)) in
+        get_or-eq_default (put_mid from (end - from) words part) 0 (omega arith)

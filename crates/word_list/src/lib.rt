@@ -9,23 +9,16 @@ ghost use Rattle.word_list.specs.Clear.{Cleared};
 pub fn word_at(words: &[u64], i: usize) -> u64
     ensures { result ≡ get_or words.now i 0 }
 {
-    if i < words.len() {
-        return words[i];
-    }
-    0
+    words.get(i).copied().unwrap_or(0)
 }
 
 // Sets the words from one to another to 0, as far as there are words.
 pub fn clear(words: &mut [u64], from: usize, to: usize)
     ensures { Cleared from to words.old words.new }
 {
-    let mut i = from;
-    while i < to {
-        if words.len() <= i {
-            return;
-        }
-        words[i] = 0;
-        i += 1;
+    let end = to.min(words.len());
+    if from < end {
+        words[from..end].fill(0);
     }
 }
 

@@ -1,5 +1,4 @@
 -- What is asked of the kinds and of their sets gives the chance of A (a-told).
-use borrow.Author.Rules.{rules}
 use Rattle.kind_chances.specs.EntryLaws.{a_told}
 use Rattle.kind_chances.proofs.chance_a.Goals as goal
 

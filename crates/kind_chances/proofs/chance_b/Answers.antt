@@ -1,5 +1,4 @@
 -- What is asked of the kinds and of their sets gives the chance of B (b-told).
-use borrow.Author.Rules.{rules}
 use Rattle.kind_chances.specs.EntryLaws.{b_told}
 use Rattle.kind_chances.proofs.chance_b.Goals as goal
 

@@ -1,5 +1,4 @@
 -- What is asked of the kinds and of their sets gives the chance of C (c-told).
-use borrow.Author.Rules.{rules}
 use Rattle.kind_chances.specs.EntryLaws.{c_told}
 use Rattle.kind_chances.proofs.chance_c.Goals as goal
 

@@ -1,5 +1,4 @@
 -- What is asked of the kinds and of their sets gives the chance of D (d-told).
-use borrow.Author.Rules.{rules}
 use Rattle.kind_chances.specs.EntryLaws.{d_told}
 use Rattle.kind_chances.proofs.chance_d.Goals as goal
 

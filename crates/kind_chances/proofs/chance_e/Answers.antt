@@ -1,5 +1,4 @@
 -- It is C the other way round (e-told).
-use borrow.Author.Rules.{rules}
 use Rattle.kind_chances.specs.EntryLaws.{e_told}
 use Rattle.kind_chances.proofs.chance_e.Goals as goal
 

@@ -3,7 +3,7 @@ use Rattle.spec_text.specs.declared.StatementKind.{StatementKind}
 use Rattle.spec_graph.specs.Edge.Letter.{A, B, C, D, E}
 use Rattle.spec_kinds.specs.Meaning.{Means}
 use Rattle.kind_chances.specs.declared.Entry.{Entry}
-use Rattle.kind_chances.specs.Entries.{EntryMeans, chance_for}
+use Rattle.kind_chances.specs.Entries.{EntryMeans}
 use Rattle.kind_chances.proofs.entry_of.Goals as goal
 
 each : (k l : StatementKind) (e : Entry) → Means A k l e.a → Means B k l e.b → Means C k l e.c → Means D k l e.d → Means E k l e.e

@@ -1,5 +1,4 @@
 -- The fact says it (tests-there).
-use borrow.Author.Rules.{rules}
 use Rattle.kind_chances.specs.Classes.{tests_there}
 use Rattle.kind_chances.proofs.has_tests.Goals as goal
 

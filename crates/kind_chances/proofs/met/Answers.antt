@@ -1,5 +1,4 @@
 -- What is asked of the two classes is what the contract asks.
-use borrow.Author.Rules.{rules}
 use Rattle.kind_chances.proofs.met.Goals as goal
 
 pub returns : goal.returns

@@ -1,5 +1,4 @@
 -- The facts of the kind tell the class of its reads (reads-by): those that T9 allows.
-use borrow.Author.Rules.{rules}
 use Rattle.kind_chances.proofs.ClassesTold.{reads_by_lem}
 use Rattle.kind_chances.proofs.reads_of.Goals as goal
 

@@ -1,5 +1,4 @@
 -- The facts of the kind tell the class of its writes (writes-by): those that T9 allows.
-use borrow.Author.Rules.{rules}
 use Rattle.kind_chances.proofs.ClassesTold.{writes_by_lem}
 use Rattle.kind_chances.proofs.writes_of.Goals as goal
 

@@ -4,7 +4,6 @@ use mathlib.Core.Path.{refl}
 use Rattle.line_state.specs.StateSteps.{next_of}
 use Rattle.line_take.specs.Stores.{store_in, stores_in}
 use Rattle.line_take.specs.TakeLaws.{took_push}
-use borrow.Author.Rules.{rules}
 use Rattle.line_take.proofs.push.Goals as goal
 
 pub returns : goal.returns

@@ -3,9 +3,8 @@ use mathlib.Core.Path.{refl}
 use Rattle.line_state.specs.StateSteps.{next_of}
 use Rattle.line_take.specs.Stores.{store_in, stores_in}
 use Rattle.line_take.specs.TakeLaws.{took_closing}
-use borrow.Author.Rules.{rules}
 use Rattle.line_take.proofs.take_closing.Goals as goal
 
 pub returns : goal.returns
 unfolding stores_in store_in next_of
-returns c = took_closing c.previous-below.ensures refl
+returns c = took_closing c.saturating_sub-below.ensures refl

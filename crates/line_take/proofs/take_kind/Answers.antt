@@ -1,6 +1,6 @@
 -- Each arm makes the state that `take_as` names for its kind, and the kind at hand is that kind (took-kind).
 use Rattle.line_state.specs.StateSteps.{take_as}
-use Rattle.line_take.specs.Stores.{line_by, Took}
+use Rattle.line_take.specs.Stores.{line_by}
 use Rattle.line_take.specs.TakeLaws.{took_kind}
 use Rattle.line_take.proofs.take_kind.Goals as goal
 

@@ -1,6 +1,5 @@
 -- A block is pushed at the depth and the place that the words keep, which are those of the state.
 use Rattle.line_state.specs.StateWords.{state_in}
-use borrow.Author.Rules.{rules}
 use Rattle.line_take.proofs.take_opening.Goals as goal
 
 pub returns : goal.returns

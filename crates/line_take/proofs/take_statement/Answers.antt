@@ -8,7 +8,6 @@ use Rattle.line_kinds.specs.Kinds.{may_parent}
 use Rattle.line_state.specs.StateSteps.{next_of}
 use Rattle.line_take.specs.Stores.{store_in, stores_in}
 use Rattle.line_take.specs.TakeLaws.{took_statement}
-use borrow.Author.Rules.{rules}
 use Rattle.line_take.proofs.take_statement.Goals as goal
 
 pub returns : goal.returns

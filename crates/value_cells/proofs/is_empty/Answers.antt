@@ -1,6 +1,5 @@
 -- The kind's facts are those of `is_empty`, and the six tests of the values follow in its order.
 use Rattle.value_cells.specs.Cells.{is_empty}
-use borrow.Author.Rules.{rules}
 use Rattle.value_cells.proofs.is_empty.Goals as goal
 
 pub returns : goal.returns

@@ -1,21 +1,13 @@
--- Up to i the words from `from` on are 0 and the others as they were; each turn clears one more (cleared_more), until i is at the end asked for
--- (cleared-end) or past the last word (cleared-past).
-use Rattle.word_list.specs.Clear.{Cleared, cleared_none, cleared_more, cleared_end, cleared_past}
-use borrow.Author.Rules.{rules}
-use native.Mathlib.Omega.{arith}
-use Prim.Native.Nat.{◌-◌, ◌≤◌}
+-- The words from one place to the other are filled with 0, as far as there are words (cleared_fill).
+use Rattle.std.proofs.Common.{◌≤◌, ◌∙◌, ap, ℕ, length, replicate, arith}
+use Rattle.std.proofs.Common.{rules}
+use Rattle.std.proofs.lemmas.List.{places}
+use Rattle.word_list.specs.Clear.{cleared_fill}
 use Rattle.word_list.proofs.clear.Goals as goal
 
-pub loop-i-init : goal.loop-i-init
-loop-i-init c = (omega arith, omega arith, cleared_none _ _)
-
-pub returns-then-words-i : goal.returns-then-words-i
-returns-then-words-i c = cleared_past c.if-words-i.true c.loop-i-test.true c.loop-i.invariant.2
-
-pub loop-i-preserved : goal.loop-i-preserved
-loop-i-preserved c =
-    let inv = c.loop-i.invariant in
-    (omega arith, omega arith, cleared_more inv.2 inv.0 (omega (arith, inv.2.size)))
-
-pub returns : goal.returns
-returns c = cleared_end c.loop-i.invariant.0 c.loop-i.invariant.1 c.loop-i-test.false c.loop-i.invariant.2
+pub returns-then-from-end : goal.returns-then-from-end
+returns-then-from-end c =
+    let args = c.args in
+    let long : c.min-end.result ≤ length args.words.now = omega (arith, c.min-end.ensures) in
+    cleared_fill args.from args.to c.min-end.result args.words.now c.fill.new.self c.min-end.ensures c.if-from-end.true
+    (c.fill.ensures.after (λ y e. e) ∙ ap (λ (n : ℕ). replicate n 0) (search (rules, places)))

@@ -1,11 +1,9 @@
 -- A word is below 2 ^ 64, so shifted down by 64 or more it is 0 and has no bit; below that the bit is shifted down and tested, as `has` does.
 use native.Mathlib.Nat.{div-eq_of_lt, lt_of_lt_of_le}
-use native.Mathlib.Omega.{arith}
 use lib.Dec.{eqb}
 use lib.Pow.{pow_mono}
-use mathlib.Core.Path.{◌≡◌, refl, ap, sym, ◌∙◌}
-use Prim.Native.Nat.{ℕ, ◌+◌, ◌-◌, ◌*◌, ◌%◌, ◌^◌, ◌≤◌, ◌<◌}
-use lib.ListN.{length, set, get_or, length-set, take, drop}
+use mathlib.Core.Path.{ap, sym}
+use Prim.Native.Nat.{ℕ, ◌%◌, ◌^◌, ◌<◌}
 use borrow.Author.Rules.{rules}
 use Rattle.word_list.proofs.has_bit.Goals as goal
 
