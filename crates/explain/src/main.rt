@@ -5,7 +5,6 @@
 
 use console::{INPUT_BYTES, print, print_numbers};
 use edge_find::{edge_from, shared_by};
-use edge_list::EdgeAnswer;
 use edge_record::Edge;
 use pick_laws::STEP_WORDS;
 use place_fetch::row_at;
@@ -13,8 +12,9 @@ use place_row::{ROW_SLOTS, ROW_WORDS, ROWS, SLOTS, TABLE_WORDS};
 use spec_text::Workload;
 use std::io::{Stdout, Write};
 use stdin::Input;
-use unfold_choice::TAKEN;
+use unfold_choice::{Choices, TAKEN};
 use unfold_laws::{UNFOLDINGS, WORD_LINES};
+use unfold_program::{ProgramUnfoldings, program_unfoldings};
 use verdict_told::{Totals, Verdict};
 use walk_first::WALK_WORDS;
 use word_list::{has_bit, word_at};
@@ -67,10 +67,9 @@ fn tell_before(out: Stdout, text: &[u8]) {
 // Of a workload that unfolds too far: what each program unfolds to. There are at most 16 programs.
 fn tell_unfolds(out: Stdout, w: Workload) {
     for p in 0..16 {
-        let u = unfold_program::program_unfoldings(w, p);
-        if !u.found {
+        let Ok(Some(u)) = program_unfoldings(w, p) else {
             return;
-        }
+        };
         tell(
             out,
             b"unfolds",
@@ -103,7 +102,10 @@ fn nodes_before(programs: &[u8], program: u64) -> u64 {
 
 // A program: its line, its unfoldings and the statements in them, the edges that leave its nodes and the back edges among them.
 fn tell_program(out: Stdout, w: Workload, t: Tables, p: u64) {
-    let u = unfold_program::program_unfoldings(w, p);
+    let u = match program_unfoldings(w, p) {
+        Ok(Some(u)) => u,
+        _ => ProgramUnfoldings::default(),
+    };
     let first = nodes_before(t.programs, p);
     let next = nodes_before(t.programs, p % 16 + 1);
     let c = edge_between::count_between(t.table, first, next, 0, UNFOLDINGS as u64);
@@ -127,15 +129,23 @@ fn tell_programs(out: Stdout, w: Workload, t: Tables, count: u64) {
     }
 }
 
-// A node: its program, which unfolding of it, and what it chose: the line of each loop or branch with the turns or the arm.
-fn tell_node(out: Stdout, w: Workload, node: u64) {
-    let c = unfold_choice::choices_of(w, node);
-    print(out, b"node");
-    print_numbers(out, &[node, c.program, c.number]);
-    let words = c.words;
+// What a node chose: the line of each loop or branch with the turns or the arm.
+fn tell_choices(out: Stdout, c: Choices) {
     for k in 0..c.count {
-        let word = word_at(&words, k as usize);
+        let word = word_at(&c.words, k as usize);
         print_numbers(out, &[text_line(word / TAKEN), word % TAKEN]);
+    }
+}
+
+// A node: its program, which unfolding of it, and what it chose.
+fn tell_node(out: Stdout, w: Workload, node: u64) {
+    print(out, b"node");
+    match unfold_choice::choices_of(w, node) {
+        Ok(Some(c)) => {
+            print_numbers(out, &[node, c.program, c.number]);
+            tell_choices(out, c);
+        }
+        _ => print_numbers(out, &[node, 0, 0]),
     }
     print(out, b"\n");
 }
@@ -287,15 +297,10 @@ fn print_edge(out: Stdout, table: &[u64], e: Edge, number: u64, left: usize, ent
 fn print_edge_of(out: Stdout, w: Workload, table: &[u64], g: Going, left: usize, entered: usize) {
     let slot = left % ROWS * ROW_SLOTS + entered % ROWS * 2 + (g.flow % 2) as usize;
     let number = edges_before(table, slot);
-    let answer = edge_list::edge_number(w, number);
-    match answer {
-        EdgeAnswer::There(e) => {
-            if is_edge_of(e, g) {
-                print_edge(out, table, e, number, left, entered);
-            }
+    if let Ok(Some(e)) = edge_list::edge_number(w, number) {
+        if is_edge_of(e, g) {
+            print_edge(out, table, e, number, left, entered);
         }
-        EdgeAnswer::Absent => {}
-        EdgeAnswer::Refused(_) => {}
     }
 }
 
@@ -420,13 +425,12 @@ fn tell_value(out: Stdout, w: Workload) {
 
 // The facts of a text; the last line says that they are all there.
 fn tell_text(out: Stdout, text: &[u8]) {
-    let parsed = text_read::read_text(text);
-    let number = parsed.number;
-    if number != 0 {
-        tell_refused(out, number, parsed.line);
-        tell_before(out, text);
-    } else {
-        tell_value(out, parsed.work);
+    match text_read::read_text(text) {
+        Ok(w) => tell_value(out, w),
+        Err(r) => {
+            tell_refused(out, r.fault.number(), r.line);
+            tell_before(out, text);
+        }
     }
     print(out, b"end\n");
 }

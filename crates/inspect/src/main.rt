@@ -5,9 +5,7 @@
 
 use check::same;
 use console::{INPUT_BYTES, WORD_BYTES, argument, open_read, print, print_numbers, read_full};
-use edge_list::{EdgeAnswer, EdgeCounts};
-use edge_put::Put;
-use edge_record::{Edge, Found};
+use edge_record::Edge;
 use place_row::{ROWS, TABLE_WORDS};
 use spec_text::{CELLS, Line, LineKind, StatementKind, Workload};
 use std::io::{Stdout, Write};
@@ -137,14 +135,10 @@ fn list_unfoldings(out: Stdout, w: Workload) {
 // ---- edges
 
 // An edge that is found. There is one each time: as many are asked for as are counted.
-fn print_found(out: Stdout, found: Found) {
+fn print_found(out: Stdout, found: Option<Edge>) {
     match found {
-        Found::There(edge) => {
-            print_edge(out, edge);
-        }
-        Found::Absent => {
-            print(out, b"none\n");
-        }
+        Some(edge) => print_edge(out, edge),
+        None => print(out, b"none\n"),
     }
 }
 
@@ -187,15 +181,15 @@ fn show_number(out: Stdout, w: Workload, k: u64) {
     print(out, b"edge");
     print_numbers(out, &[k]);
     match a {
-        EdgeAnswer::There(edge) => {
+        Ok(Some(edge)) => {
             print(out, b" 0 ");
             print_edge(out, edge);
         }
-        EdgeAnswer::Absent => {
+        Ok(None) => {
             print(out, b" 0 none\n");
         }
-        EdgeAnswer::Refused(number) => {
-            print_numbers(out, &[u64::from(number)]);
+        Err(fault) => {
+            print_numbers(out, &[u64::from(fault.number())]);
             print(out, b" none\n");
         }
     }
@@ -217,20 +211,8 @@ fn show_counted(out: Stdout, w: Workload, refusal: u64, edges: u64, back: u64) {
 fn show_edges(out: Stdout, w: Workload) {
     let c = edge_list::edge_counts(w);
     match c {
-        EdgeCounts::Counted { edges, back } => {
-            show_counted(out, w, 0, edges, back);
-        }
-        EdgeCounts::Refused(number) => {
-            show_counted(out, w, number as u64, 0, 0);
-        }
-    }
-}
-
-// The number of a refusal, 0 where the edges are put.
-fn number_of(put: Put) -> u64 {
-    match put {
-        Put::All(_) => 0,
-        Put::Refused(number) => number as u64,
+        Ok(c) => show_counted(out, w, 0, c.edges, c.back),
+        Err(fault) => show_counted(out, w, u64::from(fault.number()), 0, 0),
     }
 }
 
@@ -249,7 +231,10 @@ fn show_put(out: Stdout, w: Workload) {
     let mut area = [mark; 8];
     let put = edge_list::put_workload_edges(w, &mut area);
     print(out, b"put");
-    print_numbers(out, &[number_of(put)]);
+    print_numbers(
+        out,
+        &[put.map_or_else(|fault| u64::from(fault.number()), |_| 0)],
+    );
     print(out, b"\n");
     for e in &area {
         print_edge(out, *e);
@@ -361,12 +346,10 @@ fn list_areas(out: Stdout, w: Workload) {
 
 // What is asked of a text that is read, or its refusal.
 fn list_value(out: Stdout, text: &[u8], list: impl Fn(Stdout, Workload)) {
-    let parsed = text_read::read_text(text);
-    if parsed.number != 0 {
-        print_refused(out, parsed.number, parsed.line);
-        return;
+    match text_read::read_text(text) {
+        Ok(w) => list(out, w),
+        Err(r) => print_refused(out, r.fault.number(), r.line),
     }
-    list(out, parsed.work);
 }
 
 // What is asked of a text, if anything is.

@@ -4,9 +4,11 @@
 
 use check::same;
 use console::{INPUT_BYTES, WORD_BYTES, argument, open_read, print, read_full};
+use refusal::{Fault, Refusal};
 use spec_text::{CELLS, Line, LineKind, Workload};
 use std::io::{Stdout, Write};
-use text_read::Parsed;
+use text_read::read_text;
+use value_part::{NotGiven, part_of};
 
 // ---- two values
 
@@ -48,29 +50,30 @@ fn print_refused(mut out: Stdout, number: u8) {
 }
 
 // Whether the part that a group makes of the whole is what was read, or a refusal.
-fn show_part(out: Stdout, whole: Workload, group: u16, parsed: Parsed) {
-    let number = parsed.number;
-    if number != 0 {
-        print_refused(out, number);
-        return;
+fn show_part(out: Stdout, whole: Workload, group: u16, parsed: Result<Workload, Refusal>) {
+    let w = match parsed {
+        Ok(w) => w,
+        Err(r) => {
+            print_refused(out, r.fault.number());
+            return;
+        }
+    };
+    match part_of(whole, group) {
+        Ok(part) => print_same(out, same_value(&part, &w)),
+        Err(_) => print_refused(out, Fault::NotGiven.number()),
     }
-    let part = value_part::part_of(whole, group);
-    let refusal = part.number;
-    if refusal != 0 {
-        print_refused(out, refusal);
-        return;
-    }
-    print_same(out, same_value(&part.work, &parsed.work));
 }
 
 // ---- values near the whole that no text gives
 
 // What is answered for a value that no text gives, and whether the value is handed back.
 fn show_near(mut out: Stdout, near: Workload) {
-    let part = value_part::part_of(near, u16::MAX);
-    let number = part.number;
+    let (number, back) = match part_of(near, u16::MAX) {
+        Ok(part) => (0, part),
+        Err(NotGiven(back)) => (Fault::NotGiven.number(), back),
+    };
     let _ = write!(out, ": {number}");
-    print_same(out, same_value(&part.work, &near));
+    print_same(out, same_value(&back, &near));
 }
 
 // A value with another line in a cell, of this kind and with these reads, and another count of lines.
@@ -109,13 +112,13 @@ fn show_all_near(out: Stdout, w: Workload) {
 
 // What a file's text is read into. A text that fills the area is over the bound, whatever follows; a file that cannot be opened is named on
 // standard error and read as no bytes.
-fn read_file(rt: &HostRuntime, path: &[u8]) -> Parsed {
+fn read_file(rt: &HostRuntime, path: &[u8]) -> Result<Workload, Refusal> {
     let Some(mut file) = open_read(rt, path) else {
-        return text_read::read_text(b"");
+        return read_text(b"");
     };
     let mut text = [0u8; INPUT_BYTES];
     let n = read_full(&mut file, &mut text);
-    text_read::read_text(&text[..n])
+    read_text(&text[..n])
 }
 
 // The group that decimal digits say: a number up to 65535.
@@ -127,16 +130,24 @@ fn group_of(word: &[u8]) -> Option<u16> {
     }
 }
 
+// A value that no text gives.
+fn no_value() -> Workload {
+    value_unused::unused_cells(CELLS + 1)
+}
+
 // The whole that a file gives; of one that some text gives also what is answered for values near it.
-fn take_whole(out: Stdout, parsed: Parsed) -> Workload {
-    let number = parsed.number;
-    if number != 0 {
-        print_refused(out, number);
-        return parsed.work;
+fn take_whole(out: Stdout, parsed: Result<Workload, Refusal>) -> Workload {
+    match parsed {
+        Ok(w) => {
+            print(out, b"\n");
+            show_all_near(out, w);
+            w
+        }
+        Err(r) => {
+            print_refused(out, r.fault.number());
+            no_value()
+        }
     }
-    print(out, b"\n");
-    show_all_near(out, parsed.work);
-    parsed.work
 }
 
 // What two words ask.
@@ -158,7 +169,7 @@ fn take_words(rt: &HostRuntime, whole: Workload, word: &[u8], path: &[u8]) -> Wo
 
 // Before the first whole there is none: a value that no text gives.
 fn main(rt: HostRuntime) {
-    let mut whole = value_unused::unused_cells(CELLS + 1);
+    let mut whole = no_value();
     let mut word = [0u8; WORD_BYTES];
     let mut path = [0u8; WORD_BYTES];
     for k in 0..usize::MAX / 4 {
