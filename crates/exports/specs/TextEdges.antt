@@ -1,5 +1,5 @@
 -- What the export of a text's edges answers, and what the caller's list holds afterwards. Believed.
-use Rattle.std.specs.Prelude.{true, false, List, ◌++◌, map, ◌⊎◌, ◌≡◌, ℕ, ◌≤◌, length, drop}
+use Rattle.std.specs.Prelude.{true, false, List, ◌++◌, map, ◌⊎◌, ◌≡◌, ℕ, ◌≤◌, length, drop, Result}
 use Rattle.std.proofs.Common.{inl, inr}
 use Rattle.spec_text.specs.declared.Line.{Line}
 use Rattle.spec_text.specs.Reading.{Outcome}
@@ -9,7 +9,7 @@ use Rattle.spec_graph.specs.Edge.{edges_of}
 use Rattle.spec_report.specs.State.{is_too_many, short_for_edges}
 use Rattle.edge_record.specs.declared.Edge.{Edge}
 use Rattle.edge_record.specs.Coded.{coded}
-use Rattle.edge_put.specs.declared.Put.{Put}
+use Rattle.refusal.specs.declared.Fault.{Fault}
 use Rattle.edge_put.specs.Put.{put_said}
 use Rattle.export_word.specs.Word.{refusal_word}
 
@@ -35,5 +35,5 @@ edges_word (inl number) = refusal_word number 0
 edges_word (inr count) = count
 
 -- no workload has more edges
-abbrev pub FewPut : Put → Type 0
+abbrev pub FewPut : Result ℕ Fault → Type 0
 FewPut answer = (n : ℕ) → put_said answer ≡ inr n → n ≤ 524288

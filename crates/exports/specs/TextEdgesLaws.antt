@@ -1,5 +1,5 @@
 -- The answer is never mistaken; and what it is for a refused and for an accepted text.
-use Rattle.std.specs.Prelude.{List, ◌⊎◌, ◌≡◌, refl, ℕ, ◌+◌, ◌*◌, ◌/◌, ◌%◌, ◌≤◌, ◌<◌, length}
+use Rattle.std.specs.Prelude.{List, ◌⊎◌, ◌≡◌, refl, ℕ, ◌+◌, ◌*◌, ◌/◌, ◌%◌, ◌≤◌, ◌<◌, length, Result, Ok, Err}
 use Rattle.std.proofs.Common.{inl, inr, sym, ap, subst, ◌∙◌, arith}
 use Rattle.std.proofs.Math.Option.{Option, none, some}
 use Rattle.spec_text.specs.declared.Line.{Line}
@@ -14,11 +14,13 @@ use Rattle.spec_report.specs.State.{StateRefusal, is_too_many, short_for_edges}
 use Rattle.spec_report.specs.State.StateRefusal.{not_given, too_many, too_short, taken}
 use Rattle.spec_report.specs.Refusals.{not_both}
 use Rattle.edge_record.specs.declared.Edge.{Edge}
-use Rattle.edge_put.specs.declared.Put.{Put}
+use Rattle.refusal.specs.declared.Fault.{Fault}
+use Rattle.refusal.specs.declared.Refusal.{Refusal}
+use Rattle.refusal.specs.Numbers.{number_of}
+use Rattle.refusal.specs.Told.{told as told_by}
 use Rattle.edge_put.specs.Put.{put_said}
 use Rattle.edge_list.specs.EdgesSettled.{edges_in, PutSettled}
 use Rattle.edge_list.specs.Few.{edges_few}
-use Rattle.text_read.specs.declared.Parsed.{Parsed}
 use Rattle.text_read.specs.Parse.{parsed_as}
 use Rattle.refusal_laws.specs.RefusalLaws.{refusal_bounds, parsed_refused, parsed_accepted}
 use Rattle.export_word.specs.Word.{refusal_word}
@@ -64,33 +66,36 @@ refusal_told text (put lines o t s e same) q = absurd (not_both_read (sym q ∙ 
 -- ---- the answers
 
 -- few edges are told by their count
-pub few_word : (answer : Put) {r : ℕ} → FewPut answer → r ≡ put_told (put_said answer) → r ≡ edges_word (put_said answer)
+pub few_word : (answer : Result ℕ Fault) {r : ℕ} → FewPut answer → r ≡ put_told (put_said answer) → r ≡ edges_word (put_said answer)
 few_word answer few word = word ∙ go (put_said answer) refl
   where
     go : (said : ℕ ⊎ ℕ) → put_said answer ≡ said → put_told said ≡ edges_word said
     go (inl number) e = refl
     go (inr n) e = let l = few n e in omega arith
 
-module _ (text : List ℕ) {p : Parsed} (e : p ≡ parsed_as (read text)) {before : List Edge} {r : ℕ} where
+module _ (text : List ℕ) {p : Result Workload Refusal} (e : told_by p ≡ parsed_as (read text)) {before : List Edge} {r : ℕ} where
   -- R: the refusal of the text
-  pub edges_unread : (p.number ≡ 0 → ⊥) → r ≡ refusal_word p.number p.line → TextEdges (read text) before r before
-  edges_unread other word = unread p.number p.line (parsed_refused text e other) word refl
+  pub edges_unread : (f : Refusal) {number : ℕ} → p ≡ Err f → number ≡ number_of f.fault → r ≡ refusal_word number f.line
+      → TextEdges (read text) before r before
+  edges_unread f {number} is number_is word =
+      unread number f.line
+      (parsed_refused text (ap (λ (n : ℕ). Err (n, f.line)) number_is ∙ ap told_by (sym is) ∙ e)) word refl
 
-  module _ (zero_number : p.number ≡ 0) {after : List Edge} {answer : Put} (settled : PutSettled p.work before answer after)
+  module _ (w : Workload) (accepted_w : p ≡ Ok w) {after : List Edge} {answer : Result ℕ Fault} (settled : PutSettled w before answer after)
       (word : r ≡ edges_word (put_said answer)) where
     -- S22 and S20 of the value, or the edges put; S21 cannot be
     pub edges_settled : TextEdges (read text) before r after
     edges_settled =
-        let given = parsed_accepted text e zero_number in
+        let given = parsed_accepted text (ap told_by (sym accepted_w) ∙ e) in
         go given.0 given.1
-        (subst (λ (w : Workload). Given w) (sym given.2) (value_given text given.1))
+        (subst (λ (x : Workload). Given x) (sym given.2) (value_given text given.1))
         (ap lines_of given.2 ∙ lines_of_value given.0) settled
       where
         counts : {s : ℕ ⊎ ℕ} → put_said answer ≡ s → r ≡ edges_word s
         counts said = word ∙ ap edges_word said
 
-        state : (lines : List Line) → read text ≡ accepted lines → Given p.work → lines_of p.work ≡ lines
-            → {o : Option ℕ} {n : ℕ} → o ≡ some n → StateRefusal p.work (short_for_edges (lines_of p.work) (length before)) o
+        state : (lines : List Line) → read text ≡ accepted lines → Given w → lines_of w ≡ lines
+            → {o : Option ℕ} {n : ℕ} → o ≡ some n → StateRefusal w (short_for_edges (lines_of w) (length before)) o
             → put_said answer ≡ inl n → after ≡ before → TextEdges (read text) before r after
         state lines o g l {n = n} q (not_given h) said same = absurd (h g)
         state lines o g l {n = n} q (too_many h t) said same =
@@ -102,9 +107,9 @@ module _ (text : List ℕ) {p : Parsed} (e : p ≡ parsed_as (read text)) {befor
             (counts said ∙ ap (λ (k : ℕ). refusal_word k 0) m) same
         state lines o g l {n = n} q (taken h t s) said same = absurd (not_both q refl)
 
-        all : (lines : List Line) → read text ≡ accepted lines → lines_of p.work ≡ lines
-            → {o : Option ℕ} → o ≡ none → StateRefusal p.work (short_for_edges (lines_of p.work) (length before)) o
-            → put_said answer ≡ inr (length (edges_in p.work)) → after ≡ edges_put (lines_of p.work) before → TextEdges (read text) before r after
+        all : (lines : List Line) → read text ≡ accepted lines → lines_of w ≡ lines
+            → {o : Option ℕ} → o ≡ none → StateRefusal w (short_for_edges (lines_of w) (length before)) o
+            → put_said answer ≡ inr (length (edges_in w)) → after ≡ edges_put (lines_of w) before → TextEdges (read text) before r after
         all lines o l q (not_given h) said same = absurd (not_both refl q)
         all lines o l q (too_many h t) said same = absurd (not_both refl q)
         all lines o l q (too_short h t s) said same = absurd (not_both refl q)
@@ -113,7 +118,7 @@ module _ (text : List ℕ) {p : Parsed} (e : p ≡ parsed_as (read text)) {befor
             (counts said ∙ ap (λ (x : List Line). length (E.edges_of (nodes_of x))) l)
             (same ∙ ap (λ (x : List Line). edges_put x before) l)
 
-        go : (lines : List Line) → read text ≡ accepted lines → Given p.work → lines_of p.work ≡ lines
-            → PutSettled p.work before answer after → TextEdges (read text) before r after
+        go : (lines : List Line) → read text ≡ accepted lines → Given w → lines_of w ≡ lines
+            → PutSettled w before answer after → TextEdges (read text) before r after
         go lines o g l (PutSettled.refused n refusal said same) = state lines o g l refl refusal said same
         go lines o g l (PutSettled.put refusal said same) = all lines o l refl refusal said same

@@ -10,6 +10,7 @@ ghost use Rattle.exports.specs.TextEdges.{TextEdges};
 use edge_record::Edge;
 use export_edges::put_word;
 use export_word::{nodes_word, refusal_word, value_word, verdict_word};
+use refusal::Fault;
 use spec_text::CELLS;
 use unfold::Unfolded;
 use verdict_told::numbered;
@@ -17,36 +18,38 @@ use verdict_told::numbered;
 pub fn stage_read(text: &[u8]) -> u32
     ensures { result ≡ read_word (given text.now) }
 {
-    let p = text_read::read_text(text);
-    if p.number != 0 {
-        return refusal_word(p.number, p.line);
+    match text_read::read_text(text) {
+        Ok(w) => {
+            let middle = w.lines[w.count / 2 % CELLS];
+            value_word(middle, w.count)
+        }
+        Err(r) => refusal_word(r.fault.number(), r.line),
     }
-    let w = p.work;
-    let middle = w.lines[w.count / 2 % CELLS];
-    value_word(middle, w.count)
 }
 
 // How many unfoldings there are, and where the last one's statements end; or the refusal.
-fn unfold_word(u: Unfolded) -> u32
+fn unfold_word(u: Result<Unfolded, Fault>) -> u32
     ensures { result ≡ unfold_word u }
 {
-    if u.refusal != 0 {
-        return refusal_word(u.refusal, 0);
+    match u {
+        Ok(u) => {
+            let last = ((u.count % 64 + 63) % 64) as usize;
+            nodes_word(u.count, u.start[last], u.length[last])
+        }
+        Err(fault) => refusal_word(fault.number(), 0),
     }
-    let last = ((u.count % 64 + 63) % 64) as usize;
-    nodes_word(u.count, u.start[last], u.length[last])
 }
 
 pub fn stage_unfold(text: &[u8], area: &mut [u64]) -> u32
     ensures { UnfoldStage (given text.now) area.old result area.new }
 {
-    let p = text_read::read_text(text);
-    if p.number != 0 {
-        return refusal_word(p.number, p.line);
+    match text_read::read_text(text) {
+        Ok(w) => {
+            let u = unfold::unfold(w, area);
+            unfold_word(u)
+        }
+        Err(r) => refusal_word(r.fault.number(), r.line),
     }
-    let w = p.work;
-    let u = unfold::unfold(w, area);
-    unfold_word(u)
 }
 
 // Puts the edges of a text at the front of the caller's list; the rest of it stays as it was, and a refusal leaves all of it. Answers how many
@@ -54,24 +57,24 @@ pub fn stage_unfold(text: &[u8], area: &mut [u64]) -> u32
 pub fn text_edges<'b, 'a>(text: &'b [u8], out: &'a mut [Edge]) -> u32
     ensures { TextEdges (read text.now) out.old result out.new }
 {
-    let p = text_read::read_text(text);
-    if p.number != 0 {
-        return refusal_word(p.number, p.line);
+    match text_read::read_text(text) {
+        Ok(w) => {
+            let put = edge_list::put_workload_edges(w, out);
+            put_word(put.map_err(Fault::number))
+        }
+        Err(r) => refusal_word(r.fault.number(), r.line),
     }
-    let w = p.work;
-    let put = edge_list::put_workload_edges(w, out);
-    put_word(put)
 }
 
 // The verdict, with a dangerous walk in the area.
 pub fn stage_verdict(text: &[u8], area: &mut [u64]) -> u32
     ensures { VerdictStage (given text.now) area.old result area.new }
 {
-    let p = text_read::read_text(text);
-    if p.number != 0 {
-        return refusal_word(p.number, p.line);
+    match text_read::read_text(text) {
+        Ok(w) => {
+            let v = verdict_of::verdict_of(w, area);
+            verdict_word(numbered(v))
+        }
+        Err(r) => refusal_word(r.fault.number(), r.line),
     }
-    let w = p.work;
-    let v = verdict_of::verdict_of(w, area);
-    verdict_word(numbered(v))
 }

@@ -1,9 +1,9 @@
--- A refusal of the text gives its word (read-refused); else the value that is read gives its own, from the line in its middle (read_taken).
+-- A refusal of the text gives its word (read_refused); else the value that is read gives its own, from the line in its middle (read_taken).
 use Rattle.exports.specs.StageLaws.{read_refused, read_taken}
 use Rattle.exports.proofs.stage_read.Goals as goal
 
-pub returns-then-p-ne0 : goal.returns-then-p-ne0
-returns-then-p-ne0 c = read_refused c.read_text-p.ensures c.if-p-ne0.true c.refusal_word.ensures
+pub returns-in-Err : goal.returns-in-Err
+returns-in-Err c = read_refused ? _ ? c.number.ensures c.refusal_word.ensures
 
-pub returns : goal.returns
-returns c = read_taken c.read_text-p.ensures c.if-p-ne0.false c.value_word.ensures
+pub returns-in-Ok : goal.returns-in-Ok
+returns-in-Ok c = read_taken ? _ ? c.value_word.ensures
