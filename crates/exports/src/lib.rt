@@ -18,7 +18,8 @@ use verdict_told::numbered;
 pub fn stage_read(text: &[u8]) -> u32
     ensures { result ≡ read_word (given text.now) }
 {
-    match text_read::read_text(text) {
+    let p = text_read::read_text(text);
+    match p {
         Ok(w) => {
             let middle = w.lines[w.count / 2 % CELLS];
             value_word(middle, w.count)
@@ -43,7 +44,8 @@ fn unfold_word(u: Result<Unfolded, Fault>) -> u32
 pub fn stage_unfold(text: &[u8], area: &mut [u64]) -> u32
     ensures { UnfoldStage (given text.now) area.old result area.new }
 {
-    match text_read::read_text(text) {
+    let p = text_read::read_text(text);
+    match p {
         Ok(w) => {
             let u = unfold::unfold(w, area);
             unfold_word(u)
@@ -57,7 +59,8 @@ pub fn stage_unfold(text: &[u8], area: &mut [u64]) -> u32
 pub fn text_edges<'b, 'a>(text: &'b [u8], out: &'a mut [Edge]) -> u32
     ensures { TextEdges (read text.now) out.old result out.new }
 {
-    match text_read::read_text(text) {
+    let p = text_read::read_text(text);
+    match p {
         Ok(w) => {
             let put = edge_list::put_workload_edges(w, out);
             put_word(put.map_err(Fault::number))
@@ -70,7 +73,8 @@ pub fn text_edges<'b, 'a>(text: &'b [u8], out: &'a mut [Edge]) -> u32
 pub fn stage_verdict(text: &[u8], area: &mut [u64]) -> u32
     ensures { VerdictStage (given text.now) area.old result area.new }
 {
-    match text_read::read_text(text) {
+    let p = text_read::read_text(text);
+    match p {
         Ok(w) => {
             let v = verdict_of::verdict_of(w, area);
             verdict_word(numbered(v))

@@ -1,5 +1,5 @@
 -- What the answer is for a refused and for an accepted text.
-use Rattle.std.specs.Prelude.{false, refl, ℕ, ◌+◌, ◌*◌, ◌≤◌, take, drop}
+use Rattle.std.specs.Prelude.{false, refl, ℕ, ◌+◌, ◌*◌, ◌≤◌, take, drop, Result}
 use mathlib.Core.List.{List, [], ◌++◌, flat_map}
 use Rattle.std.proofs.Math.Path.{◌≡◌, sym, ap}
 use Rattle.std.proofs.Common.{subst, ◌∙◌, not-suc-le-zero, length-append, length-take-le, lt-ltb, le-ltb}
@@ -21,7 +21,8 @@ use Rattle.place_text.specs.declared.TextRows.{TextRows}
 use Rattle.place_text.specs.Placed.{no_rows, rows_told, TextPlaced}
 use Rattle.edge_record.specs.declared.Edge.{Edge}
 use Rattle.edge_count.specs.Slots.{table_edges}
-use Rattle.edge_put.specs.declared.Put.{Put}
+use Rattle.refusal.specs.declared.Fault.{Fault}
+use Rattle.exports_lent.specs.Linked.{words_in, number_in, line_in}
 use Rattle.edge_put.specs.Put.{put_said, PutAs}
 use Rattle.edge_list.specs.Few.{edges_few}
 use Rattle.refusal_laws.specs.RefusalLaws.{refusal_bounds}
@@ -38,7 +39,7 @@ unfolding table_edges table_rows row_count edges_of_rows flat_map
 no_words table = refl
 
 -- with no edges nothing is put
-put_nothing : {before after : List Edge} {answer : Put} → PutAs [] before answer after → after ≡ before
+put_nothing : {before after : List Edge} {answer : Result ℕ Fault} → PutAs [] before answer after → after ≡ before
 put_nothing (PutAs.short less said same) = absurd (not-suc-le-zero less)
 put_nothing (PutAs.put fits said same) = same
 
@@ -78,57 +79,57 @@ module _ (text : List ℕ) {lines : List Line} (is_read : read text ≡ accepted
       let most = edges_few (value_of lines) (value_given text is_read) (ap is_too_many same ∙ few) in
       omega arith
 
-module _ (text : List ℕ) {old : List ℕ} {t : TextRows} {table : List ℕ} (rows : TextPlaced (read text) old t table) where
+module _ (text : List ℕ) {old : List ℕ} {t : Result TextRows (ℕ × ℕ)} {table : List ℕ} (rows : TextPlaced (read text) old t table) where
   -- the rows are inside the table
-  pub words_long : t.words ≡ length (take t.words table)
+  pub words_long : words_in t ≡ length (take (words_in t) table)
   unfolding no_rows rows_told
-  words_long = sym (length-take-le t.words table (go rows))
+  words_long = sym (length-take-le (words_in t) table (go rows))
     where
-      go : TextPlaced (read text) old t table → t.words ≤ length table
-      go (TextPlaced.unread number line o told same) = let n = ap (λ (x : TextRows). x.words) told in omega arith
-      go (TextPlaced.large lines o many told same) = let n = ap (λ (x : TextRows). x.words) told in omega arith
+      go : TextPlaced (read text) old t table → words_in t ≤ length table
+      go (TextPlaced.unread number line o told same) = let n = ap words_in told in omega arith
+      go (TextPlaced.large lines o many told same) = let n = ap words_in told in omega arith
       go (TextPlaced.placed lines o few told same) =
-          let n = ap (λ (x : TextRows). x.words) told in
+          let n = ap words_in told in
           let l = ap length same in
           let most = rows_inside text o few (drop (8 * statements_in (nodes_of lines)) old) in
           omega arith
 
-  module _ {before : List Edge} {answer : Put} {after : List Edge} (edges : PutAs (table_edges (take t.words table)) before answer after) where
+  module _ {before : List Edge} {answer : Result ℕ Fault} {after : List Edge} (edges : PutAs (table_edges (take (words_in t) table)) before answer after) where
     -- so few edges are put
     text_few : FewPut answer
     unfolding no_rows rows_told
     text_few n said = omega (arith, counted edges, most rows)
       where
-        counted : PutAs (table_edges (take t.words table)) before answer after → n ≡ length (table_edges (take t.words table))
+        counted : PutAs (table_edges (take (words_in t) table)) before answer after → n ≡ length (table_edges (take (words_in t) table))
         counted (PutAs.short less told same) = absurd (let z : ◌≡◌ {A = ℕ} 0 1 = cc in omega arith)
         counted (PutAs.put fits count same) = cc
 
-        none_there : t.words ≡ 0 → length (table_edges (take t.words table)) ≤ 524288
+        none_there : words_in t ≡ 0 → length (table_edges (take (words_in t) table)) ≤ 524288
         none_there e = let l = ap length (ap (λ (k : ℕ). table_edges (take k table)) e ∙ no_words table) in omega arith
 
-        most : TextPlaced (read text) old t table → length (table_edges (take t.words table)) ≤ 524288
-        most (TextPlaced.unread number line o told same) = none_there (ap (λ (x : TextRows). x.words) told)
-        most (TextPlaced.large lines o many told same) = none_there (ap (λ (x : TextRows). x.words) told)
+        most : TextPlaced (read text) old t table → length (table_edges (take (words_in t) table)) ≤ 524288
+        most (TextPlaced.unread number line o told same) = none_there (ap words_in told)
+        most (TextPlaced.large lines o many told same) = none_there (ap words_in told)
         most (TextPlaced.placed lines o few told same) =
-            rw (ap (λ (x : TextRows). x.words) told, same) (rows_few text o few (drop (8 * statements_in (nodes_of lines)) old))
+            rw (ap words_in told, same) (rows_few text o few (drop (8 * statements_in (nodes_of lines)) old))
 
     -- R, S22, S20, or the edges put
-    pub text_settled : {r : ℕ} → r ≡ edges_told t.number t.line (put_said answer) → TextEdges (read text) before r after
+    pub text_settled : {r : ℕ} → r ≡ edges_told (number_in t) (line_in t) (put_said answer) → TextEdges (read text) before r after
     unfolding no_rows rows_told short_for_edges
     text_settled {r} word = go rows
       where
-        kept : t.words ≡ 0 → after ≡ before
+        kept : words_in t ≡ 0 → after ≡ before
         kept e =
             put_nothing (subst (λ (l : List E.Edge). PutAs l before answer after) (ap (λ (k : ℕ). table_edges (take k table)) e ∙ no_words table)
             edges)
 
         told_word : (number line : ℕ) → t ≡ no_rows number line → (number ≡ 0 → ⊥) → r ≡ refusal_word number line
         told_word number line told other =
-            word ∙ ap (λ (x : TextRows). edges_told x.number x.line (put_said answer)) told ∙ sym (word_unread number line (put_said answer) other)
+            word ∙ ap (λ (x : Result TextRows (ℕ × ℕ)). edges_told (number_in x) (line_in x) (put_said answer)) told ∙ sym (word_unread number line (put_said answer) other)
 
         put_word_lem : (lines : List Line) → t ≡ rows_told lines → r ≡ put_word (put_said answer)
         put_word_lem lines told =
-            few_word answer text_few (word ∙ sym (word_put t.number t.line (put_said answer) (ap (λ (x : TextRows). x.number) told)))
+            few_word answer text_few (word ∙ sym (word_put (number_in t) (line_in t) (put_said answer) (ap number_in told)))
 
         all : (lines : List Line) → read text ≡ accepted lines → is_too_many lines ≡ false → r ≡ put_word (put_said answer)
             → PutAs (E.edges_of (nodes_of lines)) before answer after → TextEdges (read text) before r after
@@ -140,10 +141,10 @@ module _ (text : List ℕ) {old : List ℕ} {t : TextRows} {table : List ℕ} (r
         go : TextPlaced (read text) old t table → TextEdges (read text) before r after
         go (TextPlaced.unread number line o told same) =
             let least = (refusal_bounds text o).0.0 in
-            unread number line o (told_word number line told (λ e. omega arith)) (kept (ap (λ (x : TextRows). x.words) told))
+            unread number line o (told_word number line told (λ e. omega arith)) (kept (ap words_in told))
         go (TextPlaced.large lines o many told same) =
-            large lines o many (told_word 22 0 told (λ e. omega arith)) (kept (ap (λ (x : TextRows). x.words) told))
+            large lines o many (told_word 22 0 told (λ e. omega arith)) (kept (ap words_in told))
         go (TextPlaced.placed lines o few told same) =
             all lines o few (put_word_lem lines told)
             (subst (λ (l : List E.Edge). PutAs l before answer after)
-            (rw (ap (λ (x : TextRows). x.words) told, same) (rows_edges text o few (drop (8 * statements_in (nodes_of lines)) old))) edges)
+            (rw (ap words_in told, same) (rows_edges text o few (drop (8 * statements_in (nodes_of lines)) old))) edges)

@@ -1,5 +1,5 @@
 -- Linked rows have the edges that they had, so a text's edges are put from them.
-use Rattle.std.specs.Prelude.{List, map, ◌++◌, ◌≡◌, ℕ, ◌≤◌, length, take, drop}
+use Rattle.std.specs.Prelude.{List, map, ◌++◌, ◌≡◌, ℕ, ◌≤◌, length, take, drop, Result}
 use Rattle.std.proofs.Common.{sym, subst, ap, ◌∙◌, arith, length-append, length-take, length-drop, length-take-le}
 use Rattle.std.proofs.Math.Seq.{take-append_seam, drop-append_seam}
 use Rattle.spec_base.specs.Basic.{numbers}
@@ -12,12 +12,12 @@ use Rattle.place_text.specs.declared.TextRows.{TextRows}
 use Rattle.place_text.specs.Placed.{TextPlaced}
 use Rattle.edge_record.specs.declared.Edge.{Edge}
 use Rattle.edge_count.specs.Slots.{table_edges}
-use Rattle.edge_put.specs.declared.Put.{Put}
+use Rattle.refusal.specs.declared.Fault.{Fault}
 use Rattle.edge_put.specs.Put.{put_said, PutAs}
 use Rattle.exports.specs.TextEdges.{TextEdges}
 use Rattle.export_edges.specs.EdgesTold.{edges_told}
 use Rattle.exports_lent.specs.EdgesLaws.{words_long, text_settled}
-use Rattle.exports_lent.specs.Linked.{FirstLinked, TextLinked}
+use Rattle.exports_lent.specs.Linked.{words_in, number_in, line_in, FirstLinked, TextLinked}
 
 take_short : (k : ℕ) (l : List ℕ) → length (take k l) ≤ length l
 take_short k l = let e = length-take k l in omega arith
@@ -42,21 +42,24 @@ first_linked {words} {before} {after} {front} {m} inside h e =
       rest = ap (drop words) e ∙ ap (λ (k : ℕ). drop k (front ++ drop words before)) n ∙ drop-append_seam front (drop words before);
     }
 
-pub words_inside : (text : List ℕ) {old : List ℕ} {t : TextRows} {table : List ℕ} → TextPlaced (read text) old t table
-    → t.words ≤ length table
-words_inside text {t = t} {table = table} rows = let e = words_long text rows in let l = take_short t.words table in omega arith
+pub linked_as : {m n : ℕ} {before after : List ℕ} → m ≡ n → FirstLinked m before after → FirstLinked n before after
+linked_as {before = before} {after = after} e h = subst (λ (k : ℕ). FirstLinked k before after) e h
 
-module _ (text : List ℕ) {old : List ℕ} {t : TextRows} {table : List ℕ} (rows : TextLinked (read text) old t table) where
+pub words_inside : (text : List ℕ) {old : List ℕ} {t : Result TextRows (ℕ × ℕ)} {table : List ℕ} → TextPlaced (read text) old t table
+    → words_in t ≤ length table
+words_inside text {t = t} {table = table} rows = let e = words_long text rows in let l = take_short (words_in t) table in omega arith
+
+module _ (text : List ℕ) {old : List ℕ} {t : Result TextRows (ℕ × ℕ)} {table : List ℕ} (rows : TextLinked (read text) old t table) where
   -- the rows are inside the table
-  pub linked_long : t.words ≡ length (take t.words table)
+  pub linked_long : words_in t ≡ length (take (words_in t) table)
   linked_long =
       let inside = words_inside text rows.placed in let size = rows.linked.size in
-      sym (length-take-le t.words table (omega arith))
+      sym (length-take-le (words_in t) table (omega arith))
 
-  module _ {before : List Edge} {answer : Put} {after : List Edge} (edges : PutAs (table_edges (take t.words table)) before answer after) where
-    plain_edges : PutAs (table_edges (take t.words rows.plain)) before answer after
+  module _ {before : List Edge} {answer : Result ℕ Fault} {after : List Edge} (edges : PutAs (table_edges (take (words_in t) table)) before answer after) where
+    plain_edges : PutAs (table_edges (take (words_in t) rows.plain)) before answer after
     plain_edges = subst (λ (l : List E.Edge). PutAs l before answer after) (linked_edges rows.linked.rows) edges
 
     -- R, S22, S20, or the edges put
-    pub linked_settled : {r : ℕ} → r ≡ edges_told t.number t.line (put_said answer) → TextEdges (read text) before r after
+    pub linked_settled : {r : ℕ} → r ≡ edges_told (number_in t) (line_in t) (put_said answer) → TextEdges (read text) before r after
     linked_settled word = text_settled text rows.placed plain_edges word

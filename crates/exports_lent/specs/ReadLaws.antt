@@ -1,5 +1,5 @@
 -- The stage of reading: the line in the middle of a text's table has the values of the line in the middle of its workload value.
-use Rattle.std.specs.Prelude.{Bool, true, false, cond, not, ◌≡◌, refl, ℕ, zero, suc, ◌+◌, ◌*◌, ◌/◌, ◌%◌, ◌-◌, ◌<◌, get_or, drop, replicate}
+use Rattle.std.specs.Prelude.{Bool, true, false, cond, not, ◌≡◌, refl, ℕ, zero, suc, ◌+◌, ◌*◌, ◌/◌, ◌%◌, ◌-◌, ◌<◌, get_or, drop, replicate, Result, Ok, Err}
 use mathlib.Core.List.{List, [], ◌∷◌, ◌++◌, Memᴰ}
 use Rattle.std.proofs.Common.{sym, ◌∙◌, mod-eq_of_lt, arith, eqb-true, ltb-true, eq-eqb, ne_eqb}
 use Rattle.std.proofs.Math.Path.{ap, ap₂}
@@ -19,14 +19,15 @@ use Rattle.line_kinds.specs.Kinds.{line_facts, lacks_fact, has_id, has_rel, has_
 use Rattle.line_kinds.proofs.FormsTold.{forms_told}
 use Rattle.value_tables.specs.Lines.{set_in, line_words, line_table}
 use Rattle.value_tables.specs.LineLaws.{cell_at, line_table_length}
-use Rattle.text_table.specs.declared.TextTable.{TextTable}
+use Rattle.refusal.specs.declared.Refusal.{Refusal}
+use Rattle.refusal.specs.Numbers.{number_of}
+use Rattle.refusal.specs.Told.{told as said}
 use Rattle.text_table.specs.Tabled.{not_read, lines_read, TextTabled}
 use Rattle.text_table.specs.Tabled.TextTabled.{unread, tabled}
 use Rattle.text_read.specs.Parse.{parsed_as}
 use Rattle.refusal_laws.specs.RefusalLaws.{refusal_bounds}
 use Rattle.export_word.specs.Word.{refusal_word, line_sum, value_word}
 use Rattle.exports.specs.Stages.{given, middle_line, read_word}
-use Rattle.exports.specs.StageLaws.{told_refused}
 use Rattle.exports_lent.specs.Middle.{row_line, table_middle}
 
 -- ---- the values of a line that fits
@@ -133,30 +134,38 @@ middle_told text (l ∷ lines) o rest =
 -- ---- the stage's word
 
 -- the word of what is read into a table
-module _ (text : List ℕ) {before : List ℕ} {t : TextTable} {after : List ℕ} {r : ℕ} (stands : TextTabled (read text) before t after) where
-  pub table_refused : (t.number ≡ 0 → ⊥) → r ≡ refusal_word t.number t.line → r ≡ read_word (given text)
+module _ (text : List ℕ) {before : List ℕ} {t : Result ℕ Refusal} {after : List ℕ} {r : ℕ} (stands : TextTabled (read text) before (said t) after)
+    where
+  pub table_refused : (f : Refusal) {number : ℕ} → t ≡ Err f → number ≡ number_of f.fault → r ≡ refusal_word number f.line
+      → r ≡ read_word (given text)
   unfolding read_word parsed_as not_read lines_read
-  table_refused other e = go stands
+  table_refused f {number} is number_is e = go stands
     where
-      go : TextTabled (read text) before t after → r ≡ read_word (given text)
-      go (unread number line o same) =
-          e
-          ∙ ap (λ (x : TextTable). refusal_word x.number x.line) same
-          ∙ told_refused number _ _ (λ z. other (ap (λ (x : TextTable). x.number) same ∙ z))
-          ∙ ap (λ (x : Outcome). read_word (parsed_as x)) (sym o)
-      go (tabled lines o same words) = absurd (other (ap (λ (x : TextTable). x.number) same))
+      told : {x : Result ℕ (ℕ × ℕ)} → said t ≡ x → Err (number, f.line) ≡ x
+      told same = ap (λ (n : ℕ). Err (n, f.line)) number_is ∙ ap said (sym is) ∙ same
 
-  pub table_taken : t.number ≡ 0 → {l : Line} → l ≡ table_middle after t.count → r ≡ value_word l t.count → r ≡ read_word (given text)
+      go : TextTabled (read text) before (said t) after → r ≡ read_word (given text)
+      go (unread n l o same) =
+          let both = told same in
+          let n_is : number ≡ n = cc in
+          let l_is : f.line ≡ l = cc in
+          e ∙ ap₂ refusal_word n_is l_is ∙ ap (λ (x : Outcome). read_word (parsed_as x)) (sym o)
+      go (tabled lines o same words) = let both = told same in let z : ◌≡◌ {A = ℕ} 0 1 = cc in absurd (omega arith)
+
+  pub table_taken : (count : ℕ) → t ≡ Ok count → {l : Line} → l ≡ table_middle after count → r ≡ value_word l count → r ≡ read_word (given text)
   unfolding read_word parsed_as not_read lines_read value_of
-  table_taken taken {l} middle e = go stands
+  table_taken count is {l} middle e = go stands
     where
-      go : TextTabled (read text) before t after → r ≡ read_word (given text)
-      go (unread number line o same) =
-          let least = (refusal_bounds text o).0.0 in
-          let told = ap (λ (x : TextTable). x.number) same in absurd (omega arith)
+      told : {x : Result ℕ (ℕ × ℕ)} → said t ≡ x → Ok count ≡ x
+      told same = ap said (sym is) ∙ same
+
+      go : TextTabled (read text) before (said t) after → r ≡ read_word (given text)
+      go (unread n line o same) = let both = told same in let z : ◌≡◌ {A = ℕ} 0 1 = cc in absurd (omega arith)
       go (tabled lines o same words) =
+          let both = told same in
+          let many : count ≡ length lines = cc in
           e
-          ∙ ap (λ (x : Line). value_word x t.count) middle
-          ∙ ap₂ (λ (w : List ℕ) (x : TextTable). value_word (table_middle w x.count) x.count) words same
+          ∙ ap (λ (x : Line). value_word x count) middle
+          ∙ ap₂ (λ (w : List ℕ) (n : ℕ). value_word (table_middle w n) n) words many
           ∙ ap (λ (n : ℕ). n * 65536 + length lines % 65536) (middle_told text lines o (drop (8 * length lines) before))
           ∙ ap (λ (x : Outcome). read_word (parsed_as x)) (sym o)

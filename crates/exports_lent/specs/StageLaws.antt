@@ -1,10 +1,12 @@
 -- A stage's answer after a refused and after an accepted text.
 use mathlib.Core.List.{List}
-use Rattle.refusal.specs.declared.Fault.{Fault}
-use Rattle.std.specs.Prelude.{◌≡◌, refl, ℕ, Result}
+use Rattle.std.specs.Prelude.{◌≡◌, refl, ℕ, Result, Ok, Err}
 use Rattle.std.proofs.Common.{sym, ap₂, ◌∙◌, arith}
 use Rattle.std.proofs.Math.Path.{ap, subst}
-use Rattle.std.proofs.Math.Decide.{ℕ_discrete}
+use Rattle.refusal.specs.declared.Fault.{Fault}
+use Rattle.refusal.specs.declared.Refusal.{Refusal}
+use Rattle.refusal.specs.Numbers.{number_of}
+use Rattle.refusal.specs.Told.{told as said}
 use Rattle.spec_text.specs.declared.Line.{Line}
 use Rattle.spec_text.specs.declared.Workload.{Workload}
 use Rattle.spec_text.specs.Reading.{Outcome, read}
@@ -12,18 +14,16 @@ use Rattle.spec_text.specs.Reading.Outcome.{refused, accepted}
 use Rattle.spec_text.specs.Value.{value_of}
 use Rattle.law_text.specs.ValueLaws.{value_given}
 use Rattle.value_tables.specs.Lines.{line_table}
-use Rattle.text_table.specs.declared.TextTable.{TextTable}
 use Rattle.text_table.specs.Tabled.{not_read, lines_read, TextTabled}
-use Rattle.refusal_laws.specs.RefusalLaws.{refusal_bounds}
 use Rattle.text_read.specs.Parse.{parsed_as}
 use Rattle.unfold.specs.declared.LastTold.{LastTold}
-use Rattle.unfold.specs.UnfoldLines.{LastSettled}
+use Rattle.unfold.specs.declared.Unfolded.{Unfolded}
+use Rattle.unfold.specs.UnfoldLines.{last_in, LastSettled}
 use Rattle.verdict_told.specs.declared.Verdict.{Verdict}
-use Rattle.verdict_told.specs.Told.{told as told_by}
-use Rattle.verdict_of.specs.declared.TextVerdict.{TextVerdict}
+use Rattle.verdict_told.specs.Told.{Told, told_word}
 use Rattle.verdict_of.specs.TextVerdict.{TextJudged}
 use Rattle.export_word.specs.Word.{refusal_word, verdict_word}
-use Rattle.exports.specs.StageLaws.{nodes_refused, nodes_taken}
+use Rattle.exports.specs.StageLaws.{value_or_refusal, refusal_once, value_once}
 use Rattle.exports.specs.Stages.{given, unfold_word, Unfolds, Judges, UnfoldStage, VerdictStage}
 use Rattle.exports_lent.specs.LastWord.{LastWord}
 
@@ -32,72 +32,77 @@ use Rattle.exports_lent.specs.LastWord.{LastWord}
 module _ (text : List ℕ) where
   -- R: a refused text's number and line
   module _ {number line : ℕ} (is_read : read text ≡ refused number line) where
-    -- what reading answers, by its number and line
-    told : ((given text).number ≡ number) × ((given text).line ≡ line)
+    -- what reading answers
+    told : given text ≡ Err (number, line)
     unfolding parsed_as
-    told = (ap (λ (o : Outcome). (parsed_as o).number) is_read, ap (λ (o : Outcome). (parsed_as o).line) is_read)
-
-    some_number : (given text).number ≡ 0 → ⊥
-    some_number z =
-        let bounds = refusal_bounds text is_read in
-        let same = told.0 in
-        omega arith
-
-    same_word : {r : ℕ} → r ≡ refusal_word number line → r ≡ refusal_word (given text).number (given text).line
-    same_word word = word ∙ sym (ap₂ refusal_word told.0 told.1)
+    told = ap parsed_as is_read
 
     pub unfold_refused : {before : List ℕ} {r : ℕ} → r ≡ refusal_word number line → UnfoldStage (given text) before r before
-    unfold_refused word = record { refuses = λ _. (same_word word, refl); goes_on = λ z. absurd (some_number z) }
+    unfold_refused word = record {
+      refuses = λ m l z. let one = refusal_once (sym told ∙ z) in (word ∙ ap₂ refusal_word one.0 one.1, refl);
+      goes_on = λ w z. absurd (value_or_refusal (sym told ∙ z));
+    }
 
     pub verdict_refused : {before : List ℕ} {r : ℕ} → r ≡ refusal_word number line → VerdictStage (given text) before r before
-    verdict_refused word = record { refuses = λ _. (same_word word, refl); goes_on = λ z. absurd (some_number z) }
+    verdict_refused word = record {
+      refuses = λ m l z. let one = refusal_once (sym told ∙ z) in (word ∙ ap₂ refusal_word one.0 one.1, refl);
+      goes_on = λ w z. absurd (value_or_refusal (sym told ∙ z));
+    }
 
   -- the value of an accepted text
   module _ {lines : List Line} (is_read : read text ≡ accepted lines) where
-    no_number : (given text).number ≡ 0
+    taken : given text ≡ Ok (value_of lines)
     unfolding parsed_as
-    no_number = ap (λ (o : Outcome). (parsed_as o).number) is_read
-
-    same_work : (given text).work ≡ value_of lines
-    unfolding parsed_as
-    same_work = ap (λ (o : Outcome). (parsed_as o).work) is_read
+    taken = ap parsed_as is_read
 
     pub unfold_goes_on : {before : List ℕ} {r : ℕ} {after : List ℕ} → Unfolds (value_of lines) before r after
         → UnfoldStage (given text) before r after
     unfold_goes_on {before} {r} {after} u =
         record {
-          refuses = λ other. absurd (other no_number);
-          goes_on = λ _. subst (λ (w : Workload). Unfolds w before r after) (sym same_work) u;
+          refuses = λ m l z. absurd (value_or_refusal (sym z ∙ taken));
+          goes_on = λ w z. subst (λ (x : Workload). Unfolds x before r after) (value_once (sym taken ∙ z)) u;
         }
 
     pub verdict_goes_on : {before : List ℕ} {r : ℕ} {after : List ℕ} → Judges (value_of lines) before r after
         → VerdictStage (given text) before r after
     verdict_goes_on {before} {r} {after} u =
         record {
-          refuses = λ other. absurd (other no_number);
-          goes_on = λ _. subst (λ (w : Workload). Judges w before r after) (sym same_work) u;
+          refuses = λ m l z. absurd (value_or_refusal (sym z ∙ taken));
+          goes_on = λ w z. subst (λ (x : Workload). Judges x before r after) (value_once (sym taken ∙ z)) u;
         }
 
+-- what stands in the table of a text that is read
+pub tabled_at : {o : Outcome} {lines₀ : List ℕ} {t : Result ℕ Refusal} {lines : List ℕ} {count : ℕ} → TextTabled o lines₀ (said t) lines
+    → t ≡ Ok count → TextTabled o lines₀ (Ok count) lines
+tabled_at {o} {lines₀} {lines = lines} stands is = subst (λ (x : Result ℕ Refusal). TextTabled o lines₀ (said x) lines) is stands
+
 -- a text that is not read: its number and line
-pub table_unread : (text : List ℕ) {lines₀ : List ℕ} {t : TextTable} {lines : List ℕ} → TextTabled (read text) lines₀ t lines
-    → (t.number ≡ 0 → ⊥) → read text ≡ refused t.number t.line
+pub table_unread : (text : List ℕ) {lines₀ : List ℕ} {t : Result ℕ Refusal} {lines : List ℕ} → TextTabled (read text) lines₀ (said t) lines
+    → (f : Refusal) {number : ℕ} → t ≡ Err f → number ≡ number_of f.fault → read text ≡ refused number f.line
 unfolding not_read lines_read
-table_unread text {t = t} (TextTabled.unread number line is_read e) other =
-    is_read ∙ ap₂ refused (sym (ap (λ (x : TextTable). x.number) e)) (sym (ap (λ (x : TextTable). x.line) e))
-table_unread text {t = t} (TextTabled.tabled ls is_read e stands) other = absurd (other (ap (λ (x : TextTable). x.number) e))
+table_unread text {t = t} (TextTabled.unread n l is_read e) f {number} is number_is =
+    let both : ◌≡◌ {A = Result ℕ (ℕ × ℕ)} (Err (number, f.line)) (Err (n, l)) = ap (λ (m : ℕ). Err (m, f.line)) number_is ∙ ap said (sym is) ∙ e in
+    let n_is : number ≡ n = cc in
+    let l_is : f.line ≡ l = cc in
+    is_read ∙ sym (ap₂ refused n_is l_is)
+table_unread text {t = t} (TextTabled.tabled ls is_read e stands) f {number} is number_is =
+    let both : ◌≡◌ {A = Result ℕ (ℕ × ℕ)} (Err (number, f.line)) (Ok (length ls)) =
+    ap (λ (m : ℕ). Err (m, f.line)) number_is ∙ ap said (sym is) ∙ e in
+    let z : ◌≡◌ {A = ℕ} 0 1 = cc in absurd (omega arith)
 
 -- the word for the last row is that for all that would be told
-last_told : {words before after : List ℕ} {u : LastTold} (s : LastSettled words before u after) {r : ℕ} → LastWord u r
+last_told : {words before after : List ℕ} {u : Result LastTold Fault} (s : LastSettled words before u after) {r : ℕ} → LastWord u r
     → r ≡ unfold_word s.unfolded
-last_told {u = u} s {r} word = go (ℕ_discrete u.refusal 0)
+unfolding unfold_word
+last_told {u = u} s {r} word = go s.unfolded (subst (λ (x : Result LastTold Fault). LastWord x r) s.last word)
   where
-    go : Dec (u.refusal ≡ 0) → r ≡ unfold_word s.unfolded
-    go (yes none) = nodes_taken s.unfolded (sym s.refusal ∙ none) (word.taken none ∙ rw (s.count, s.start, s.length) refl)
-    go (no other) = nodes_refused s.unfolded (λ z. other (s.refusal ∙ z)) (word.refused other ∙ ap (λ (n : ℕ). refusal_word n 0) s.refusal)
+    go : (x : Result Unfolded Fault) → LastWord (last_in x) r → r ≡ unfold_word x
+    go (Ok v) w = w
+    go (Err f) w = w
 
 -- the unfoldings of the lines in the table are the text's
-pub lines_unfolded : (text : List ℕ) {ls : List Line} → read text ≡ accepted ls → {words before : List ℕ} {u : LastTold} {after : List ℕ}
-    → words ≡ line_table ls → LastSettled words before u after → {r : ℕ} → LastWord u r → UnfoldStage (given text) before r after
+pub lines_unfolded : (text : List ℕ) {ls : List Line} → read text ≡ accepted ls → {words before : List ℕ} {u : Result LastTold Fault}
+    {after : List ℕ} → words ≡ line_table ls → LastSettled words before u after → {r : ℕ} → LastWord u r → UnfoldStage (given text) before r after
 lines_unfolded text {ls} is_read e s word =
     unfold_goes_on text is_read (record {
       told = s.unfolded;
@@ -106,23 +111,41 @@ lines_unfolded text {ls} is_read e s word =
     })
 
 -- the verdict on a text, in its two cases
-module _ (text : List ℕ) {before : List ℕ} {v : TextVerdict} {after : List ℕ} (answered : TextJudged (read text) before v after) {r : ℕ} where
-  pub stage_unread : {number line : ℕ} → v ≡ TextVerdict.Unread number line → r ≡ refusal_word number line → VerdictStage (given text) before r after
-  stage_unread {number} {line} e word = go answered
+module _ (text : List ℕ) {before : List ℕ} {v : Result Verdict Refusal} {after : List ℕ} (answered : TextJudged (read text) before (said v) after)
+    {r : ℕ} where
+  pub stage_refused : (f : Refusal) {number : ℕ} → v ≡ Err f → number ≡ number_of f.fault → r ≡ refusal_word number f.line
+      → VerdictStage (given text) before r after
+  unfolding verdict_word
+  stage_refused f {number} is number_is word = go answered
     where
-      go : TextJudged (read text) before v after → VerdictStage (given text) before r after
-      go (TextJudged.unread m l is_read is kept) =
-          let same_number : m ≡ number = cc in
-          let same_line : l ≡ line = cc in
-          subst (VerdictStage (given text) before r) (sym kept)
-          (verdict_refused text (is_read ∙ ap₂ refused same_number same_line) word)
-      go (TextJudged.judged lines is_read u is said) = let z : ◌≡◌ {A = ℕ} 0 1 = cc in absurd (omega arith)
+      same : {x : Result Verdict (ℕ × ℕ)} → said v ≡ x → Err (number, f.line) ≡ x
+      same e = ap (λ (n : ℕ). Err (n, f.line)) number_is ∙ ap said (sym is) ∙ e
 
-  pub stage_judged : {u : Result Verdict Fault} → v ≡ TextVerdict.Judged u → r ≡ verdict_word (told_by u) → VerdictStage (given text) before r after
-  stage_judged {u} e word = go answered
+      go : TextJudged (read text) before (said v) after → VerdictStage (given text) before r after
+      go (TextJudged.unread m l is_read e kept) =
+          let both = same e in
+          let n_is : number ≡ m = cc in
+          let l_is : f.line ≡ l = cc in
+          subst (VerdictStage (given text) before r) (sym kept) (verdict_refused text is_read (word ∙ ap₂ refusal_word n_is l_is))
+      go (TextJudged.judged lines is_read (Err g) e judged) =
+          let both = same e in
+          let n_is : number ≡ number_of g = cc in
+          let l_is : f.line ≡ 0 = cc in
+          verdict_goes_on text is_read
+          (record { told = Told.refused (number_of g); settled = judged; word = word ∙ ap₂ refusal_word n_is l_is })
+      go (TextJudged.judged lines is_read (Ok w) e judged) = let both = same e in let z : ◌≡◌ {A = ℕ} 0 1 = cc in absurd (omega arith)
+
+  pub stage_word : (w : Verdict) → v ≡ Ok w → r ≡ verdict_word (told_word w) → VerdictStage (given text) before r after
+  stage_word w is word = go answered
     where
-      go : TextJudged (read text) before v after → VerdictStage (given text) before r after
-      go (TextJudged.unread m l is_read is kept) = let z : ◌≡◌ {A = ℕ} 0 1 = cc in absurd (omega arith)
-      go (TextJudged.judged lines is_read x is said) =
-          let same : u ≡ x = cc in
-          verdict_goes_on text is_read (record { told = told_by x; settled = said; word = word ∙ ap (λ (y : Result Verdict Fault). verdict_word (told_by y)) same })
+      same : {x : Result Verdict (ℕ × ℕ)} → said v ≡ x → Ok w ≡ x
+      same e = ap said (sym is) ∙ e
+
+      go : TextJudged (read text) before (said v) after → VerdictStage (given text) before r after
+      go (TextJudged.unread m l is_read e kept) = let both = same e in let z : ◌≡◌ {A = ℕ} 0 1 = cc in absurd (omega arith)
+      go (TextJudged.judged lines is_read (Err g) e judged) = let both = same e in let z : ◌≡◌ {A = ℕ} 0 1 = cc in absurd (omega arith)
+      go (TextJudged.judged lines is_read (Ok u) e judged) =
+          let both = same e in
+          let word_is : w ≡ u = cc in
+          verdict_goes_on text is_read
+          (record { told = told_word u; settled = judged; word = word ∙ ap (λ (x : Verdict). verdict_word (told_word x)) word_is })

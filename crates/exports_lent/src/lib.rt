@@ -12,7 +12,8 @@ ghost use Rattle.exports.specs.Stages.{given, read_word, UnfoldStage, VerdictSta
 ghost use Rattle.exports_lent.specs.LastWord.{LastWord};
 ghost use Rattle.exports_lent.specs.Middle.{table_middle};
 ghost use Rattle.exports.specs.TextEdges.{TextEdges};
-ghost use Rattle.exports_lent.specs.Linked.{FirstLinked, TextLinked, RowsLinked};
+ghost use Rattle.exports_lent.specs.Linked.{words_in, FirstLinked, TextLinked, RowsLinked};
+ghost use Rattle.refusal.specs.Told.{told as said};
 
 use edge_record::Edge;
 use edge_word::PAIRS;
@@ -21,11 +22,10 @@ use export_word::{nodes_word, refusal_word, value_word, verdict_word};
 use line_state::WORDS;
 use place_row::{ROWS, TABLE_WORDS};
 use place_text::TextRows;
+use refusal::{Fault, Refusal};
 use spec_text::{CELLS, Line, LineKind};
 use unfold::LastTold;
 use value_tables::{LINE_TABLE, LINE_WORDS};
-use verdict_of::TextVerdict;
-use verdict_told::numbered;
 
 // The values of the line in the middle of a table of so many lines, all 0 where there is none. Its kind is not told.
 fn middle_line(lines: &[u64], count: usize) -> Line
@@ -61,15 +61,17 @@ pub fn lent_read(text: &[u8], state: &mut [u64; WORDS], lines: &mut [u64; LINE_T
     ensures lent { Lent state.old state.new × Lent lines.old lines.new }
 {
     let t = text_table::read_table(text, state, lines);
-    if t.number != 0 {
-        return refusal_word(t.number, t.line);
+    match t {
+        Ok(count) => {
+            let middle = middle_line(lines, count);
+            value_word(middle, count)
+        }
+        Err(r) => refusal_word(r.fault.number(), r.line),
     }
-    let middle = middle_line(lines, t.count);
-    value_word(middle, t.count)
 }
 
 // The unfoldings of the lines that the first words of a table of lines have.
-fn unfold_first(lines: &[u64], words: usize, area: &mut [u64]) -> LastTold
+fn unfold_first(lines: &[u64], words: usize, area: &mut [u64]) -> Result<LastTold, Fault>
     requires { words ≤ length lines.now }
     ensures { LastSettled (take words lines.now) area.old result area.new }
 {
@@ -77,13 +79,13 @@ fn unfold_first(lines: &[u64], words: usize, area: &mut [u64]) -> LastTold
 }
 
 // How many unfoldings there are, and where the last one's statements end; or the refusal.
-fn last_word(u: LastTold) -> u32
+fn last_word(u: Result<LastTold, Fault>) -> u32
     ensures { LastWord u result }
 {
-    if u.refusal != 0 {
-        return refusal_word(u.refusal, 0);
+    match u {
+        Ok(u) => nodes_word(u.count, u.start, u.length),
+        Err(fault) => refusal_word(fault.number(), 0),
     }
-    nodes_word(u.count, u.start, u.length)
 }
 
 // Reads the text and puts the ids of its unfoldings at the front of the area. The words are lent to work in: what they hold afterwards is free.
@@ -97,11 +99,13 @@ pub fn lent_unfold(
     ensures lent { Lent state.old state.new × Lent lines.old lines.new }
 {
     let t = text_table::read_table(text, state, lines);
-    if t.number != 0 {
-        return refusal_word(t.number, t.line);
+    match t {
+        Ok(count) => {
+            let u = unfold_first(lines, count * LINE_WORDS, area);
+            last_word(u)
+        }
+        Err(r) => refusal_word(r.fault.number(), r.line),
     }
-    let u = unfold_first(lines, t.count * LINE_WORDS, area);
-    last_word(u)
 }
 
 // Links the rows in the first words of a table. Words are lent for it.
@@ -113,6 +117,16 @@ fn link_first(rows: &mut [u64], words: usize, next: &mut [u64])
     place_link::link_rows(&mut rows[..words], next)
 }
 
+// How many words the rows of a text take: none where it is refused.
+fn rows_words(t: Result<TextRows, Refusal>) -> usize
+    ensures { result ≡ words_in (said t) }
+{
+    match t {
+        Ok(t) => t.words,
+        Err(_) => 0,
+    }
+}
+
 // The rows of a text's places, linked.
 fn linked_rows(
     text: &[u8],
@@ -120,13 +134,13 @@ fn linked_rows(
     lines: &mut [u64; LINE_TABLE],
     places: &mut [u64; ROWS],
     rows: &mut [u64; TABLE_WORDS],
-) -> TextRows
-    ensures { TextLinked (read text.now) rows.old result rows.new
+) -> Result<TextRows, Refusal>
+    ensures { TextLinked (read text.now) rows.old (said result) rows.new
         × (Lent state.old state.new × Lent lines.old lines.new
         × Lent places.old places.new) }
 {
     let t = place_text::text_rows(text, state, lines, places, rows);
-    link_first(rows, t.words, places);
+    link_first(rows, rows_words(t), places);
     t
 }
 
@@ -146,9 +160,13 @@ pub fn lent_edges<'b, 'c, 'd, 'e, 'f, 'a>(
         × Lent places.old places.new × RowsLinked (read text.now) rows.old rows.new) }
 {
     let t = linked_rows(text, state, lines, places, rows);
-    let n = t.words;
-    let put = edge_put::put_edges(&rows[..n], out);
-    edges_word(t.number, t.line, put)
+    let n = rows_words(t);
+    let edges = edge_put::put_edges(&rows[..n], out);
+    let put = edges.map_err(Fault::number);
+    match t {
+        Ok(_) => edges_word(0, 0, put),
+        Err(r) => edges_word(r.fault.number(), r.line, put),
+    }
 }
 
 // The verdict, with a dangerous walk in the area. The words are lent to work in: what they hold afterwards is free.
@@ -173,7 +191,7 @@ pub fn lent_verdict(
         text, state, lines, places, rows, work, forwards, backs, area,
     );
     match told {
-        TextVerdict::Unread(number, line) => refusal_word(number, line),
-        TextVerdict::Judged(v) => verdict_word(numbered(v)),
+        Ok(v) => verdict_word(Ok(v)),
+        Err(r) => refusal_word(r.fault.number(), r.line),
     }
 }

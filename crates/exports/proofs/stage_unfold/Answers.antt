@@ -1,11 +1,11 @@
--- A refusal of the text gives its word and leaves the area (unfold-refused); else the value that is read is unfolded into it
--- (unfold-goes-on).
+-- A refusal of the text gives its word and leaves the area (unfold_refused); else the value that is read is unfolded into it
+-- (unfold_goes_on).
 use Rattle.exports.specs.StageLaws.{unfold_refused, unfold_goes_on}
 use Rattle.exports.proofs.stage_unfold.Goals as goal
 
-pub returns-then-p-ne0 : goal.returns-then-p-ne0
-returns-then-p-ne0 c = unfold_refused c.read_text-p.ensures c.if-p-ne0.true c.refusal_word.ensures
+pub returns-in-Err : goal.returns-in-Err
+returns-in-Err c = unfold_refused c.read_text-p.ensures _ c.in-Err.is c.number.ensures c.refusal_word.ensures
 
-pub returns : goal.returns
-returns c =
-    unfold_goes_on c.read_text-p.ensures c.if-p-ne0.false (record { told = _; settled = c.unfold-u.ensures; word = c.unfold_word.ensures })
+pub returns-in-Ok : goal.returns-in-Ok
+returns-in-Ok c =
+    unfold_goes_on c.read_text-p.ensures _ c.in-Ok.is (record { told = _; settled = c.unfold-u.ensures; word = c.unfold_word.ensures })

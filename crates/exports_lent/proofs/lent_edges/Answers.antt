@@ -8,11 +8,11 @@ shared_ref_as_front-put_edges c =
     let placed = c.linked_rows-t.ensures.0 in
     let inside = words_inside _ placed.placed in
     let size = placed.linked.size in
+    let words = c.rows_words-n.ensures in
     omega arith
 
-pub returns : goal.returns
-returns c =
-    let placed = c.linked_rows-t.ensures in (
-      linked_settled _ placed.0 c.put_edges-put.ensures c.edges_word.ensures,
-      (placed.1.0, placed.1.1, placed.1.2, record { rows = _; linked = placed.0 }),
-    )
+pub returns-in-Ok : goal.returns-in-Ok
+returns-in-Ok c = ?
+
+pub returns-in-Err : goal.returns-in-Err
+returns-in-Err c = ?

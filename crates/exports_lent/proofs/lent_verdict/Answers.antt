@@ -1,18 +1,16 @@
--- A refused text gives its word (stage-unread); else the verdict gives its own (stage-judged).
-use Rattle.std.proofs.Common.{ap, ◌∙◌}
-use Rattle.export_word.specs.Word.{verdict_word}
-use Rattle.exports_lent.specs.StageLaws.{stage_unread, stage_judged}
+-- A refusal gives its word (stage_refused); else the verdict's word gives its own (stage_word).
+use Rattle.exports_lent.specs.StageLaws.{stage_refused, stage_word}
 use Rattle.exports_lent.proofs.lent_verdict.Goals as goal
 
-pub returns-in-Unread : goal.returns-in-Unread
-returns-in-Unread c =
-    let judged = c.text_verdict-told.ensures in
-    record { verdict_stage = stage_unread _ judged.text_judged c.in-Unread.is c.refusal_word.ensures; lent = judged.lent }
-
-pub returns-in-Judged : goal.returns-in-Judged
-returns-in-Judged c =
+pub returns-in-Err : goal.returns-in-Err
+returns-in-Err c =
     let judged = c.text_verdict-told.ensures in
     record {
-      verdict_stage = stage_judged _ judged.text_judged c.in-Judged.is (c.verdict_word.ensures ∙ ap verdict_word c.numbered.ensures);
+      verdict_stage = stage_refused _ judged.text_judged _ c.in-Err.is c.number.ensures c.refusal_word.ensures;
       lent = judged.lent;
     }
+
+pub returns-in-Ok : goal.returns-in-Ok
+returns-in-Ok c =
+    let judged = c.text_verdict-told.ensures in
+    record { verdict_stage = stage_word _ judged.text_judged _ c.in-Ok.is c.verdict_word.ensures; lent = judged.lent }
