@@ -3,78 +3,41 @@
 // `--input` standard input is answered, as the program `verdict` answers it.
 #![tactic(auto)]
 
-ghost use Rattle.std.specs.Prelude.{◌≤◌, length, IfSome};
-ghost use Rattle.io.specs.Counts.{IsPrefixLen};
-ghost use Rattle.edge_list.specs.EdgesSettled.{PutSettled};
-
 use check::same;
+use console::{INPUT_BYTES, WORD_BYTES, argument, open_read, print, print_numbers, read_full};
 use edge_list::{EdgeAnswer, EdgeCounts};
 use edge_put::Put;
 use edge_record::{Edge, Found};
 use place_row::{ROWS, TABLE_WORDS};
 use place_table::Rows;
 use spec_text::{CELLS, Line, LineKind, StatementKind, Workload};
-use std::env::{Env, FillError};
-use std::fs::File;
-use std::io::{Read, Stdout, Write};
+use std::io::{Stdout, Write};
 use verdict_told::Verdict;
 use walk_first::WALK_WORDS;
 
 // What is printed of a file.
-const NOTHING: u8 = 0;
-
-const LINES: u8 = 1;
-
-const UNFOLDINGS: u8 = 2;
-
-const EDGES: u8 = 3;
-
-const REPORT: u8 = 4;
-
-const AREAS: u8 = 5;
-
-// What is printed of standard input, and not of a file.
-const INPUT: u8 = 6;
-
-// The bytes of the areas that a file and an argument are read into.
-const INPUT_BYTES: usize = 65536;
-
-const WORD_BYTES: usize = 4096;
+#[derive(Clone, Copy)]
+enum Listing {
+    Lines,
+    Unfoldings,
+    Edges,
+    Report,
+    Areas,
+}
 
 // ---- what all listings print
 
-fn print(mut out: Stdout, bytes: &[u8]) {
-    let _ = out.write_all(bytes);
-}
-
-fn print_number(out: Stdout, n: u64) {
-    let mut digits = [0u8; 20];
-    let k = io::decimal(n, &mut digits);
-    print(out, &digits[..k]);
-}
-
-// A number after others of its line.
-fn print_next(out: Stdout, n: u64) {
-    print(out, b" ");
-    print_number(out, n);
-}
-
 // A refusal in place of a list.
-fn print_refused(out: Stdout, number: u8, line: u64) {
-    print(out, b"refused line\n");
-    print_number(out, number as u64);
-    print_next(out, line);
-    print(out, b"\n");
+fn print_refused(mut out: Stdout, number: u8, line: u64) {
+    let _ = writeln!(out, "refused line\n{number} {line}");
 }
 
-fn print_edge(out: Stdout, e: Edge) {
-    print_number(out, e.node);
-    print_next(out, e.leaves);
-    print_next(out, e.into);
-    print_next(out, e.enters);
+fn print_edge(mut out: Stdout, e: Edge) {
+    let node = e.node;
+    let _ = write!(out, "{node}");
+    print_numbers(out, &[e.leaves, e.into, e.enters]);
     print(out, &[b' ', e.flow, b' ', e.letter]);
-    print_next(out, e.sharing as u64);
-    print_next(out, e.lowest as u64);
+    print_numbers(out, &[u64::from(e.sharing), u64::from(e.lowest)]);
     print(out, b"\n");
 }
 
@@ -116,52 +79,35 @@ fn mix(sum: u64, value: u64) -> u64 {
 
 // A sum with a line's seven values more.
 fn mix_line(before: u64, l: Line) -> u64 {
-    let kind = l.kind;
-    let a = mix(before, summed_kind(kind));
-    let b = mix(a, l.id as u64);
-    let c = mix(b, l.rel as u64);
-    let d = mix(c, l.to as u64);
-    let e = mix(d, l.reads);
-    let f = mix(e, l.writes);
-    mix(f, l.tests)
+    let sets = [l.reads, l.writes, l.tests];
+    let ids = [l.id, l.rel, l.to];
+    let kind = mix(before, summed_kind(l.kind));
+    let named = ids.iter().fold(kind, |sum, id| mix(sum, u64::from(*id)));
+    sets.iter().fold(named, |sum, set| mix(sum, *set))
 }
 
 // How many lines a value has, and the sum of all its cells, those after the last line too.
-fn list_lines(out: Stdout, w: Workload) {
-    let mut sum: u64 = 0;
-    let mut i: usize = 0;
-    while i < CELLS {
-        let l = w.lines[i];
-        sum = mix_line(sum, l);
-        i += 1;
-    }
-    print(out, b"accepted lines");
-    print_next(out, w.count as u64);
-    print(out, b" sum");
-    print_next(out, sum);
-    print(out, b"\n");
+fn list_lines(mut out: Stdout, w: Workload) {
+    let count = w.count;
+    let sum = w.lines.iter().fold(0, |sum, l| mix_line(sum, *l));
+    let _ = writeln!(out, "accepted lines {count} sum {sum}");
 }
 
 // ---- unfoldings
 
 // An unfolding: its number, its program, where it starts and how long it is, then its statements, which all lie in the area.
 fn print_unfolding(
-    out: Stdout,
+    mut out: Stdout,
     node: u64,
     program: u8,
     start: u64,
     length: u64,
     statements: &[u64; ROWS],
 ) {
-    print_number(out, node);
-    print_next(out, program as u64);
-    print_next(out, start);
-    print_next(out, length);
-    let mut k: u64 = 0;
-    while k < length {
+    let _ = write!(out, "{node} {program} {start} {length}");
+    for k in 0..length {
         let at = (start as usize % ROWS + k as usize % ROWS) % ROWS;
-        print_next(out, statements[at]);
-        k += 1;
+        print_numbers(out, &[statements[at]]);
     }
     print(out, b"\n");
 }
@@ -175,24 +121,15 @@ fn list_unfoldings(out: Stdout, w: Workload) {
         return;
     }
     print(out, b"node program start length statements\n");
-    let programs = told.program;
-    let starts = told.start;
-    let lengths = told.length;
-    let n = told.count as usize;
-    let mut i: usize = 0;
-    while i < 64 {
-        if n <= i {
-            return;
-        }
+    for i in 0..64.min(told.count as usize) {
         print_unfolding(
             out,
             i as u64,
-            programs[i],
-            starts[i],
-            lengths[i],
+            told.program[i],
+            told.start[i],
+            told.length[i],
             &statements,
         );
-        i += 1;
     }
 }
 
@@ -214,15 +151,11 @@ fn print_found(out: Stdout, found: Found) {
 fn print_edges(out: Stdout, table: &[u64]) {
     print(out, b"node leaves node enters flow letter shared lowest\n");
     let counts = edge_count::count_edges(table);
-    let n = counts.edges;
     let mut from: usize = 0;
-    let mut k: usize = 0;
-    while k < n {
+    for _ in 0..counts.edges {
         let step = edge_find::edge_from(table, from);
-        let found = step.found;
-        print_found(out, found);
+        print_found(out, step.found);
         from = step.slot % (2 * ROWS * ROWS) + 1;
-        k += 1;
     }
 }
 
@@ -248,34 +181,17 @@ fn list_edges(out: Stdout, w: Workload) {
 
 fn show_report(out: Stdout, text: &[u8]) {
     let report = report_text::report_of(text);
-    let n = report.length;
     let bytes = report.bytes;
-    print(out, &bytes[..n]);
+    print(out, &bytes[..report.length]);
 }
 
 // ---- lent areas
-
-// What became of the edges, and the area afterwards.
-#[derive(Clone, Copy)]
-struct Eight {
-    put: Put,
-    area: [Edge; 8],
-}
-
-// The edges of a workload put into an area of eight records. Its proof is by hand, since the area is lent as a list of records.
-fn put_in_eight(w: Workload, before: Eight) -> Eight
-    ensures { PutSettled w before.area result.put result.area }
-{
-    let mut area = before.area;
-    let put = edge_list::put_workload_edges(w, &mut area);
-    Eight { put, area }
-}
 
 // Edge number k, if there is one.
 fn show_number(out: Stdout, w: Workload, k: u64) {
     let a = edge_list::edge_number(w, k);
     print(out, b"edge");
-    print_next(out, k);
+    print_numbers(out, &[k]);
     match a {
         EdgeAnswer::There(edge) => {
             print(out, b" 0 ");
@@ -285,7 +201,7 @@ fn show_number(out: Stdout, w: Workload, k: u64) {
             print(out, b" 0 none\n");
         }
         EdgeAnswer::Refused(number) => {
-            print_next(out, number as u64);
+            print_numbers(out, &[u64::from(number)]);
             print(out, b" none\n");
         }
     }
@@ -294,9 +210,7 @@ fn show_number(out: Stdout, w: Workload, k: u64) {
 // How many edges, and the first, the middle, the last and one past the last.
 fn show_counted(out: Stdout, w: Workload, refusal: u64, edges: u64, back: u64) {
     print(out, b"edges");
-    print_next(out, refusal);
-    print_next(out, edges);
-    print_next(out, back);
+    print_numbers(out, &[refusal, edges, back]);
     print(out, b"\n");
     show_number(out, w, 0);
     show_number(out, w, edges / 2);
@@ -338,57 +252,26 @@ fn show_put(out: Stdout, w: Workload) {
         flow: b'm',
         letter: b'M',
     };
-    let none = Put::All(0);
-    let marked = Eight {
-        put: none,
-        area: [mark; 8],
-    };
-    let filled = put_in_eight(w, marked);
-    let put = filled.put;
+    let mut area = [mark; 8];
+    let put = edge_list::put_workload_edges(w, &mut area);
     print(out, b"put");
-    print_next(out, number_of(put));
+    print_numbers(out, &[number_of(put)]);
     print(out, b"\n");
-    let area = filled.area;
-    let mut i: usize = 0;
-    while i < 8 {
-        let e = area[i];
-        print_edge(out, e);
-        i += 1;
+    for e in &area {
+        print_edge(out, *e);
     }
-}
-
-// So much of an area, as far as it goes.
-fn room_in(n: u64, area: &[u64]) -> usize
-    ensures { IsPrefixLen result area.now }
-{
-    let room = n as usize;
-    if room < area.len() {
-        return room;
-    }
-    area.len()
-}
-
-// The cells of an area.
-fn print_cells(out: Stdout, area: &[u64; 12]) {
-    let mut i: usize = 0;
-    while i < 12 {
-        print_next(out, area[i]);
-        i += 1;
-    }
-    print(out, b"\n");
 }
 
 // The unfoldings put into so much of an area of twelve cells, all marked with 77. Answers where the last one's statements end.
 fn show_unfoldings(out: Stdout, w: Workload, room: u64) -> u64 {
     let mut area = [77u64; 12];
-    let n = room_in(room, &area);
+    let n = area.len().min(room as usize);
     let told = unfold::unfold(w, &mut area[..n]);
     print(out, b"unfold");
-    print_next(out, room);
-    print_next(out, told.refusal as u64);
-    print_next(out, told.count);
+    print_numbers(out, &[room, u64::from(told.refusal), told.count]);
     print(out, b" :");
-    print_cells(out, &area);
+    print_numbers(out, &area);
+    print(out, b"\n");
     let last = ((told.count % 64 + 63) % 64) as usize;
     let rows = ROWS as u64;
     told.start[last] % rows + told.length[last] % rows
@@ -396,54 +279,24 @@ fn show_unfoldings(out: Stdout, w: Workload, room: u64) -> u64 {
 
 // Whether a cell from a place on is no longer marked with 77.
 fn changed(area: &[u64; 264], from: u64) -> bool {
-    let mut i = from as usize;
-    while i < 264 {
-        if area[i] != 77 {
-            return true;
-        }
-        i += 1;
-    }
-    false
-}
-
-// The verdict's numbers, and whether a cell from a place on has changed.
-fn print_totals(
-    out: Stdout,
-    refusal: u64,
-    danger: u64,
-    edges: u64,
-    back: u64,
-    area: &[u64; 264],
-    from: u64,
-) {
-    print_next(out, refusal);
-    print_next(out, danger);
-    print_next(out, edges);
-    print_next(out, back);
-    print_next(out, changed(area, from) as u64);
-    print(out, b"\n");
+    area.iter().skip(from as usize).any(|cell| *cell != 77)
 }
 
 // The verdict with so much of an area for the walk, and whether a cell after the walk has changed.
 fn show_verdict(out: Stdout, w: Workload, room: u64) {
     let mut area = [77u64; 264];
-    let n = room_in(room, &area);
+    let n = area.len().min(room as usize);
     let v = verdict_of::verdict_of(w, &mut area[..n]);
+    let (said, from) = match v {
+        Verdict::Robust(c) => ([0, 0, c.edges, c.back], 0),
+        Verdict::Danger(c, steps) => ([0, 1, c.edges, c.back], steps % 66 * 4),
+        Verdict::Refused(number) => ([u64::from(number), 0, 0, 0], 0),
+    };
     print(out, b"verdict");
-    print_next(out, room);
-    match v {
-        Verdict::Robust(c) => print_totals(out, 0, 0, c.edges, c.back, &area, 0),
-        Verdict::Danger(c, steps) => print_totals(
-            out,
-            0,
-            1,
-            c.edges,
-            c.back,
-            &area,
-            steps % 66 * 4,
-        ),
-        Verdict::Refused(number) => print_totals(out, number as u64, 0, 0, 0, &area, 0),
-    }
+    print_numbers(out, &[room]);
+    print_numbers(out, &said);
+    print_numbers(out, &[u64::from(changed(&area, from))]);
+    print(out, b"\n");
 }
 
 // Everything of one value.
@@ -503,89 +356,30 @@ fn list_areas(out: Stdout, w: Workload) {
 
 // ---- from the arguments to the listings
 
-fn list_value(out: Stdout, w: Workload, listing: u8) {
-    if listing == LINES {
-        list_lines(out, w);
-        return;
-    }
-    if listing == UNFOLDINGS {
-        list_unfoldings(out, w);
-        return;
-    }
-    if listing == EDGES {
-        list_edges(out, w);
-        return;
-    }
-    list_areas(out, w);
-}
-
-// What is asked of a text, or its refusal.
-fn show_text(out: Stdout, text: &[u8], listing: u8) {
-    if listing == NOTHING {
-        return;
-    }
-    if listing == REPORT {
-        show_report(out, text);
-        return;
-    }
+// What is asked of a text that is read, or its refusal.
+fn list_value(out: Stdout, text: &[u8], list: impl Fn(Stdout, Workload)) {
     let parsed = text_read::read_text(text);
-    let number = parsed.number;
-    if number != 0 {
-        print_refused(out, number, parsed.line);
+    if parsed.number != 0 {
+        print_refused(out, parsed.number, parsed.line);
         return;
     }
-    let w = parsed.work;
-    list_value(out, w, listing);
+    list(out, parsed.work);
 }
 
-// How many bytes an area takes of a file: until the file ends, the area is full or a read fails.
-fn read_full(file: &mut File, area: &mut [u8]) -> usize
-    ensures { result ≤ length area.new }
-{
-    let mut n: usize = 0;
-    while n < area.len() {
-        match file.read(&mut area[n..]) {
-            Ok(k) => {
-                if k == 0 {
-                    return n;
-                }
-                n += k;
-            }
-            Err(_) => return n,
-        }
-    }
-    n
-}
-
-// The file of this name, opened for reading. One that cannot be opened is named on standard error.
-fn open_read(rt: &HostRuntime, path: &[u8]) -> Option<File> {
-    let Ok(name) = std::str::from_utf8(path) else {
-        let _ = rt.stderr().write_all(path);
-        let _ = rt.stderr().write_all(b": no name of a file\n");
-        return None;
-    };
-    match std::fs::open(rt, name) {
-        Ok(file) => Some(file),
-        Err(e) => {
-            let _ = eprintln!(rt; "{name}: {e}");
-            None
-        }
-    }
-}
-
-// Argument i at the front of an area: how many bytes it has, none if it does not fit; or that there is none.
-fn argument(rt: &HostRuntime, i: usize, area: &mut [u8]) -> Option<usize>
-    ensures { IfSome result (λ n. n ≤ length area.new) }
-{
-    match rt.arg(i, area) {
-        Ok(n) => Some(n),
-        Err(FillError::TooLong) => Some(0),
-        Err(FillError::NotPresent) => None,
+// What is asked of a text, if anything is.
+fn show_text(out: Stdout, text: &[u8], listing: Option<Listing>) {
+    match listing {
+        None => {}
+        Some(Listing::Lines) => list_value(out, text, list_lines),
+        Some(Listing::Unfoldings) => list_value(out, text, list_unfoldings),
+        Some(Listing::Edges) => list_value(out, text, list_edges),
+        Some(Listing::Report) => show_report(out, text),
+        Some(Listing::Areas) => list_value(out, text, list_areas),
     }
 }
 
 // A file's name and what is asked of it. A text that fills the area is over the bound, whatever follows.
-fn show_file(rt: &HostRuntime, path: &[u8], listing: u8) {
+fn show_file(rt: &HostRuntime, path: &[u8], listing: Option<Listing>) {
     let Some(mut file) = open_read(rt, path) else {
         return;
     };
@@ -597,45 +391,38 @@ fn show_file(rt: &HostRuntime, path: &[u8], listing: u8) {
     show_text(out, &text[..n], listing);
 }
 
-// What a word asks for: nothing if it is the name of a file.
-fn listing_of(word: &[u8]) -> u8 {
+// What a word asks to be listed: nothing if it is the name of a file.
+fn listing_of(word: &[u8]) -> Option<Listing> {
     if same(word, b"--read") {
-        return LINES;
+        Some(Listing::Lines)
+    } else if same(word, b"--unfold") {
+        Some(Listing::Unfoldings)
+    } else if same(word, b"--edges") {
+        Some(Listing::Edges)
+    } else if same(word, b"--report") {
+        Some(Listing::Report)
+    } else if same(word, b"--areas") {
+        Some(Listing::Areas)
+    } else {
+        None
     }
-    if same(word, b"--unfold") {
-        return UNFOLDINGS;
-    }
-    if same(word, b"--edges") {
-        return EDGES;
-    }
-    if same(word, b"--report") {
-        return REPORT;
-    }
-    if same(word, b"--areas") {
-        return AREAS;
-    }
-    if same(word, b"--input") {
-        return INPUT;
-    }
-    NOTHING
 }
 
 // An argument, with what the words before ask for; answers what is asked for after it.
-fn take_argument(rt: &HostRuntime, word: &[u8], before: u8) -> u8 {
-    let asked = listing_of(word);
-    if asked == INPUT {
+fn take_argument(rt: &HostRuntime, word: &[u8], before: Option<Listing>) -> Option<Listing> {
+    if same(word, b"--input") {
         verdict_run::answer_input(rt);
         return before;
     }
-    if asked != NOTHING {
-        return asked;
+    let asked = listing_of(word);
+    if asked.is_none() {
+        show_file(rt, word, before);
     }
-    show_file(rt, word, before);
-    before
+    asked.or(before)
 }
 
 fn main(rt: HostRuntime) {
-    let mut listing = NOTHING;
+    let mut listing = None;
     let mut word = [0u8; WORD_BYTES];
     for i in 1..usize::MAX {
         let Some(n) = argument(&rt, i, &mut word) else {

@@ -2,19 +2,11 @@
 // whole the parts after it are; a group, as a decimal number, and a file ask whether the part that the group makes is the file's value.
 #![tactic(auto)]
 
-ghost use Rattle.std.specs.Prelude.{◌≤◌, length, IfSome};
-
 use check::same;
+use console::{INPUT_BYTES, WORD_BYTES, argument, open_read, print, read_full};
 use spec_text::{CELLS, Line, LineKind, Workload};
-use std::env::{Env, FillError};
-use std::fs::File;
-use std::io::{Read, Stdout, Write};
+use std::io::{Stdout, Write};
 use text_read::Parsed;
-
-// The bytes of the areas that a file and an argument are read into.
-const INPUT_BYTES: usize = 65536;
-
-const WORD_BYTES: usize = 4096;
 
 // ---- two values
 
@@ -33,60 +25,26 @@ fn kind_number(kind: LineKind) -> u64 {
     }
 }
 
-// All seven values of two lines are the same.
-fn same_line(a: Line, b: Line) -> bool {
-    let one = a.kind;
-    let other = b.kind;
-    (kind_number(one) == kind_number(other))
-        & (a.id == b.id)
-        & (a.rel == b.rel)
-        & (a.to == b.to)
-        & (a.reads == b.reads)
-        & (a.writes == b.writes)
-        & (a.tests == b.tests)
+// All seven values of two lines are the same. A derived `==` would stand in spec_text, whose types the laws speak of.
+fn same_line(a: &Line, b: &Line) -> bool {
+    kind_number(a.kind) == kind_number(b.kind)
+        && (a.id, a.rel, a.to) == (b.id, b.rel, b.to)
+        && (a.reads, a.writes, a.tests) == (b.reads, b.writes, b.tests)
 }
 
 // Two values count as many lines, and all their cells are the same, those after the last line too.
-fn same_value(a: Workload, b: Workload) -> bool {
-    if a.count != b.count {
-        return false;
-    }
-    let mut i: usize = 0;
-    while i < CELLS {
-        let one = a.lines[i];
-        let other = b.lines[i];
-        if !same_line(one, other) {
-            return false;
-        }
-        i += 1;
-    }
-    true
+fn same_value(a: &Workload, b: &Workload) -> bool {
+    a.count == b.count && a.lines.iter().zip(&b.lines).all(|(x, y)| same_line(x, y))
 }
 
 // ---- what is printed
 
-fn print(mut out: Stdout, bytes: &[u8]) {
-    let _ = out.write_all(bytes);
-}
-
-fn print_number(out: Stdout, n: u64) {
-    let mut digits = [0u8; 20];
-    let k = io::decimal(n, &mut digits);
-    print(out, &digits[..k]);
-}
-
 fn print_same(out: Stdout, yes: bool) {
-    if yes {
-        print(out, b" same\n");
-        return;
-    }
-    print(out, b" differs\n");
+    print(out, if yes { b" same\n" } else { b" differs\n" });
 }
 
-fn print_refused(out: Stdout, number: u8) {
-    print(out, b" refused ");
-    print_number(out, number as u64);
-    print(out, b"\n");
+fn print_refused(mut out: Stdout, number: u8) {
+    let _ = writeln!(out, " refused {number}");
 }
 
 // Whether the part that a group makes of the whole is what was read, or a refusal.
@@ -102,17 +60,17 @@ fn show_part(out: Stdout, whole: Workload, group: u16, parsed: Parsed) {
         print_refused(out, refusal);
         return;
     }
-    print_same(out, same_value(part.work, parsed.work));
+    print_same(out, same_value(&part.work, &parsed.work));
 }
 
 // ---- values near the whole that no text gives
 
 // What is answered for a value that no text gives, and whether the value is handed back.
-fn show_near(out: Stdout, near: Workload) {
-    let part = value_part::part_of(near, 65535);
-    print(out, b": ");
-    print_number(out, part.number as u64);
-    print_same(out, same_value(part.work, near));
+fn show_near(mut out: Stdout, near: Workload) {
+    let part = value_part::part_of(near, u16::MAX);
+    let number = part.number;
+    let _ = write!(out, ": {number}");
+    print_same(out, same_value(&part.work, &near));
 }
 
 // A value with another line in a cell, of this kind and with these reads, and another count of lines.
@@ -149,52 +107,6 @@ fn show_all_near(out: Stdout, w: Workload) {
 
 // ---- from the arguments to what is printed
 
-// How many bytes an area takes of a file: until the file ends, the area is full or a read fails.
-fn read_full(file: &mut File, area: &mut [u8]) -> usize
-    ensures { result ≤ length area.new }
-{
-    let mut n: usize = 0;
-    while n < area.len() {
-        match file.read(&mut area[n..]) {
-            Ok(k) => {
-                if k == 0 {
-                    return n;
-                }
-                n += k;
-            }
-            Err(_) => return n,
-        }
-    }
-    n
-}
-
-// The file of this name, opened for reading. One that cannot be opened is named on standard error.
-fn open_read(rt: &HostRuntime, path: &[u8]) -> Option<File> {
-    let Ok(name) = std::str::from_utf8(path) else {
-        let _ = rt.stderr().write_all(path);
-        let _ = rt.stderr().write_all(b": no name of a file\n");
-        return None;
-    };
-    match std::fs::open(rt, name) {
-        Ok(file) => Some(file),
-        Err(e) => {
-            let _ = eprintln!(rt; "{name}: {e}");
-            None
-        }
-    }
-}
-
-// Argument i at the front of an area: how many bytes it has, none if it does not fit; or that there is none.
-fn argument(rt: &HostRuntime, i: usize, area: &mut [u8]) -> Option<usize>
-    ensures { IfSome result (λ n. n ≤ length area.new) }
-{
-    match rt.arg(i, area) {
-        Ok(n) => Some(n),
-        Err(FillError::TooLong) => Some(0),
-        Err(FillError::NotPresent) => None,
-    }
-}
-
 // What a file's text is read into. A text that fills the area is over the bound, whatever follows; a file that cannot be opened is named on
 // standard error and read as no bytes.
 fn read_file(rt: &HostRuntime, path: &[u8]) -> Parsed {
@@ -206,35 +118,13 @@ fn read_file(rt: &HostRuntime, path: &[u8]) -> Parsed {
     text_read::read_text(&text[..n])
 }
 
-// A group, or that a word is none.
-#[derive(Clone, Copy)]
-enum Group {
-    Word(u16),
-    Wrong,
-}
-
 // The group that decimal digits say: a number up to 65535.
-fn group_of(word: &[u8]) -> Group {
-    if word.len() == 0 {
-        return Group::Wrong;
+fn group_of(word: &[u8]) -> Option<u16> {
+    if word.iter().all(u8::is_ascii_digit) {
+        std::str::from_utf8(word).ok()?.parse().ok()
+    } else {
+        None
     }
-    let mut value: u32 = 0;
-    let mut i: usize = 0;
-    while i < word.len() {
-        let digit = word[i];
-        if digit < b'0' {
-            return Group::Wrong;
-        }
-        if b'9' < digit {
-            return Group::Wrong;
-        }
-        value = value * 10 + (digit - b'0') as u32;
-        if 65535 < value {
-            return Group::Wrong;
-        }
-        i += 1;
-    }
-    Group::Word(value as u16)
 }
 
 // The whole that a file gives; of one that some text gives also what is answered for values near it.
@@ -260,8 +150,8 @@ fn take_words(rt: &HostRuntime, whole: Workload, word: &[u8], path: &[u8]) -> Wo
         return take_whole(out, parsed);
     }
     match group_of(word) {
-        Group::Word(group) => show_part(out, whole, group, parsed),
-        Group::Wrong => print(out, b" no group\n"),
+        Some(group) => show_part(out, whole, group, parsed),
+        None => print(out, b" no group\n"),
     }
     whole
 }
