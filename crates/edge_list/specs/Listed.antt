@@ -1,38 +1,33 @@
 -- What follows for the answers from the table of a workload's places.
-use Rattle.std.specs.Prelude.{Bool, false, ◌≡◌, ℕ, zero, suc, ◌*◌, ◌≤◌, length, take}
-use Rattle.std.proofs.Math.Bool.{cond}
+use Rattle.std.specs.Prelude.{false, Result, Ok, Err, Option, None, Some, ◌≡◌, ℕ, ◌*◌, length, take}
 use mathlib.Core.List.{List, [], flat_map}
 use Rattle.std.proofs.Math.Logic.{inr}
-use Rattle.std.proofs.Math.Option.{Option, none, some}
+use Rattle.std.proofs.Math.Option as L
 use Rattle.std.proofs.Math.Path.{refl, ap}
-use Rattle.std.proofs.Common.{sym, subst, ◌∙◌, not-suc-le-zero, arith, length-take-le, lt-ltb, le-ltb, eq-eqb, ne_eqb}
+use Rattle.std.proofs.Common.{sym, subst, ◌∙◌, not-suc-le-zero, length-take-le, lt-ltb, le-ltb}
 use Rattle.std.proofs.Math.ListN.{get_elem?}
 use Rattle.spec_base.specs.Basic.{count}
 use Rattle.spec_text.specs.declared.Workload.{Workload}
 use Rattle.spec_text.specs.Value.{Given, lines_of}
 use Rattle.spec_graph.specs.Graph as G
 use Rattle.spec_graph.specs.Edge as E
-use Rattle.spec_report.specs.State.{StateRefusal, is_too_many, counts_of, short_for_edges, refusal_of}
+use Rattle.spec_report.specs.State.{StateRefusal, is_too_many, counts_of, short_for_edges}
 use Rattle.spec_report.specs.State.StateRefusal.{too_short, taken}
-use Rattle.spec_report.specs.Refusals.{refusal_some, refusal_none, taken_given, other_area}
+use Rattle.spec_report.specs.Refusals.{taken_given, other_area}
+use Rattle.refusal.specs.declared.Fault.{Fault}
+use Rattle.refusal.specs.Numbers.{number_of}
 use Rattle.place_row.specs.RowTable.{row_count, table_rows, edges_of_rows}
 use Rattle.edge_record.specs.declared.Edge.{Edge}
-use Rattle.edge_record.specs.declared.Found.{Found}
 use Rattle.edge_count.specs.declared.Counts.{Counts}
-use Rattle.edge_record.specs.Coded.{coded, found_as}
+use Rattle.edge_record.specs.Coded.{found_as}
 use Rattle.edge_count.specs.Slots.{table_edges, table_counts}
-use Rattle.edge_put.specs.declared.Put.{Put}
-use Rattle.edge_put.specs.declared.Put.TheVariants.{Refused}
 use Rattle.edge_put.specs.Put.{put_said, PutAs}
 use Rattle.edge_number.specs.NumberLaws.{coded_at, coded_none}
 use Rattle.place_table.specs.declared.Rows.{Rows}
 use Rattle.place_table.specs.Rows.{RowsSettled}
-use Rattle.place_table.specs.Whole.{number_some, whole_refused, whole_filled, whole_edges}
-use Rattle.edge_list.specs.declared.EdgeCounts.{EdgeCounts}
-use Rattle.edge_list.specs.declared.EdgeAnswer.{EdgeAnswer}
-use Rattle.edge_list.specs.declared.Prepared.{Prepared}
+use Rattle.place_table.specs.Whole.{whole_refused, whole_filled, whole_edges}
 use Rattle.edge_list.specs.EdgesSettled.{edges_in, counts_said, edge_said, CountsSettled, EdgeSettled, PutSettled}
-use Rattle.edge_list.specs.Prepared.{TabledFor, answer_with}
+use Rattle.edge_list.specs.Prepared.{Tabled, TabledFor}
 
 -- ---- the table
 
@@ -41,110 +36,83 @@ no_words : (table : List ℕ) → table_edges (take 0 table) ≡ []
 unfolding table_edges table_rows row_count edges_of_rows flat_map
 no_words table = refl
 
-module _ {w : Workload} {before : List ℕ} {r : Rows} {after : List ℕ} (s : RowsSettled w before r after) where
-  pub tabled_refused : {n : ℕ} → r ≡ Rows.Refused n → TabledFor w (record { refusal = n; words = 0; table = after })
-  tabled_refused {n} e =
-      let refusal = whole_refused false s e in
-      let other = number_some refl refusal in
-      record {
-        refusal = subst (StateRefusal w false) (sym (refusal_some n other)) refusal;
-        inside = omega arith;
-        refused = λ _. no_words after;
-        edges = λ z. absurd (other z);
-      }
-
-  pub tabled_filled : {programs nodes places : ℕ} → r ≡ Rows.Filled programs nodes places
-      → TabledFor w (record { refusal = 0; words = places * 8; table = after })
-  unfolding refusal_of
-  tabled_filled {programs} {nodes} {places} e =
-      let t = whole_filled s e in
-      record {
-        refusal = taken t.given t.few refl;
-        inside = t.inside;
-        refused = λ d. absurd (d refl);
-        edges = λ _. whole_edges w programs nodes places after t;
-      }
-
--- ---- what it gives
-
-module _ (w : Workload) (t : Prepared) (s : TabledFor w t) where
-  pub part_long : t.words ≡ length (take t.words t.table)
-  part_long = sym (length-take-le t.words t.table s.inside)
-
-  module _ (h : t.refusal ≡ 0 → ⊥) where
-    is_refused_lem : StateRefusal w false (some t.refusal)
-    is_refused_lem = subst (StateRefusal w false) (refusal_some t.refusal h) s.refusal
-
-    pub counts_refused : CountsSettled w (EdgeCounts.Refused t.refusal)
-    unfolding counts_said
-    counts_refused = CountsSettled.refused t.refusal is_refused_lem refl
-
-    pub edge_refused : (k : ℕ) → EdgeSettled w k (EdgeAnswer.Refused t.refusal)
-    unfolding edge_said
-    edge_refused k = EdgeSettled.refused t.refusal is_refused_lem refl
-
-  module _ (z : t.refusal ≡ 0) where
-    is_taken : StateRefusal w false none
-    is_taken = subst (StateRefusal w false) (refusal_none t.refusal z) s.refusal
-
-    ok : Given w × (is_too_many (lines_of w) ≡ false)
-    ok = taken_given is_taken refl
-
-    pub counts_told : (c : Counts) → c ≡ table_counts (take t.words t.table) → CountsSettled w (EdgeCounts.Counted c.edges c.back)
-    unfolding counts_said table_counts counts_of
-    counts_told c e =
-        CountsSettled.counted is_taken
-        (ap (λ (x : Counts). inr (x.edges, x.back)) e
-        ∙ ap (λ (l : List E.Edge). inr (length l, count (λ d. G.is_back d.flow) l)) (s.edges z))
-
-    module _ (k : ℕ) (f : Found) (e : f ≡ found_as (get_elem? (table_edges (take t.words t.table)) k)) where
-      found_in : f ≡ found_as (get_elem? (edges_in w) k)
-      found_in = e ∙ ap (λ (l : List E.Edge). found_as (get_elem? l k)) (s.edges z)
-
-      pub edge_there : (edge : Edge) → f ≡ Found.There edge → EdgeSettled w k (EdgeAnswer.There edge)
-      unfolding edge_said
-      edge_there edge h = EdgeSettled.told is_taken (ap inr (sym (coded_at (edges_in w) k edge (sym found_in ∙ h))))
-
-      pub edge_absent : f ≡ Found.Absent → EdgeSettled w k EdgeAnswer.Absent
-      unfolding edge_said
-      edge_absent h = EdgeSettled.told is_taken (ap inr (sym (coded_none (edges_in w) k (sym found_in ∙ h))))
-
--- ---- the edges put
-
 -- with no edges nothing is put
-put_nothing : {before after : List Edge} {r : Put} → PutAs [] before r after → after ≡ before
+put_nothing : {before after : List Edge} {r : Result ℕ Fault} → PutAs [] before r after → after ≡ before
 put_nothing (PutAs.short less said same) = absurd (not-suc-le-zero less)
 put_nothing (PutAs.put fits said same) = same
 
-module _ (w : Workload) (before after : List Edge) (t : Prepared) (s : TabledFor w t) (p r : Put)
-    (edges : PutAs (table_edges (take t.words t.table)) before p after) (answer : r ≡ answer_with t.refusal p) where
-  abbrev short : Bool
-  short = short_for_edges (lines_of w) (length before)
+module _ {w : Workload} {before : List ℕ} {r : Result Rows Fault} {after : List ℕ} (s : RowsSettled w before r after) where
+  pub tabled_refused : {fault : Fault} → r ≡ Err fault → TabledFor w (Err fault) after
+  tabled_refused e = whole_refused false s e
 
-  refused_put : (t.refusal ≡ 0 → ⊥) → PutSettled w before r after
-  unfolding answer_with put_said
-  refused_put h =
-      PutSettled.refused t.refusal (other_area (λ _. refl) short refl (is_refused_lem w t s h))
-      (ap put_said (answer ∙ ap (λ (b : Bool). cond b p (Refused t.refusal)) (ne_eqb t.refusal 0 h)))
-      (put_nothing (subst (λ (l : List E.Edge). PutAs l before p after) (s.refused h) edges))
+  pub tabled_filled : {rows : Rows} → r ≡ Ok rows → TabledFor w (Ok (rows.places * 8)) after
+  tabled_filled {rows} e =
+      let t = whole_filled s e in
+      record {
+        taken = taken t.given t.few refl;
+        inside = t.inside;
+        edges = whole_edges w rows.programs rows.nodes rows.places after t;
+      }
 
-  module _ (z : t.refusal ≡ 0) where
-    said : put_said r ≡ put_said p
-    unfolding answer_with
-    said = ap put_said (answer ∙ ap (λ (b : Bool). cond b p (Refused t.refusal)) (eq-eqb t.refusal 0 z))
+-- ---- a refusal of the workload
 
-    taken_put : PutAs (edges_in w) before p after → PutSettled w before r after
-    unfolding short_for_edges
-    taken_put (PutAs.short less told same) =
-        let g = ok w t s z in
-        PutSettled.refused 20 (too_short g.0 g.1 (lt-ltb (length before) (length (edges_in w)) less)) (said ∙ told) same
-    taken_put (PutAs.put fits told same) =
-        let g = ok w t s z in
-        PutSettled.put (taken g.0 g.1 (le-ltb (length before) (length (edges_in w)) fits)) (said ∙ told) same
+module _ (w : Workload) {fault : Fault} (refusal : StateRefusal w false (L.some (number_of fault))) where
+  pub counts_refused : CountsSettled w (Err fault)
+  unfolding counts_said
+  counts_refused = CountsSettled.refused (number_of fault) refusal refl
 
-  pub put_settled : PutSettled w before r after
-  put_settled = go t.refusal refl
+  pub edge_refused : (k : ℕ) → EdgeSettled w k (Err fault)
+  unfolding edge_said
+  edge_refused k = EdgeSettled.refused (number_of fault) refusal refl
+
+  -- the lent area stays
+  pub put_refused : (before : List Edge) → PutSettled w before (Err fault) before
+  unfolding put_said
+  put_refused before =
+      PutSettled.refused (number_of fault) (other_area (λ _. refl) (short_for_edges (lines_of w) (length before)) refl refusal) refl refl
+
+-- ---- what a table gives
+
+module _ (w : Workload) (words : ℕ) (table : List ℕ) (t : Tabled w words table) where
+  pub part_long : words ≡ length (take words table)
+  part_long = sym (length-take-le words table t.inside)
+
+  ok : Given w × (is_too_many (lines_of w) ≡ false)
+  ok = taken_given t.taken refl
+
+  pub counts_told : (c : Counts) → c ≡ table_counts (take words table) → CountsSettled w (Ok (record { edges = c.edges; back = c.back }))
+  unfolding counts_said table_counts counts_of
+  counts_told c e =
+      CountsSettled.counted t.taken
+      (ap (λ (x : Counts). inr (x.edges, x.back)) e
+      ∙ ap (λ (l : List E.Edge). inr (length l, count (λ d. G.is_back d.flow) l)) t.edges)
+
+  module _ (k : ℕ) (f : Option Edge) (e : f ≡ found_as (get_elem? (table_edges (take words table)) k)) where
+    found_in : f ≡ found_as (get_elem? (edges_in w) k)
+    found_in = e ∙ ap (λ (l : List E.Edge). found_as (get_elem? l k)) t.edges
+
+    pub edge_there : (edge : Edge) → f ≡ Some edge → EdgeSettled w k (Ok (Some edge))
+    unfolding edge_said
+    edge_there edge h = EdgeSettled.told t.taken (ap inr (sym (coded_at (edges_in w) k edge (sym found_in ∙ h))))
+
+    pub edge_absent : f ≡ None → EdgeSettled w k (Ok None)
+    unfolding edge_said
+    edge_absent h = EdgeSettled.told t.taken (ap inr (sym (coded_none (edges_in w) k (sym found_in ∙ h))))
+
+    pub edge_told : EdgeSettled w k (Ok f)
+    edge_told = go f refl
+      where
+        go : (g : Option Edge) → f ≡ g → EdgeSettled w k (Ok g)
+        go (Some edge) h = edge_there edge h
+        go None h = edge_absent h
+
+  -- the edges put: all, or none where the area is too short
+  pub put_settled : (before after : List Edge) (r : Result ℕ Fault) → PutAs (table_edges (take words table)) before r after
+      → PutSettled w before r after
+  unfolding short_for_edges
+  put_settled before after r edges = go (subst (λ (l : List E.Edge). PutAs l before r after) t.edges edges)
     where
-      go : (n : ℕ) → t.refusal ≡ n → PutSettled w before r after
-      go zero z = taken_put z (subst (λ (l : List E.Edge). PutAs l before p after) (s.edges z) edges)
-      go (suc n) z = refused_put (λ e. omega arith)
+      go : PutAs (edges_in w) before r after → PutSettled w before r after
+      go (PutAs.short less told same) =
+          PutSettled.refused 20 (too_short ok.0 ok.1 (lt-ltb (length before) (length (edges_in w)) less)) told same
+      go (PutAs.put fits told same) = PutSettled.put (taken ok.0 ok.1 (le-ltb (length before) (length (edges_in w)) fits)) told same

@@ -1,20 +1,20 @@
--- Steps of the code: a workload's table, and the answer from its refusal and from what became of its edges.
-use Rattle.std.specs.Prelude.{false, cond, [], ◌≡◌, ℕ, ◌≤◌, eqb, length, take}
+-- Steps of the code: a workload's table.
+use Rattle.std.specs.Prelude.{false, Result, Ok, Err, List, ◌≡◌, ℕ, ◌≤◌, length, take}
+use Rattle.std.proofs.Math.Option.{none, some}
 use Rattle.spec_text.specs.declared.Workload.{Workload}
-use Rattle.spec_report.specs.State.{StateRefusal, refusal_of}
+use Rattle.spec_report.specs.State.{StateRefusal}
+use Rattle.refusal.specs.declared.Fault.{Fault}
+use Rattle.refusal.specs.Numbers.{number_of}
 use Rattle.edge_count.specs.Slots.{table_edges}
-use Rattle.edge_put.specs.declared.Put.{Put}
-use Rattle.edge_put.specs.declared.Put.TheVariants.{Refused}
-use Rattle.edge_list.specs.declared.Prepared.{Prepared}
 use Rattle.edge_list.specs.EdgesSettled.{edges_in}
 
--- a refusal (S21, S22) leaves no word; else the first words of the table have the workload's edges
-pub record TabledFor (w : Workload) (t : Prepared) : Type 0 where
-  pub refusal : StateRefusal w false (refusal_of t.refusal)
-  pub inside : t.words ≤ length t.table
-  pub refused : (t.refusal ≡ 0 → ⊥) → table_edges (take t.words t.table) ≡ []
-  pub edges : t.refusal ≡ 0 → table_edges (take t.words t.table) ≡ edges_in w
+-- the workload is not refused, and the first words of the table have its edges
+pub record Tabled (w : Workload) (words : ℕ) (table : List ℕ) : Type 0 where
+  pub taken : StateRefusal w false none
+  pub inside : words ≤ length table
+  pub edges : table_edges (take words table) ≡ edges_in w
 
--- the refusal, if there is one; else what became of the edges
-unfoldable pub answer_with : ℕ → Put → Put
-answer_with refusal put = cond (eqb refusal 0) put (Refused refusal)
+-- a refusal (S21, S22), and no words are told; else how many words of the table have the workload's edges
+abbrev pub TabledFor : Workload → Result ℕ Fault → List ℕ → Type 0
+TabledFor w (Err fault) table = StateRefusal w false (some (number_of fault))
+TabledFor w (Ok words) table = Tabled w words table
