@@ -29,41 +29,49 @@ pub struct Rows {
     pub places: u64,
 }
 
+// What is told of the nodes: how many there are, each one's program and how many places it has, and the words of all places, one node after the
+// other.
+#[derive(Clone, Copy)]
+struct Nodes<'a> {
+    count: usize,
+    programs: &'a [u8],
+    lengths: &'a [u64],
+    words: &'a [u64],
+}
+
+// A node: the lines, where the links of its program begin, and its number.
+#[derive(Clone, Copy)]
+struct Node<'a> {
+    lines: &'a [u64],
+    links: Links,
+    number: u64,
+}
+
+// The byte at an index, 0 past the end.
 fn byte_at(bytes: &[u8], i: usize) -> u8
     ensures { result ≡ get_or bytes.now i 0 }
 {
-    if i < bytes.len() {
-        return bytes[i];
-    }
-    0
+    bytes.get(i).copied().unwrap_or(0)
 }
 
-// The row of a place from its word, into the table at a place.
-fn put_place(
-    lines: &[u64],
-    links: Links,
-    node: u64,
-    place: u64,
-    word: u64,
-    table: &mut [u64],
-    at: usize,
-)
+// The row of a node's place from its word, into the table at a place.
+fn put_place(node: Node, place: u64, word: u64, table: &mut [u64], at: usize)
     requires { at + 8 ≤ length table.old }
-    ensures { table.new ≡ put_at table.old at (row_words lines.now links node place word) }
+    ensures { table.new ≡ put_at table.old at (row_words node.entry.lines.now node.entry.links node.entry.number place word) }
 {
-    let line = (word % WORD_LINES) as usize;
-    let l = line * LINE_WORDS;
+    let lines = node.lines;
+    let l = (word % WORD_LINES) as usize * LINE_WORDS;
     let keys = keys_from(
         lines,
-        links.first,
+        node.links.first,
         word_at(lines, l + ID),
         word / WORD_LINES,
-        links.marks,
+        node.links.marks,
     );
     put_row(
         table,
         at,
-        node,
+        node.number,
         place,
         word_at(lines, l),
         word_at(lines, l + REL),
@@ -75,81 +83,50 @@ fn put_place(
 }
 
 // The rows of a node, whose places' words stand from `start` on, into the table after those of the nodes before.
-fn put_places(
-    lines: &[u64],
-    links: Links,
-    node: u64,
-    words: &[u64],
-    start: usize,
-    n: usize,
-    table: &mut [u64],
-) -> usize
+fn put_places(node: Node, words: &[u64], start: usize, n: usize, table: &mut [u64]) -> usize
     requires { (start + n) * 8 ≤ length table.old }
-    ensures { (table.new
-        ≡ put_at table.old (start * 8) (node_rows lines.now links node words.now start n)) × (result ≡ start + n) }
+    ensures { (table.new ≡ put_at table.old (start * 8)
+        (node_rows node.entry.lines.now node.entry.links node.entry.number words.now start n)) × (result ≡ start + n) }
 {
-    let mut i: usize = 0;
-    while i < n {
+    for i in 0..n {
         let word = word_at(words, start + i);
-        put_place(
-            lines,
-            links,
-            node,
-            i as u64,
-            word,
-            table,
-            (start + i) * ROW_WORDS,
-        );
-        i += 1;
+        put_place(node, i as u64, word, table, (start + i) * ROW_WORDS);
     }
     start + n
 }
 
 // The rows of all nodes from the table's start on; answers how many.
-fn put_nodes(
-    lines: &[u64],
-    firsts: &[u64],
-    programs: &[u8],
-    lengths: &[u64],
-    words: &[u64],
-    n: usize,
-    table: &mut [u64],
-) -> usize
-    requires { total_of lengths.now n * 8 ≤ length table.old }
-    ensures { (table.new ≡ put_at table.old 0 (all_rows lines.now firsts.now programs.now
-        lengths.now words.now n)) × (result ≡ total_of lengths.now n) }
+fn put_nodes(lines: &[u64], firsts: &[u64], nodes: Nodes, table: &mut [u64]) -> usize
+    requires { total_of nodes.lengths.now nodes.count * 8 ≤ length table.old }
+    ensures { (table.new ≡ put_at table.old 0 (all_rows lines.now firsts.now nodes.entry.programs.now
+        nodes.entry.lengths.now nodes.entry.words.now nodes.entry.count)) × (result ≡ total_of nodes.entry.lengths.now nodes.entry.count) }
 {
     let mut at: usize = 0;
-    let mut j: usize = 0;
-    while j < n {
-        let p = byte_at(programs, j);
+    for j in 0..nodes.count {
+        let p = byte_at(nodes.programs, j);
         let first = word_at(firsts, p as usize);
-        let links = links_from(lines, first as usize);
-        let places = word_at(lengths, j);
-        at = put_places(lines, links, j as u64, words, at, places as usize, table);
-        j += 1;
+        let node = Node {
+            lines,
+            links: links_from(lines, first as usize),
+            number: j as u64,
+        };
+        let places = word_at(nodes.lengths, j);
+        at = put_places(node, nodes.words, at, places as usize, table);
     }
     at
 }
 
 // The table of lines whose unfoldings are told, where it has room.
-fn fill_table(
-    lines: &[u64],
-    nodes: usize,
-    programs: &[u8],
-    lengths: &[u64],
-    words: &[u64],
-    table: &mut [u64],
-) -> Rows
-    requires { total_of lengths.now nodes * 8 ≤ length table.old }
-    ensures { FilledBy lines.now programs.now lengths.now words.now nodes table.old (Ok result)
-        table.new }
+fn fill_table(lines: &[u64], nodes: Nodes, table: &mut [u64]) -> Rows
+    requires { total_of nodes.lengths.now nodes.count * 8 ≤ length table.old }
+    ensures { FilledBy lines.now nodes.entry.programs.now nodes.entry.lengths.now nodes.entry.words.now nodes.entry.count
+        table.old (Ok result) table.new }
 {
     let b = programs_in(lines);
-    let places = put_nodes(lines, &b.firsts, programs, lengths, words, nodes, table);
+    let places = put_nodes(lines, &b.firsts, nodes, table);
     Rows {
         programs: b.programs as u64,
-        nodes: nodes as u64,
+        nodes: nodes.count as u64,
         places: places as u64,
     }
 }
@@ -167,8 +144,13 @@ pub fn fill_lines(
     let mut starts = [0u64; UNFOLDINGS];
     let mut lengths = [0u64; UNFOLDINGS];
     let count = unfold_into(lines, &mut programs, &mut starts, &mut lengths, places)?;
-    let nodes = count as usize;
-    Ok(fill_table(lines, nodes, &programs, &lengths, places, table))
+    let nodes = Nodes {
+        count: count as usize,
+        programs: &programs,
+        lengths: &lengths,
+        words: places,
+    };
+    Ok(fill_table(lines, nodes, table))
 }
 
 // The rows of all places of a workload value into the lent table; a refusal leaves the table as it is.

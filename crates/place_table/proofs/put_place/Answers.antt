@@ -8,5 +8,5 @@ pub returns : goal.returns
 returns c =
     c.put_row.ensures ∙ row_put_lem c.args.table.now c.args.at _ c.requires
     ∙ ap (put_at c.args.table.now c.args.at)
-    (row_words_lem c.args.lines.now _ _ _ _ _ _ _ _ _ _ _ c.word_at.ensures c.keys_from-keys.ensures c.word_at-2.ensures
+    (row_words_lem _ _ _ _ _ _ _ _ _ _ _ _ c.word_at.ensures c.keys_from-keys.ensures c.word_at-2.ensures
     c.word_at-3.ensures c.word_at-4.ensures c.word_at-5.ensures c.word_at-6.ensures)
