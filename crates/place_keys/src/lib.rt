@@ -37,21 +37,17 @@ fn key_at(lines: &[u64], i: usize, child: u64, parents: u64, word: u64) -> u64
 pub fn keys_from(lines: &[u64], first: usize, child: u64, seen: u64, marks: u64) -> u64
     ensures { result ≡ place_keys lines.now first child seen marks }
 {
-    let n = lines.len() / LINE_WORDS;
     let mut near: u64 = 0;
     let mut far: u64 = 0;
-    let mut i = first;
-    while i < n {
+    for i in first..lines.len() / LINE_WORDS {
         if word_at(lines, i * LINE_WORDS) == PR {
-            return near + far * FAR;
+            break;
         }
         if word_at(lines, i * LINE_WORDS + REL) != child {
-            i += 1;
             continue;
         }
         near = key_at(lines, i, child, seen, near);
         far = key_at(lines, i, child, marks, far);
-        i += 1;
     }
     near + far * FAR
 }

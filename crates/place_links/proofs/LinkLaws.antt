@@ -7,7 +7,6 @@ use lib.Bits.{bit_or}
 use lib.ListN.{get_or}
 use borrow.Author.Tests.{eq-eqb, ne_eqb}
 use Rattle.value_tables.specs.Lines.{pr_number, li_number}
-use Rattle.place_links.specs.declared.Links.{Links}
 use Rattle.place_links.specs.LineLinks.{links_from}
 
 module _ (lines : List ℕ) where

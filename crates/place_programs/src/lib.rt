@@ -20,20 +20,14 @@ pub fn programs_in(lines: &[u64]) -> Begun
 {
     let mut firsts = [0u64; 16];
     let mut programs: usize = 0;
-    let n = lines.len() / LINE_WORDS;
-    let mut i: usize = 0;
-    while i < n {
-        let kind = word_at(lines, i * LINE_WORDS);
-        i += 1;
-        if kind != PR {
+    for i in 0..lines.len() / LINE_WORDS {
+        if word_at(lines, i * LINE_WORDS) != PR {
             continue;
         }
-        let p = programs;
-        programs = p + 1;
-        if p > 15 {
-            continue;
+        if programs < firsts.len() {
+            firsts[programs] = i as u64 + 1;
         }
-        firsts[p] = i as u64;
+        programs += 1;
     }
     Begun { programs, firsts }
 }

@@ -2,8 +2,9 @@
 use mathlib.Core.Bool.{Bool, true, false, cond}
 use mathlib.Core.List.{List, [], ◌∷◌, ◌++◌, map}
 use mathlib.Core.Option.{some}
+use Rattle.std.specs.Prelude.{Result, Ok, Err}
 use mathlib.Core.Path.{◌≡◌, refl, sym, ap, subst, ◌∙◌}
-use Prim.Native.Nat.{ℕ, zero, suc, ◌+◌, ◌*◌, ◌-◌, ◌/◌, ◌≤◌, ◌<◌}
+use Prim.Native.Nat.{ℕ, zero, suc, ◌+◌, ◌*◌, ◌-◌, ◌≤◌}
 use native.Mathlib.Omega.{arith}
 use lib.ListN.{length, get_or, get_elem?, take, drop, replicate, length-take, length-map, length-append, get_or-append}
 use borrow.Author.Tests.{le-ltb}
@@ -17,22 +18,25 @@ use Rattle.spec_report.specs.State.{StateRefusal, statements_in, is_too_many, sh
 use Rattle.spec_report.specs.State.StateRefusal.{not_given, taken}
 use Rattle.place_row.specs.RowTable.{rows_of, table_of}
 use Rattle.unfold.specs.declared.Unfolded.{Unfolded}
-use Rattle.unfold.specs.UnfoldTold.{cells, nodes_told, refused_with}
+use Rattle.unfold.specs.UnfoldTold.{cells, nodes_told}
 use Rattle.unfold.specs.UnfoldSteps.{table_told, over_many, is_too_short, pieces_over, Tabled}
 use Rattle.unfold.specs.PieceTable.{table}
 use Rattle.unfold_laws.specs.Pieces.{Piece, flat}
 use Rattle.unfold.specs.UnfoldSettled.{PlacesSettled}
 use Rattle.unfold.specs.UnfoldLines.{LinePlacesSettled}
-use Rattle.unfold.specs.declared.Told.{Told as ToldCount}
 use Rattle.unfold.specs.UnfoldInto.{Into}
-use Rattle.unfold.specs.IntoLaws.{into_cells}
+use Rattle.unfold.specs.UnfoldInto.Into.{into_none, into_cells}
+use Rattle.unfold.specs.IntoLaws.{cells_whole}
 use Rattle.unfold.specs.Stand.{PlacesStand, places_stand}
-use Rattle.spec_report.specs.Refusals.{refusal_some, refusal_none, places_few, taken_given, other_area}
+use Rattle.spec_report.specs.Refusals.{places_few, taken_given, other_area}
 use Rattle.place_programs.specs.declared.Begun.{Begun}
 use Rattle.place_programs.specs.LinePrograms.{begun_in}
 use Rattle.word_rows.specs.Put.{put_at}
+use Rattle.refusal.specs.declared.Fault.{Fault}
+use Rattle.refusal.specs.declared.Fault.TheVariants.{Area, NotGiven, Unfoldings}
+use Rattle.refusal.specs.Numbers.{number_of}
+use Rattle.refusal.specs.Refusing.{refusal_in}
 use Rattle.place_table.specs.declared.Rows.{Rows}
-use Rattle.place_table.specs.declared.Rows.TheVariants.{Refused, Filled}
 use Rattle.value_tables.specs.Lines.{line_table}
 use Rattle.place_table.specs.RowWords.{total_of, all_rows, rows_told, FilledBy}
 use Rattle.place_table.specs.Rows.{rows_said, RowsSettled}
@@ -51,7 +55,7 @@ lines_part w words many fits = omega (arith, length-take (w.count * 8) words)
 
 pub filled_by : {lines programs lengths places : List ℕ} {n : ℕ} {before : List ℕ} {b : Begun} → b ≡ begun_in lines → {total : ℕ}
     → total ≡ total_of lengths n → {after : List ℕ} → after ≡ put_at before 0 (all_rows lines b.firsts programs lengths places n)
-    → FilledBy lines programs lengths places n before (Filled b.programs n total) after
+    → FilledBy lines programs lengths places n before (Ok (record { programs = b.programs; nodes = n; places = total })) after
 unfolding rows_told
 filled_by h t s = record { tells = rw (h, t) refl; stands = s ∙ rw h refl }
 
@@ -73,22 +77,23 @@ total_pieces (p ∷ ps) rest =
     ∙ sym (length-append p.words (flat ps))
 
 -- what found room in 512 words is no more
-places_told_few : {codes numbers marks before after : List ℕ} {told : Unfolded} → Tabled codes numbers marks before told after
-    → length before ≡ 512 → length after ≡ 512 → told.refusal ≡ 0 → total_of told.length told.count ≤ 512
-unfolding refused_with table_told table cells
-places_told_few {codes} {numbers} {marks} {before} {after} {told} t size long none_told =
+places_told_few : {codes numbers marks before after : List ℕ} {u : Unfolded} → Tabled codes numbers marks before (Ok u) after
+    → length before ≡ 512 → length after ≡ 512 → total_of u.length u.count ≤ 512
+unfolding table_told table cells
+places_told_few {codes} {numbers} {marks} {before} {after} {u} t size long =
     go (over_many codes) (is_too_short codes (length before)) t.tells t.stands
   where
     pieces : List Piece
     pieces = pieces_over codes numbers marks
 
-    go : (a b : Bool) → told ≡ cond a (refused_with 22) (cond b (refused_with 20) (table_told (table pieces)))
+    go : (a b : Bool) → Ok u ≡ cond a (Err Unfoldings) (cond b (Err Area) (Ok (table_told (table pieces))))
         → after ≡ cond a before (cond b before (flat pieces ++ drop (length (flat pieces)) before))
-        → total_of told.length told.count ≤ 512
-    go true b e s = let z : ◌≡◌ {A = ℕ} 0 22 = sym none_told ∙ ap (λ (u : Unfolded). u.refusal) e in absurd (omega arith)
-    go false true e s = let z : ◌≡◌ {A = ℕ} 0 20 = sym none_told ∙ ap (λ (u : Unfolded). u.refusal) e in absurd (omega arith)
+        → total_of u.length u.count ≤ 512
+    go true b e s = let never : ⊥ = cc in absurd never
+    go false true e s = let never : ⊥ = cc in absurd never
     go false false e s =
-        let total = ap (λ (u : Unfolded). total_of u.length u.count) e
+        let same : u ≡ table_told (table pieces) = cc in
+        let total = ap (λ (u : Unfolded). total_of u.length u.count) same
         ∙ total_pieces pieces (replicate (64 - length (map (λ p. length p.words) pieces)) 0) in
         let whole = ap length s ∙ length-append (flat pieces) (drop (length (flat pieces)) before) in
         omega arith
@@ -100,17 +105,17 @@ roomy : (w : Workload) (room : ℕ) → room ≡ 512 → is_too_many (lines_of w
 unfolding short_for_unfoldings
 roomy w room e t = let most = places_few w t in le-ltb room (statements_in (nodes_of (lines_of w))) (omega arith)
 
-module _ (w : Workload) (zeros : List ℕ) (size : length zeros ≡ 512) (told : Unfolded) (area : List ℕ) (settled : PlacesSettled w zeros told area)
-    (before : List ℕ) where
+module _ (w : Workload) (zeros : List ℕ) (size : length zeros ≡ 512) {told : Result Unfolded Fault} (area : List ℕ)
+    (settled : PlacesSettled w zeros told area) (before : List ℕ) where
   -- S21, S22
-  pub refused_number : (told.refusal ≡ 0 → ⊥) → RowsSettled w before (Refused told.refusal) before
+  pub refused_rows : {fault : Fault} → told ≡ Err fault → RowsSettled w before (Err fault) before
   unfolding rows_said
-  refused_number d =
-      let number = refusal_some told.refusal d in
+  refused_rows {fault} e =
+      let number = ap refusal_in e in
       let refusal = other_area (roomy w (length zeros) size) false number settled.refusal in
-      refused told.refusal (subst (StateRefusal w false) number refusal) refl refl
+      refused (number_of fault) (subst (StateRefusal w false) number refusal) refl refl
 
-  module _ (none_told : told.refusal ≡ 0) where
+  module _ (u : Unfolded) (told_is : told ≡ Ok u) where
     abbrev lines : List Line
     lines = lines_of w
 
@@ -118,13 +123,13 @@ module _ (w : Workload) (zeros : List ℕ) (size : length zeros ≡ 512) (told :
     nodes = nodes_of (lines_of w)
 
     both : Given w × (is_too_many (lines_of w) ≡ false)
-    both = taken_given settled.refusal (refusal_none told.refusal none_told)
+    both = taken_given settled.refusal (ap refusal_in told_is)
 
-    is_told : told ≡ nodes_told nodes
-    is_told = (settled.unfolded (refusal_none told.refusal none_told)).0
+    is_told : u ≡ nodes_told nodes
+    is_told = (settled.unfolded u told_is).0
 
     stand : PlacesStand lines zeros area
-    stand = places_stand w both.0 both.1 zeros area (settled.unfolded (refusal_none told.refusal none_told)).1
+    stand = places_stand w both.0 both.1 zeros area (settled.unfolded u told_is).1
 
     -- a cell of a table of nodes
     cell_of_lem : (f : Node → ℕ) (j : ℕ) (n : Node) → get_elem? nodes j ≡ some n → get_or (cells (map f nodes)) j 0 ≡ f n
@@ -136,47 +141,47 @@ module _ (w : Workload) (zeros : List ℕ) (size : length zeros ≡ 512) (told :
         ∙ element_default (map f nodes) j (get_elem?_map_some f nodes j e) 0
 
     all_told : (j : ℕ) (n : Node) → get_elem? nodes j ≡ some n
-        → Told lines nodes (begun_in (line_table lines)).firsts told.program told.length j n
+        → Told lines nodes (begun_in (line_table lines)).firsts u.program u.length j n
     unfolding nodes_told
     all_told j n e =
         let begins = node_begins both.0.text lines (given_read both.0) n (get_elem?_member nodes j e) in
         record {
-          program = ap (λ (u : Unfolded). get_or u.program j 0) is_told ∙ cell_of_lem (λ x. x.program) j n e;
-          places = ap (λ (u : Unfolded). get_or u.length j 0) is_told ∙ cell_of_lem (λ x. length x.places) j n e;
+          program = ap (λ (t : Unfolded). get_or t.program j 0) is_told ∙ cell_of_lem (λ x. x.program) j n e;
+          places = ap (λ (t : Unfolded). get_or t.length j 0) is_told ∙ cell_of_lem (λ x. length x.places) j n e;
           begins = begins;
         }
 
-    count_told : told.count ≡ length nodes
+    count_told : u.count ≡ length nodes
     unfolding nodes_told
-    count_told = ap (λ (u : Unfolded). u.count) is_told
+    count_told = ap (λ (t : Unfolded). t.count) is_told
 
-    pub total_told : total_of told.length told.count ≡ statements_in nodes
+    pub total_told : total_of u.length u.count ≡ statements_in nodes
     total_told =
-        ap (total_of told.length) count_told
+        ap (total_of u.length) count_told
         ∙ places_told both.0.text lines (given_read both.0) nodes stand.words (drop (length stand.words) zeros)
-        (begun_in (line_table lines)).firsts told.program told.length stand.fits all_told
+        (begun_in (line_table lines)).firsts u.program u.length stand.fits all_told
 
     abbrev firsts : List ℕ
     firsts = (begun_in (line_table lines)).firsts
 
     abbrev rows : List ℕ
-    rows = all_rows (line_table lines) firsts told.program told.length area told.count
+    rows = all_rows (line_table lines) firsts u.program u.length area u.count
 
     rows_same : rows ≡ table_of (rows_of nodes)
     rows_same =
         let rest = drop (length stand.words) zeros in
-        ap (λ (a : List ℕ). all_rows (line_table lines) firsts told.program told.length a told.count) stand.stands
-        ∙ ap (all_rows (line_table lines) firsts told.program told.length (stand.words ++ rest)) count_told
-        ∙ table_filled both.0.text lines (given_read both.0) nodes stand.words rest firsts told.program told.length
+        ap (λ (a : List ℕ). all_rows (line_table lines) firsts u.program u.length a u.count) stand.stands
+        ∙ ap (all_rows (line_table lines) firsts u.program u.length (stand.words ++ rest)) count_told
+        ∙ table_filled both.0.text lines (given_read both.0) nodes stand.words rest firsts u.program u.length
         stand.fits all_told
 
     -- the table is filled
-    pub filled_table : (r : Rows) (after : List ℕ)
-        → FilledBy (line_table lines) told.program told.length area told.count before r after → RowsSettled w before r after
+    pub filled_table : (r : Result Rows Fault) (after : List ℕ)
+        → FilledBy (line_table lines) u.program u.length area u.count before r after → RowsSettled w before r after
     unfolding rows_said rows_told put_at
     filled_table r after f =
         let total = total_told in
-        let size = all_length (line_table lines) firsts told.program told.length area told.count in
+        let size = all_length (line_table lines) firsts u.program u.length area u.count in
         let long : 0 + length rows ≡ 8 * statements_in nodes = omega arith in
         filled (taken both.0 both.1 refl)
         (ap rows_said f.tells ∙ rw (programs_counted lines, total, count_told) refl)
@@ -186,69 +191,72 @@ module _ (w : Workload) (zeros : List ℕ) (size : length zeros ≡ 512) (told :
 
 -- ---- over a table of lines
 
-module _ {lines places₀ table₀ : List ℕ} {told : Unfolded} {places : List ℕ} (unfolded : LinePlacesSettled lines places₀ told places)
+module _ {lines places₀ table₀ : List ℕ} {told : Result Unfolded Fault} {places : List ℕ} (unfolded : LinePlacesSettled lines places₀ told places)
     (size : length places₀ ≡ 512) (long : length places ≡ 512) where
   -- a refusal
-  lines_refused : (told.refusal ≡ 0 → ⊥) → LinesFilled lines places₀ table₀ (Refused told.refusal) places table₀
-  lines_refused other =
+  lines_refused : {fault : Fault} → told ≡ Err fault → LinesFilled lines places₀ table₀ (Err fault) places table₀
+  lines_refused {fault} e =
       record {
         told = told;
         tabled = unfolded.tabled;
         lent = long ∙ sym size;
-        refuses = λ _. (refl, refl);
-        fills = λ e. absurd (other e);
-        settled = λ ls e g. refused_number (value_of ls) places₀ size told places (unfolded.settled ls e g) table₀ other;
+        refuses = λ f is. let same : fault ≡ f = cc in (ap Err same, refl);
+        fills = λ u is. let never : ⊥ = cc in absurd never;
+        settled = λ ls t g. refused_rows (value_of ls) places₀ size places (unfolded.settled ls t g) table₀ e;
       }
 
   -- rows
-  lines_filled : told.refusal ≡ 0 → {r : Rows} {table' : List ℕ}
-      → FilledBy lines told.program told.length places told.count table₀ r table' → LinesFilled lines places₀ table₀ r places table'
-  lines_filled none_told {r} {table'} f =
+  lines_filled : {u : Unfolded} → told ≡ Ok u → {r : Result Rows Fault} {table' : List ℕ}
+      → FilledBy lines u.program u.length places u.count table₀ r table' → LinesFilled lines places₀ table₀ r places table'
+  lines_filled {u} e {r} {table'} f =
       record {
         told = told;
         tabled = unfolded.tabled;
         lent = long ∙ sym size;
-        refuses = λ other. absurd (other none_told);
-        fills = λ _. f;
+        refuses = λ fault is. let never : ⊥ = cc in absurd never;
+        fills = λ v is. let same : u ≡ v = cc in
+            subst (λ (x : Unfolded). FilledBy lines x.program x.length places x.count table₀ r table') same f;
         settled =
-            λ ls e g. filled_table (value_of ls) places₀ size told places (unfolded.settled ls e g) table₀ none_told r table'
-            (subst (λ (l : List ℕ). FilledBy l told.program told.length places told.count table₀ r table')
-            (e ∙ ap line_table (sym (lines_of_value ls))) f);
+            λ ls t g. filled_table (value_of ls) places₀ size places (unfolded.settled ls t g) table₀ u e r table'
+            (subst (λ (l : List ℕ). FilledBy l u.program u.length places u.count table₀ r table')
+            (t ∙ ap line_table (sym (lines_of_value ls))) f);
       }
 
 -- the same where what is told of the unfoldings stands in cells that held zeros
-module _ {lines places₀ : List ℕ} {r : ToldCount} {programs starts lengths places : List ℕ}
-    (i : Into (λ u. LinePlacesSettled lines places₀ u places) (replicate 64 0) (replicate 64 0) (replicate 64 0) r programs starts lengths)
-  where
-    same : (programs ≡ i.unfolded.program) × (starts ≡ i.unfolded.start) × (lengths ≡ i.unfolded.length)
-    same = into_cells i i.settles.tabled
+abbrev pub Unfolds : List ℕ → List ℕ → Result ℕ Fault → List ℕ → List ℕ → List ℕ → List ℕ → Type 0
+Unfolds lines places₀ r programs starts lengths places =
+    Into (λ u. LinePlacesSettled lines places₀ u places) (replicate 64 0) (replicate 64 0) (replicate 64 0) r programs starts lengths
 
-    pub told_programs : 64 ≡ length programs
-    told_programs = sym i.program_cells
+module _ (lines places₀ programs starts lengths places : List ℕ) (size : length places₀ ≡ 512) (long : length places ≡ 512) where
+  pub told_refused : {fault : Fault} {table₀ : List ℕ} → Unfolds lines places₀ (Err fault) programs starts lengths places
+      → LinesFilled lines places₀ table₀ (Err fault) places table₀
+  told_refused {fault} (into_none f settles is kept) = let same : Err f ≡ Err fault = cc in lines_refused settles size long same
+  told_refused (into_cells u settles is held) = let never : ⊥ = cc in absurd never
 
-    pub told_lengths : 64 ≡ length lengths
-    told_lengths = sym i.length_cells
+  pub told_few : {n : ℕ} → Unfolds lines places₀ (Ok n) programs starts lengths places → total_of lengths n ≤ 512
+  told_few (into_none f settles is kept) = let never : ⊥ = cc in absurd never
+  told_few {n} (into_cells u settles is held) =
+      let same = cells_whole held settles.tabled in
+      let many : n ≡ u.count = cc in
+      rw (same.2, many) (places_told_few settles.tabled size long)
 
-    pub told_few : length places₀ ≡ 512 → length places ≡ 512 → r.refusal ≡ 0 → total_of lengths r.count ≤ 512
-    told_few size long none = rw (same.2, i.count) (places_told_few i.settles.tabled size long (sym i.refusal ∙ none))
-
-    pub told_refused : {table₀ : List ℕ} → length places₀ ≡ 512 → length places ≡ 512 → (r.refusal ≡ 0 → ⊥)
-        → LinesFilled lines places₀ table₀ (Refused r.refusal) places table₀
-    told_refused size long other = rw i.refusal (lines_refused i.settles size long (λ z. other (i.refusal ∙ z)))
-
-    pub told_filled : {table₀ : List ℕ} → length places₀ ≡ 512 → length places ≡ 512 → r.refusal ≡ 0 → {rows : Rows} {table' : List ℕ}
-        → FilledBy lines programs lengths places r.count table₀ rows table' → LinesFilled lines places₀ table₀ rows places table'
-    told_filled size long none f = lines_filled i.settles size long (sym i.refusal ∙ none) (rw (same.0, same.2, i.count) at f)
+  pub told_filled : {n : ℕ} {table₀ : List ℕ} → Unfolds lines places₀ (Ok n) programs starts lengths places → {rows : Result Rows Fault}
+      {table' : List ℕ} → FilledBy lines programs lengths places n table₀ rows table' → LinesFilled lines places₀ table₀ rows places table'
+  told_filled (into_none f settles is kept) fills = let never : ⊥ = cc in absurd never
+  told_filled {n} (into_cells u settles is held) fills =
+      let same = cells_whole held settles.tabled in
+      let many : n ≡ u.count = cc in
+      lines_filled settles size long refl (rw (same.0, same.2, many) at fills)
 
 -- ---- of a value
 
 -- S21
-pub rows_not_given : {w : Workload} {before : List ℕ} → (Given w → ⊥) → RowsSettled w before (Refused 21) before
+pub rows_not_given : {w : Workload} {before : List ℕ} → (Given w → ⊥) → RowsSettled w before (Err NotGiven) before
 unfolding rows_said
 rows_not_given never = refused 21 (not_given never) refl refl
 
 -- a given value's lines stand in its table of lines
-pub rows_given : {w : Workload} → Given w → {lines places₀ table₀ : List ℕ} {r : Rows} {places table : List ℕ} → lines ≡ line_table (lines_of w)
+pub rows_given : {w : Workload} → Given w → {lines places₀ table₀ : List ℕ} {r : Result Rows Fault} {places table : List ℕ} → lines ≡ line_table (lines_of w)
     → LinesFilled lines places₀ table₀ r places table → RowsSettled w table₀ r table
 rows_given {w} g {table₀ = table₀} {r} {table = table} e f =
     let same = given_value g in

@@ -11,7 +11,6 @@ use lib.ListN.{length, get_or, drop, drop_of_length-le}
 use lib.Seq.{drop-cons}
 use borrow.Author.Tests.{eq-eqb, ne_eqb, ltb-false}
 use Rattle.spec_base.specs.Basic.{any, has}
-use Rattle.law_base.specs.BoolLaws.{and_right}
 use Rattle.law_base.specs.SetLaws.{has_empty, has_bit_or, has_bit}
 use Rattle.spec_text.specs.declared.Line.{Line}
 use Rattle.spec_text.specs.declared.LineKind.{LineKind}

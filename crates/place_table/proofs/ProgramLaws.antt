@@ -1,7 +1,7 @@
 -- The programs of the lines: how many, where the lines and links of each begin, and which of its statements are marked.
 use mathlib.Core.Bool.{Bool, true, false, cond, ◌&&◌, ◌||◌}
 use mathlib.Core.List.{List, [], ◌∷◌, ◌++◌, append-nil, Memᴰ}
-use mathlib.Core.Logic.{◌⊎◌, inl, inr, ⊎_elim}
+use mathlib.Core.Logic.{◌⊎◌, inl, inr}
 use mathlib.Core.Option.{some}
 use mathlib.Core.Path.{◌≡◌, refl, sym, ap, subst, ◌∙◌}
 use Prim.Native.Nat.{ℕ, zero, suc, ◌+◌, ◌/◌, ◌≤◌, ◌<◌}
@@ -14,7 +14,7 @@ use lib.ListN.{length, get_or, get_elem?, set, take, drop, length-append, length
 use lib.Seq.{take_all, append_snoc, get_or-append_seam, get_or-set_same, get_or-set_other, drop_at}
 use borrow.Author.Tests.{ne_eqb}
 use Rattle.spec_base.specs.Basic.{any, count, has}
-use Rattle.law_base.specs.ListLaws.{some_injective, get_elem?_found, get_elem?_lt, map_member}
+use Rattle.law_base.specs.ListLaws.{some_injective, get_elem?_found, get_elem?_lt}
 use Rattle.spec_text.specs.declared.Line.{Line}
 use Rattle.spec_text.specs.declared.LineKind.{LineKind}
 use Rattle.spec_text.specs.declared.LineKind.TheVariants.{Pr}
@@ -24,7 +24,7 @@ use Rattle.spec_text.specs.Reading.Outcome.{accepted}
 use Rattle.law_text.specs.ReadingLaws.{line_passes}
 use Rattle.law_text.specs.LineCountLaws.{bounded_true}
 use Rattle.spec_graph.specs.Program.{Program, Link, run_of, links_of, programs_of}
-use Rattle.spec_graph.specs.Unfolding.{Node, Occurrence, Execution, occurrences, unfoldings, nodes_of_program, nodes_from, nodes_of}
+use Rattle.spec_graph.specs.Unfolding.{Node, Occurrence, Execution, occurrences, nodes_of}
 use Rattle.spec_graph.specs.Edge.{shields}
 use Rattle.node_laws.specs.Bodies.{body_of}
 use Rattle.node_laws.specs.LineCases.{LineCase, line_case, link_program, no_program, programs_here, programs_later}

@@ -1,13 +1,13 @@
 -- The table of rows as the code makes it, word by word: steps towards the promise of specs/Rows.
-use Rattle.std.specs.Prelude.{List, [], ◌∷◌, ◌++◌, ◌≡◌, ℕ, zero, suc, ◌+◌, ◌*◌, get_or}
+use Rattle.std.specs.Prelude.{List, [], ◌∷◌, ◌++◌, ◌≡◌, ℕ, zero, suc, ◌+◌, ◌*◌, get_or, Result, Ok}
 use Rattle.unfold_laws.specs.WordCode.{line_in, seen_in}
 use Rattle.word_rows.specs.Put.{put_at}
 use Rattle.place_links.specs.declared.Links.{Links}
 use Rattle.place_programs.specs.LinePrograms.{begun_in}
 use Rattle.place_links.specs.LineLinks.{links_in}
 use Rattle.place_keys.specs.LineKeys.{place_keys}
+use Rattle.refusal.specs.declared.Fault.{Fault}
 use Rattle.place_table.specs.declared.Rows.{Rows}
-use Rattle.place_table.specs.declared.Rows.TheVariants.{Filled}
 
 -- ---- rows
 
@@ -45,8 +45,8 @@ all_rows lines firsts programs lengths words (suc j) =
 -- ---- all of it
 
 unfoldable pub rows_told : List ℕ → List ℕ → ℕ → Rows
-rows_told lines lengths n = Filled (begun_in lines).programs n (total_of lengths n)
+rows_told lines lengths n = record { programs = (begun_in lines).programs; nodes = n; places = total_of lengths n }
 
-pub record FilledBy (lines programs lengths words : List ℕ) (n : ℕ) (before : List ℕ) (r : Rows) (after : List ℕ) : Type 0 where
-  pub tells : r ≡ rows_told lines lengths n
+pub record FilledBy (lines programs lengths words : List ℕ) (n : ℕ) (before : List ℕ) (r : Result Rows Fault) (after : List ℕ) : Type 0 where
+  pub tells : r ≡ Ok (rows_told lines lengths n)
   pub stands : after ≡ put_at before 0 (all_rows lines (begun_in lines).firsts programs lengths words n)

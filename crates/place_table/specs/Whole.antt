@@ -1,5 +1,5 @@
 -- What a table's answer is worth: a refusal stands for every other area too, and what is filled is whole.
-use Rattle.std.specs.Prelude.{Bool, false}
+use Rattle.std.specs.Prelude.{Bool, false, Result, Ok, Err}
 use mathlib.Core.List.{List}
 use Rattle.std.proofs.Math.Option.{Option, some}
 use Rattle.std.proofs.Math.Path.{◌≡◌, refl, ap, ap₂}
@@ -19,8 +19,9 @@ use Rattle.place_row.specs.RowTable.{rows_of, table_of}
 use Rattle.place_row.specs.RowTableLaws.{table_of_length}
 use Rattle.edge_count.specs.Slots.{table_edges}
 use Rattle.place_laws.specs.Placed.{rows_of_length, given_edges}
+use Rattle.refusal.specs.declared.Fault.{Fault}
+use Rattle.refusal.specs.Numbers.{number_of}
 use Rattle.place_table.specs.declared.Rows.{Rows}
-use Rattle.place_table.specs.declared.Rows.TheVariants.{Refused, Filled}
 use Rattle.place_table.specs.Rows.{rows_said, RowsSettled}
 use Rattle.place_table.specs.Rows.RowsSettled.{refused, filled}
 use Rattle.spec_report.specs.Refusals.{not_both, places_few, taken_given, other_area}
@@ -48,30 +49,30 @@ number_some {n = n} e (too_many g t) z = let m : n ≡ 22 = cc in omega arith
 number_some {n = n} e (too_short g t s) z = let m : n ≡ 20 = cc in omega arith
 number_some {n = n} e (taken g t s) z = not_both e refl
 
-module _ {w : Workload} {before : List ℕ} {r : Rows} {after : List ℕ} where
+module _ {w : Workload} {before : List ℕ} {r : Result Rows Fault} {after : List ℕ} where
   -- a refusal is one of the value, so it stands for every other area too
-  pub whole_refused : {n : ℕ} (short : Bool) → RowsSettled w before r after → r ≡ Refused n → StateRefusal w short (some n)
+  pub whole_refused : {fault : Fault} (short : Bool) → RowsSettled w before r after → r ≡ Err fault
+      → StateRefusal w short (some (number_of fault))
   unfolding rows_said
-  whole_refused {n} short (refused m refusal said same) e =
-      let number : n ≡ m = cc in
+  whole_refused {fault} short (refused m refusal said same) e =
+      let number : number_of fault ≡ m = cc in
       rw number (other_area (λ _. refl) short refl refusal)
   whole_refused short (filled refusal said same) e = absurd (let z : ◌≡◌ {A = ℕ} 0 1 = cc in omega arith)
 
-  pub whole_filled : {programs nodes places : ℕ} → RowsSettled w before r after → r ≡ Filled programs nodes places
-      → Whole w programs nodes places after
+  pub whole_filled : {rows : Rows} → RowsSettled w before r after → r ≡ Ok rows → Whole w rows.programs rows.nodes rows.places after
   unfolding rows_said
   whole_filled (refused m refusal said same) e = absurd (let z : ◌≡◌ {A = ℕ} 0 1 = cc in omega arith)
-  whole_filled {programs} {nodes} {places} (filled refusal said same) e =
+  whole_filled {rows} (filled refusal said same) e =
       let ok = taken_given refusal refl in
       let table = table_of (rows_of (nodes_of (lines_of w))) in
       let rest = drop (8 * statements_in (nodes_of (lines_of w))) before in
       let a = table_of_length (rows_of (nodes_of (lines_of w))) in
       let b = rows_of_length (nodes_of (lines_of w)) in
-      let told : ◌≡◌ {A = ℕ × ℕ × ℕ} (programs, nodes, places)
+      let told : ◌≡◌ {A = ℕ × ℕ × ℕ} (rows.programs, rows.nodes, rows.places)
       (length (programs_of (lines_of w)), length (nodes_of (lines_of w)), statements_in (nodes_of (lines_of w))) = cc in
       let c = ap (λ (t : ℕ × ℕ × ℕ). t.2) told in
       let most = places_few w ok.1 in
-      let n : places * 8 ≡ length table = omega arith in
+      let n : rows.places * 8 ≡ length table = omega arith in
       let long = ap length same ∙ length-append table rest in
       record {
         given = ok.0;

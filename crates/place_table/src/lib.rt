@@ -1,7 +1,7 @@
 // The table of the places of a workload: one row of eight words for each place of each node.
 #![tactic(auto)]
 
-ghost use Rattle.std.specs.Prelude.{◌≡◌, ◌+◌, ◌*◌, ◌≤◌, length, get_or};
+ghost use Rattle.std.specs.Prelude.{◌≡◌, ◌+◌, ◌*◌, ◌≤◌, length, get_or, Ok};
 ghost use Rattle.word_rows.specs.Put.{put_at};
 ghost use Rattle.place_table.specs.RowWords.{row_words, node_rows, total_of, all_rows, FilledBy};
 ghost use Rattle.place_table.specs.Rows.{RowsSettled};
@@ -11,6 +11,7 @@ use place_keys::keys_from;
 use place_links::{Links, links_from};
 use place_programs::programs_in;
 use place_row::{ROW_WORDS, ROWS, TABLE_WORDS};
+use refusal::Fault;
 use spec_text::Workload;
 use unfold::unfold_into;
 use unfold_laws::{UNFOLDINGS, WORD_LINES};
@@ -20,15 +21,12 @@ use value_tables::{ID, LINE_WORDS, READS, REL, TESTS, WRITES};
 use word_list::word_at;
 use word_rows::put_row;
 
-// The answer: the number of the refusal, or how many programs, nodes and places there are.
-#[derive(Clone, Copy)]
-pub enum Rows {
-    Refused(u8),
-    Filled {
-        programs: u64,
-        nodes: u64,
-        places: u64,
-    },
+// How many programs, nodes and places the rows that are filled are of.
+#[derive(Clone, Copy, Debug, PartialEq, Eq)]
+pub struct Rows {
+    pub programs: u64,
+    pub nodes: u64,
+    pub places: u64,
 }
 
 fn byte_at(bytes: &[u8], i: usize) -> u8
@@ -144,12 +142,12 @@ fn fill_table(
     table: &mut [u64],
 ) -> Rows
     requires { total_of lengths.now nodes * 8 ≤ length table.old }
-    ensures { FilledBy lines.now programs.now lengths.now words.now nodes table.old result
+    ensures { FilledBy lines.now programs.now lengths.now words.now nodes table.old (Ok result)
         table.new }
 {
     let b = programs_in(lines);
     let places = put_nodes(lines, &b.firsts, programs, lengths, words, nodes, table);
-    Rows::Filled {
+    Rows {
         programs: b.programs as u64,
         nodes: nodes as u64,
         places: places as u64,
@@ -158,27 +156,27 @@ fn fill_table(
 
 // The rows of all places of the lines in a table of lines (value_tables) into the lent table, eight words a place; a refusal leaves the table as it
 // is. A table has room for all lines that are not refused: it cannot be too short. The words of the places are put into `places`.
-pub fn fill_lines(lines: &[u64], places: &mut [u64; ROWS], table: &mut [u64; TABLE_WORDS]) -> Rows
+pub fn fill_lines(
+    lines: &[u64],
+    places: &mut [u64; ROWS],
+    table: &mut [u64; TABLE_WORDS],
+) -> Result<Rows, Fault>
     ensures { LinesFilled lines.now places.old table.old result places.new table.new }
 {
     let mut programs = [0u8; UNFOLDINGS];
     let mut starts = [0u64; UNFOLDINGS];
     let mut lengths = [0u64; UNFOLDINGS];
-    let told = unfold_into(lines, &mut programs, &mut starts, &mut lengths, places);
-    let number = told.refusal;
-    if number != 0 {
-        return Rows::Refused(number);
-    }
-    let nodes = told.count as usize;
-    fill_table(lines, nodes, &programs, &lengths, places, table)
+    let count = unfold_into(lines, &mut programs, &mut starts, &mut lengths, places)?;
+    let nodes = count as usize;
+    Ok(fill_table(lines, nodes, &programs, &lengths, places, table))
 }
 
 // The rows of all places of a workload value into the lent table; a refusal leaves the table as it is.
-pub fn fill_rows(w: Workload, table: &mut [u64; TABLE_WORDS]) -> Rows
+pub fn fill_rows(w: Workload, table: &mut [u64; TABLE_WORDS]) -> Result<Rows, Fault>
     ensures { RowsSettled w table.old result table.new }
 {
     if !is_given(w) {
-        return Rows::Refused(21);
+        return Err(Fault::NotGiven);
     }
     let n = w.count * LINE_WORDS;
     let lines = line_table(w);

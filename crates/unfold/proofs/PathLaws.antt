@@ -8,7 +8,7 @@ use borrow.Author.Tests.{lt-ltb, le-ltb, eq-eqb, ne_eqb, le-leb, lt-leb}
 use Rattle.unfold_laws.specs.declared.Counted.{Counted}
 use Rattle.unfold_laws.specs.Codes.{after, loop_counted, branch_counted, item_at, count_at}
 use Rattle.unfold_laws.specs.CodesLaws.{item_loop, item_branch}
-use Rattle.unfold_laws.specs.Writing.{write_loop, write_branch, write_block}
+use Rattle.unfold_laws.specs.Writing.{write_loop, write_branch}
 use Rattle.unfold_laws.specs.WritingLaws.{write_loop_lem, write_branch_lem}
 use Rattle.unfold_count.specs.Counted.{RunCounted}
 use Rattle.unfold_count.specs.CountWords.{Held, Looked}

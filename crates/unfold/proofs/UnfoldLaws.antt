@@ -7,6 +7,8 @@ use native.Mathlib.Omega.{arith}
 use lib.ListN.{length, take, length-map}
 use lib.Dec.{ltb}
 use borrow.Author.Tests.{ltb-false}
+use Rattle.std.specs.Prelude.{Ok, Err, Some, None}
+use Rattle.refusal.specs.declared.Fault.{Fault}
 use Rattle.unfold_laws.specs.declared.UnfoldingTotals.{UnfoldingTotals}
 use Rattle.unfold_laws.specs.Pieces.{totals_before}
 use Rattle.unfold_bounds.specs.Refused.{many_in, refused_by, refused_cases, passed}
@@ -14,10 +16,10 @@ use Rattle.unfold.specs.PieceTable.{UnfoldingTable, Wide, table_none, starts, ta
 use Rattle.unfold.specs.PieceTableLaws.{wide_all, length_starts, from_nothing}
 use Rattle.unfold.specs.IntoLaws.{cells_first}
 use Rattle.unfold.specs.UnfoldInto.{Into}
-use Rattle.unfold.specs.declared.Unfolded.{Unfolded}
+use Rattle.unfold.specs.UnfoldInto.Into.{into_none, into_cells}
 use Rattle.unfold_count.specs.Counted.{Totalled, AllCounted}
 use Rattle.unfold.specs.Written.{AllFit, AllTold}
-use Rattle.unfold.specs.UnfoldTold.{cells, refused_with}
+use Rattle.unfold.specs.UnfoldTold.{cells}
 use Rattle.unfold.specs.UnfoldSteps.{table_told, over_many, is_too_short, pieces_over, Ready, Tabled}
 
 module _ (codes words marks before : List ℕ) (t : UnfoldingTotals) (all : AllCounted codes t) where
@@ -37,38 +39,23 @@ module _ (codes words marks before : List ℕ) (t : UnfoldingTotals) (all : AllC
       ≡ cond (over_many codes) x (cond (is_too_short codes (length before)) y z)
   cases x y z = ap₂ (λ (a b : Bool). cond a x (cond b y z)) many (short (length before))
 
-  refused_told : (number : ℕ) (r : Unfolded) → number ≡ refused_by t (length before) → (number ≡ 0 → ⊥) → r ≡ refused_with number
-      → Tabled codes words marks before r before
-  refused_told number r e some d =
-      let not_none : refused_by t (length before) ≡ 0 → ⊥ = λ z. some (e ∙ z) in
-      record {
-        tells = d ∙ ap refused_with e ∙ refused_cases t (length before) refused_with _ not_none ∙ cases _ _ _;
-        stands = refused_cases t (length before) (λ (n : ℕ). before) _ not_none ∙ cases _ _ _;
-      }
+  pub into_refused : (program start lengths : List ℕ) (fault : Fault) → refused_by t (length before) ≡ Some fault
+      → Into (λ u. Tabled codes words marks before u before) program start lengths (Err fault) program start lengths
+  into_refused program start lengths fault e =
+      into_none fault
+      (record {
+        tells = refused_cases t (length before) (λ (f : Fault). Err f) _ fault e ∙ cases _ _ _;
+        stands = refused_cases t (length before) (λ (f : Fault). before) _ fault e ∙ cases _ _ _;
+      })
+      refl
+      (refl, refl, refl)
 
-  pub into_refused : (program start lengths : List ℕ) (number : ℕ) → number ≡ refused_by t (length before) → (number ≡ 0 → ⊥)
-      → Into (λ u. Tabled codes words marks before u before) program start lengths (record { refusal = number; count = 0 }) program start lengths
-  unfolding refused_with over
-  into_refused program start lengths number e some =
-      record {
-        unfolded = refused_with number;
-        settles = refused_told number (refused_with number) e some refl;
-        refusal = refl;
-        count = refl;
-        programs = refl;
-        starts = refl;
-        lengths = refl;
-        program_cells = refl;
-        start_cells = refl;
-        length_cells = refl;
-      }
-
-  module _ (number : ℕ) (e : number ≡ refused_by t (length before)) (none : number ≡ 0) where
+  module _ (none : refused_by t (length before) ≡ None) where
     under : over_many codes ≡ false
-    under = sym many ∙ (passed t (length before) (sym e ∙ none)).few
+    under = sym many ∙ (passed t (length before) none).few
 
     long : is_too_short codes (length before) ≡ false
-    long = sym (short (length before)) ∙ (passed t (length before) (sym e ∙ none)).room_left
+    long = sym (short (length before)) ∙ (passed t (length before) none).room_left
 
     module _ (ready : Ready codes words marks) where
       pub all_fit : AllFit (pieces_over codes words marks) before
@@ -81,15 +68,13 @@ module _ (codes words marks before : List ℕ) (t : UnfoldingTotals) (all : AllC
 
       pub into_told : (program start lengths : List ℕ) → Wide (table_none program start lengths) → (r : UnfoldingTable) (area : List ℕ)
           → AllTold (pieces_over codes words marks) (table_none program start lengths) before r area
-          → Into (λ u. Tabled codes words marks before u area) program start lengths (record { refusal = 0; count = r.count })
-          r.program r.start r.lengths
+          → Into (λ u. Tabled codes words marks before u area) program start lengths (Ok r.count) r.program r.start r.lengths
       unfolding table_told table_over table
       into_told program start lengths wide r area told =
-          record {
-            unfolded = table_told (table (pieces_over codes words marks));
-            settles = record { tells = sym (rw (under, long)); stands = told.stands.stands ∙ rw (under, long) };
-            refusal = refl;
-            count = ap (λ (x : UnfoldingTable). x.count) filled;
+          into_cells (table_told (table (pieces_over codes words marks)))
+          (record { tells = sym (rw (under, long)); stands = told.stands.stands ∙ rw (under, long) })
+          (ap (λ (x : UnfoldingTable). Ok x.count) filled)
+          (record {
             programs = ap (λ (x : UnfoldingTable). x.program) filled ∙ ap (λ (l : List ℕ). over l program) (first (map (λ p. p.program)
                 (pieces_over codes words marks)) (length-map (pieces_over codes words marks) _));
             starts = ap (λ (x : UnfoldingTable). x.start) filled ∙ ap (λ (l : List ℕ). over l start) (first (starts 0
@@ -100,7 +85,7 @@ module _ (codes words marks before : List ℕ) (t : UnfoldingTotals) (all : AllC
             program_cells = wide_told.programs ∙ sym wide.programs;
             start_cells = wide_told.starts ∙ sym wide.starts;
             length_cells = wide_told.lengths ∙ sym wide.lengths;
-          }
+          })
         where
           wide_told : Wide r
           wide_told = rw told.tells (wide_all (table_none program start lengths) (pieces_over codes words marks) wide)
@@ -108,5 +93,5 @@ module _ (codes words marks before : List ℕ) (t : UnfoldingTotals) (all : AllC
           filled : r ≡ table_over (table_none program start lengths) (pieces_over codes words marks)
           filled = told.tells ∙ from_nothing (table_none program start lengths) wide refl refl (pieces_over codes words marks) (ready.few under)
 
-          first : (l : List ℕ) → length l ≡ length (pieces_over codes words marks) → l ≡ take r.count (cells l)
-          first l e = sym (cells_first l r.count (e ∙ sym (ap (λ (x : UnfoldingTable). x.count) filled)))
+          first : (l : List ℕ) → length l ≡ length (pieces_over codes words marks) → l ≡ take (length (pieces_over codes words marks)) (cells l)
+          first l e = sym (cells_first l (length (pieces_over codes words marks)) e)

@@ -1,9 +1,9 @@
 -- What is written over the tables of a given workload value settles the open functions' promises.
 use mathlib.Core.Bool.{Bool, true, false}
 use mathlib.Core.List.{List, [], ◌∷◌, ◌++◌}
-use mathlib.Core.Option.{Option, none, some}
+use mathlib.Core.Option.{none, some}
 use mathlib.Core.Path.{◌≡◌, refl, sym, ap, ◌∙◌}
-use Prim.Native.Nat.{ℕ, suc, ◌+◌, ◌%◌, ◌≤◌}
+use Prim.Native.Nat.{ℕ, ◌+◌, ◌%◌, ◌≤◌}
 use native.Mathlib.Omega.{arith}
 use lib.ListN.{length, get_or, drop, replicate, length-take}
 use Rattle.spec_base.specs.Basic.{numbers}
@@ -14,7 +14,7 @@ use Rattle.spec_text.specs.Value.{Given, lines_of, value_of}
 use Rattle.law_text.specs.ValueLaws.{given_read, given_fits, lines_of_value}
 use Rattle.spec_graph.specs.Program.{Statement, statement_of}
 use Rattle.spec_graph.specs.Unfolding.{Node, nodes_of}
-use Rattle.spec_report.specs.State.{StateRefusal, statements_in, is_too_many, short_for_unfoldings, refusal_of}
+use Rattle.spec_report.specs.State.{StateRefusal, statements_in, is_too_many, short_for_unfoldings}
 use Rattle.spec_report.specs.State.StateRefusal.{not_given, too_many, too_short, taken}
 use Rattle.unfold_laws.specs.Cap.{cap}
 use Rattle.unfold_laws.specs.Codes.{codes_of}
@@ -26,54 +26,53 @@ use Rattle.unfold_laws.specs.PiecesLaws.{PiecesFor, AlongPrograms, length_words,
 use Rattle.unfold_laws.specs.PiecesLaws.{length_pieces, flat_length, piece_programs, piece_lengths}
 use Rattle.unfold_laws.specs.Along.{OwnHere}
 use Rattle.unfold_laws.specs.Places.{place_words}
-use Rattle.unfold_laws.specs.PlacesLaws.{IdWord, no_mark, AnyLines, any_along, id_tables, id_words, OwnWord, own_tables, flat_own}
-use Rattle.unfold.specs.declared.Told.{Told}
+use Rattle.unfold_laws.specs.PlacesLaws.{IdWord, no_mark, AnyLines, any_along, id_words, OwnWord, own_tables, flat_own}
 use Rattle.unfold.specs.declared.Unfolded.{Unfolded}
-use Rattle.unfold.specs.UnfoldTold.{refused_with, place_ids, ids_in, starts_in, nodes_told}
+use Rattle.unfold.specs.UnfoldTold.{place_ids, ids_in, starts_in, nodes_told}
 use Rattle.unfold.specs.PieceTable.{starts, table}
-use Rattle.unfold.specs.UnfoldSteps.{table_told, over_many, is_too_short, pieces_over, Ready, Tabled}
+use Rattle.unfold.specs.UnfoldSteps.{table_told, over_many, is_too_short, pieces_over, Ready, Tabled, ValueTabled}
+use Rattle.unfold.specs.UnfoldSteps.ValueTabled.{value_refused, value_tabled}
 use Rattle.unfold.specs.UnfoldSettled.{Settled, PlacesSettled}
 use Rattle.unfold.specs.OwnLaws.{own_along}
 use Rattle.unfold.specs.Stand.{few_nodes}
 use Rattle.unfold.specs.LineWords.{words_by, marks_by}
 use Rattle.unfold.specs.UnfoldLines.{LinesSettled, LinePlacesSettled, LastSettled}
+use Rattle.std.specs.Prelude.{Result, Ok, Err}
+use Rattle.refusal.specs.declared.Fault.{Fault}
+use Rattle.refusal.specs.declared.Fault.TheVariants.{Area, NotGiven, Unfoldings}
+use Rattle.refusal.specs.Numbers.{number_of}
+use Rattle.refusal.specs.Refusing.{refusal_in}
 use Rattle.unfold.specs.UnfoldInto.{Into}
-use Rattle.unfold.specs.IntoLaws.{into_cells}
+use Rattle.unfold.specs.IntoLaws.{into_value, into_refusal}
 use Rattle.node_laws.specs.GivenNodes.{accepted_lines}
 use Rattle.value_tables.specs.Lines.{line_table, lines_in, table_codes, table_ids, table_marks}
 use Rattle.value_tables.specs.TableLaws.{lines_many, table_codes_lem, table_marks_lem, id_told, some_lines, some_codes, some_ids}
 use Rattle.value_tables.proofs.CellLaws.{number_at}
 
 -- the promise, whatever stands in the area where nothing is refused
-record SettledAs (Full : List ℕ → Type 0) (w : Workload) (before : List ℕ) (r : Unfolded) (area : List ℕ) : Type 0 where
-  refusal : StateRefusal w (short_for_unfoldings (lines_of w) (length before)) (refusal_of r.refusal)
-  refused : (n : ℕ) → refusal_of r.refusal ≡ some n → (r ≡ refused_with n) × (area ≡ before)
-  unfolded : refusal_of r.refusal ≡ none → (r ≡ nodes_told (nodes_of (lines_of w))) × Full area
-
--- the same number
-same_some : (m n : ℕ) → ◌≡◌ {A = Option ℕ} (some m) (some n) → refused_with m ≡ refused_with n
-same_some m n e = let d : m ≡ n = cc in ap refused_with d
+record SettledAs (Full : List ℕ → Type 0) (w : Workload) (before : List ℕ) (r : Result Unfolded Fault) (area : List ℕ) : Type 0 where
+  refusal : StateRefusal w (short_for_unfoldings (lines_of w) (length before)) (refusal_in r)
+  refused : (f : Fault) → r ≡ Err f → area ≡ before
+  unfolded : (u : Unfolded) → r ≡ Ok u → (u ≡ nodes_told (nodes_of (lines_of w))) × Full area
 
 module _ (Full : List ℕ → Type 0) (w : Workload) (before : List ℕ) where
-  settled_refused : (r : Unfolded) (area : List ℕ) (n : ℕ)
-      → StateRefusal w (short_for_unfoldings (lines_of w) (length before)) (some (suc n)) → r ≡ refused_with (suc n) → area ≡ before
+  settled_refused : (r : Result Unfolded Fault) (area : List ℕ) (f : Fault)
+      → StateRefusal w (short_for_unfoldings (lines_of w) (length before)) (some (number_of f)) → r ≡ Err f → area ≡ before
       → SettledAs Full w before r area
-  unfolding refused_with refusal_of
-  settled_refused r area n h e d =
+  settled_refused r area f h e d =
       rw (e, d) (record {
         refusal = h;
-        refused = λ m p. (same_some (suc n) m p, refl);
-        unfolded = λ p. let z : ◌≡◌ {A = ℕ} 0 1 = cc in absurd (omega arith);
+        refused = λ g p. refl;
+        unfolded = λ u p. let never : ⊥ = cc in absurd never;
       })
 
-  settled_taken : (r : Unfolded) (area : List ℕ) → StateRefusal w (short_for_unfoldings (lines_of w) (length before)) none
-      → r ≡ nodes_told (nodes_of (lines_of w)) → Full area → SettledAs Full w before r area
-  unfolding nodes_told refusal_of
-  settled_taken r area h e f =
+  settled_taken : (r : Result Unfolded Fault) (area : List ℕ) → StateRefusal w (short_for_unfoldings (lines_of w) (length before)) none
+      → r ≡ Ok (nodes_told (nodes_of (lines_of w))) → Full area → SettledAs Full w before r area
+  settled_taken r area h e full =
       rw e (record {
         refusal = h;
-        refused = λ m p. let z : ◌≡◌ {A = ℕ} 0 1 = cc in absurd (omega arith);
-        unfolded = λ p. (refl, f);
+        refused = λ g p. let never : ⊥ = cc in absurd never;
+        unfolded = λ u p. let same : u ≡ nodes_told (nodes_of (lines_of w)) = cc in (same, full);
       })
 
 -- where each piece starts, and the table of the nodes' pieces
@@ -128,7 +127,7 @@ module _ (P : ℕ → List Line → Type 0) (Word : ℕ → Statement → ℕ �
     (before : List ℕ) (Full : List ℕ → Type 0)
     (full : (pieces : List Piece) → PiecesFor Word mark (nodes_of (lines_of w)) pieces → Full
     (flat pieces ++ drop (length (flat pieces)) before)) where
-  settled_tables : (r : Unfolded) (area : List ℕ) → Tabled (codes_of (lines_of w)) words marks before r area → SettledAs Full w before r area
+  settled_tables : (r : Result Unfolded Fault) (area : List ℕ) → Tabled (codes_of (lines_of w)) words marks before r area → SettledAs Full w before r area
   unfolding is_too_short short_for_unfoldings
   settled_tables r area u = go (is_too_many (lines_of w)) refl (short_for_unfoldings (lines_of w) (length before)) refl
     where
@@ -142,26 +141,26 @@ module _ (P : ℕ → List Line → Type 0) (Word : ℕ → Statement → ℕ �
       short h = rw (exact_statements (lines_of w) h)
 
       go : (a : Bool) → is_too_many (lines_of w) ≡ a → (b : Bool) → short_for_unfoldings (lines_of w) (length before) ≡ b → SettledAs Full w before r area
-      go true p b q = settled_refused Full w before r area 21 (too_many g p) (u.tells ∙ rw (over, p)) (u.stands ∙ rw (over, p))
+      go true p b q = settled_refused Full w before r area Unfoldings (too_many g p) (u.tells ∙ rw (over, p)) (u.stands ∙ rw (over, p))
       go false p true q =
-          settled_refused Full w before r area 19 (too_short g p q) (u.tells ∙ rw (over, p, short p, q)) (u.stands ∙ rw (over, p, short p, q))
+          settled_refused Full w before r area Area (too_short g p q) (u.tells ∙ rw (over, p, short p, q)) (u.stands ∙ rw (over, p, short p, q))
       go false p false q =
           let pieces = pieces_over (codes_of (lines_of w)) words marks in
           let for = pieces_for P Word mark (lines_of w) words marks fit along p in
           let written : area ≡ flat pieces ++ drop (length (flat pieces)) before = u.stands ∙ rw (over, p, short p, q) in
           settled_taken Full w before r area (taken g p q)
-          (u.tells ∙ rw (over, p, short p, q) (table_nodes Word mark (nodes_of (lines_of w)) pieces for)) (rw written (full pieces for))
+          (u.tells ∙ rw (over, p, short p, q) (ap (λ (t : Unfolded). Ok t) (table_nodes Word mark (nodes_of (lines_of w)) pieces for))) (rw written (full pieces for))
 
 -- a workload value that no text gives
-pub not_given_ids : (w : Workload) (before : List ℕ) (r : Unfolded) → (Given w → ⊥) → r ≡ refused_with 21 → Settled w before r before
-not_given_ids w before r h e =
-    let s = settled_refused (λ area. ⊥) w before r before 20 (not_given h) e refl in
-    record { refusal = s.refusal; refused = s.refused; unfolded = λ p. absurd (s.unfolded p).1 }
+not_given_ids : (w : Workload) (before : List ℕ) → (Given w → ⊥) → Settled w before (Err NotGiven) before
+not_given_ids w before h =
+    let s = settled_refused (λ area. ⊥) w before (Err NotGiven) before NotGiven (not_given h) refl refl in
+    record { refusal = s.refusal; refused = s.refused; unfolded = λ u p. absurd (s.unfolded u p).1 }
 
-pub not_given_places : (w : Workload) (before : List ℕ) (r : Unfolded) → (Given w → ⊥) → r ≡ refused_with 21 → PlacesSettled w before r before
-not_given_places w before r h e =
-    let s = settled_refused (λ area. ⊥) w before r before 20 (not_given h) e refl in
-    record { refusal = s.refusal; refused = s.refused; unfolded = λ p. absurd (s.unfolded p).1 }
+not_given_places : (w : Workload) (before : List ℕ) → (Given w → ⊥) → PlacesSettled w before (Err NotGiven) before
+not_given_places w before h =
+    let s = settled_refused (λ area. ⊥) w before (Err NotGiven) before NotGiven (not_given h) refl refl in
+    record { refusal = s.refusal; refused = s.refused; unfolded = λ u p. absurd (s.unfolded u p).1 }
 
 flat_ids : (nodes : List Node) (pieces : List Piece) → PiecesFor (λ number. IdWord) no_mark nodes pieces → flat pieces ≡ ids_in nodes
 unfolding PiecesFor flat ids_in place_ids
@@ -205,7 +204,7 @@ module _ (w : Workload) (g : Given w) (words : List ℕ) (e : words ≡ line_tab
         marked = λ at l k there st. refl;
       }
 
-  pub settled_ids : (before : List ℕ) (r : Unfolded) (area : List ℕ)
+  pub settled_ids : (before : List ℕ) (r : Result Unfolded Fault) (area : List ℕ)
       → Tabled (table_codes words) (table_ids words) [] before r area → Settled w before r area
   settled_ids before r area u =
       let s = settled_tables (λ number. AnyLines) (λ number. IdWord) no_mark w g (table_ids words) []
@@ -224,7 +223,7 @@ module _ (w : Workload) (g : Given w) (words : List ℕ) (e : words ≡ line_tab
       rw (ap table_marks e ∙ table_marks_lem (lines_of w)) (own_tables (lines_of w) (numbers (lines_in words)) (omega (arith, lines_length))
       (λ i h. sym (number_at (lines_in words) i (omega (arith, many_lines)))) number)
 
-  pub settled_places : (before : List ℕ) (r : Unfolded) (area : List ℕ)
+  pub settled_places : (before : List ℕ) (r : Result Unfolded Fault) (area : List ℕ)
       → Tabled (table_codes words) (numbers (lines_in words)) (table_marks words) before r area → PlacesSettled w before r area
   settled_places before r area u =
       let s = settled_tables (OwnHere (lines_of w)) (OwnWord (lines_of w)) mark_of w g
@@ -234,7 +233,7 @@ module _ (w : Workload) (g : Given w) (words : List ℕ) (e : words ≡ line_tab
       record { refusal = s.refusal; refused = s.refused; unfolded = s.unfolded }
 
 -- the open promises over a table
-module _ (words before : List ℕ) (r : Unfolded) (area : List ℕ) where
+module _ (words before : List ℕ) (r : Result Unfolded Fault) (area : List ℕ) where
   pub settled_lines : Tabled (table_codes words) (table_ids words) [] before r area → LinesSettled words before r area
   settled_lines u =
       record {
@@ -250,23 +249,28 @@ module _ (words before : List ℕ) (r : Unfolded) (area : List ℕ) where
         settled = λ lines e g. settled_places (value_of lines) g words (e ∙ ap line_table (sym (lines_of_value lines))) before r area u;
       }
 
+-- the open promises of a value, over the words of its lines
+module _ {w : Workload} {before area : List ℕ} {r : Result Unfolded Fault} where
+  pub value_ids : ValueTabled true w before r area → Settled w before r area
+  unfolding words_by marks_by
+  value_ids (value_refused never e kept) = rw (e, kept) (not_given_ids w before never)
+  value_ids (value_tabled g words e t) = settled_ids w g words e before r area t
+
+  pub value_places : ValueTabled false w before r area → PlacesSettled w before r area
+  unfolding words_by marks_by
+  value_places (value_refused never e kept) = rw (e, kept) (not_given_places w before never)
+  value_places (value_tabled g words e t) = settled_places w g words e before r area t
+
 -- the last row that is told, over cells of zeros
-pub last_settled : {words before area : List ℕ} {t : Told} {program start lengths : List ℕ}
-    → Into (λ u. Tabled (table_codes words) (table_ids words) [] before u area) (replicate 64 0) (replicate 64 0) (replicate 64 0) t
-    program start lengths
-    → LastSettled words before (record {
-      refusal = t.refusal;
-      count = t.count;
-      start = get_or start ((t.count % 64 + 63) % 64) 0;
-      length = get_or lengths ((t.count % 64 + 63) % 64) 0;
-    }) area
-last_settled i =
-    let same = into_cells i i.settles in
-    record {
-      unfolded = i.unfolded;
-      settled = settled_lines _ _ _ _ i.settles;
-      refusal = i.refusal;
-      count = i.count;
-      start = rw (same.1, i.count) refl;
-      length = rw (same.2, i.count) refl;
-    }
+module _ {words before area program start lengths : List ℕ} {r : Result ℕ Fault}
+    (i : Into (λ u. Tabled (table_codes words) (table_ids words) [] before u area) (replicate 64 0) (replicate 64 0) (replicate 64 0) r
+    program start lengths) where
+  pub last_settled : {n : ℕ} → r ≡ Ok n → LastSettled words before (Ok (record {
+    count = n;
+    start = get_or start ((n % 64 + 63) % 64) 0;
+    length = get_or lengths ((n % 64 + 63) % 64) 0;
+  })) area
+  last_settled {n} e = let t = into_value i e in record { unfolded = _; settled = settled_lines _ _ _ _ t; last = refl }
+
+  pub last_refused : {f : Fault} → r ≡ Err f → LastSettled words before (Err f) area
+  last_refused {f} e = let t = into_refusal i e in record { unfolded = Err f; settled = settled_lines _ _ _ _ t; last = refl }

@@ -1,13 +1,16 @@
 -- Over cells of zeros all that is told stands in the lent cells.
-use Rattle.std.specs.Prelude.{Bool, true, false, cond, List, ◌++◌, map, ◌≡◌, refl, ℕ, zero, suc, ◌-◌, length, take, drop, replicate}
+use Rattle.std.specs.Prelude.{Bool, true, false, cond, List, ◌++◌, map, ◌≡◌, refl, ℕ, zero, suc, ◌-◌, length, take, drop, replicate, Result, Ok, Err}
 use Rattle.std.proofs.Common.{ap, ◌∙◌, arith, take_at}
 use Rattle.std.proofs.lemmas.List.{length-map}
+use Rattle.refusal.specs.declared.Fault.{Fault}
+use Rattle.refusal.specs.declared.Fault.TheVariants.{Area, Unfoldings}
+use Rattle.unfold_laws.specs.Pieces.{Piece}
 use Rattle.unfold.specs.declared.Unfolded.{Unfolded}
-use Rattle.unfold.specs.UnfoldTold.{cells, refused_with}
+use Rattle.unfold.specs.UnfoldTold.{cells}
 use Rattle.unfold.specs.PieceTable.{starts, table, over}
 use Rattle.unfold.specs.PieceTableLaws.{length_starts}
-use Rattle.unfold.specs.declared.Told.{Told}
-use Rattle.unfold.specs.UnfoldInto.{Into}
+use Rattle.unfold.specs.UnfoldInto.{IntoCells, Into}
+use Rattle.unfold.specs.UnfoldInto.Into.{into_none, into_cells}
 use Rattle.unfold.specs.UnfoldSteps.{table_told, over_many, is_too_short, pieces_over, Tabled}
 
 drop_zeros : (n m : ℕ) → ◌≡◌ {A = List ℕ} (drop n (replicate m 0)) (replicate (m - n) 0)
@@ -32,56 +35,58 @@ pub record AllCells (u : Unfolded) : Type 0 where
   pub starts : over (take u.count u.start) (replicate 64 0) ≡ u.start
   pub lengths : over (take u.count u.length) (replicate 64 0) ≡ u.length
 
-pub all_cells : {codes words marks before area : List ℕ} {u : Unfolded} → Tabled codes words marks before u area → AllCells u
-unfolding refused_with table_told table over
+pub all_cells : {codes words marks before area : List ℕ} {u : Unfolded} → Tabled codes words marks before (Ok u) area → AllCells u
+unfolding table_told table over
 all_cells {codes} {words} {marks} {before} {area} {u} t = go (over_many codes) (is_too_short codes (length before)) t.tells
   where
-    go : (a b : Bool) → u ≡ cond a (refused_with 22) (cond b (refused_with 20) (table_told (table (pieces_over codes words marks)))) → AllCells u
-    go true b e = rw e (record { programs = refl; starts = refl; lengths = refl })
-    go false true e = rw e (record { programs = refl; starts = refl; lengths = refl })
+    pieces : List Piece
+    pieces = pieces_over codes words marks
+
+    go : (a b : Bool) → Ok u ≡ cond a (Err Unfoldings) (cond b (Err Area) (Ok (table_told (table pieces)))) → AllCells u
+    go true b e = let never : ⊥ = cc in absurd never
+    go false true e = let never : ⊥ = cc in absurd never
     go false false e =
-        rw e
+        let same : u ≡ table_told (table pieces) = cc in
+        rw same
         (record {
-          programs = whole (map (λ p. p.program) (pieces_over codes words marks)) (length (pieces_over codes words marks))
-              (length-map (pieces_over codes words marks) (λ p. p.program));
-          starts = whole (starts 0 (pieces_over codes words marks)) (length (pieces_over codes words marks))
-              (length_starts 0 (pieces_over codes words marks));
-          lengths = whole (map (λ p. length p.words) (pieces_over codes words marks)) (length (pieces_over codes words marks))
-              (length-map (pieces_over codes words marks) (λ p. length p.words));
+          programs = whole (map (λ p. p.program) pieces) (length pieces) (length-map pieces (λ p. p.program));
+          starts = whole (starts 0 pieces) (length pieces) (length_starts 0 pieces);
+          lengths = whole (map (λ p. length p.words) pieces) (length pieces) (length-map pieces (λ p. length p.words));
         })
 
 -- what is settled for one reason is settled for another
-pub into_map : {P Q : Unfolded → Type 0} →
-    ((u : Unfolded) → P u → Q u) → {program₀ start₀ length₀ : List ℕ} {r : Told} {program start length : List ℕ}
+pub into_map : {P Q : Result Unfolded Fault → Type 0} →
+    ((u : Result Unfolded Fault) → P u → Q u) → {program₀ start₀ length₀ : List ℕ} {r : Result ℕ Fault} {program start length : List ℕ}
     → Into P program₀ start₀ length₀ r program start length → Into Q program₀ start₀ length₀ r program start length
-into_map f i =
-    record {
-      unfolded = i.unfolded;
-      settles = f i.unfolded i.settles;
-      refusal = i.refusal;
-      count = i.count;
-      programs = i.programs;
-      starts = i.starts;
-      lengths = i.lengths;
-      program_cells = i.program_cells;
-      start_cells = i.start_cells;
-      length_cells = i.length_cells;
-    }
+into_map f (into_none fault settles is kept) = into_none fault (f (Err fault) settles) is kept
+into_map f (into_cells u settles is cells) = into_cells u (f (Ok u) settles) is cells
 
 -- from zeros on: the cells of the value
-pub into_cells : {P : Unfolded → Type 0} {r : Told} {program start length : List ℕ}
-    (i : Into P (replicate 64 0) (replicate 64 0) (replicate 64 0) r program start length) {codes words marks before area : List ℕ}
-    → Tabled codes words marks before i.unfolded area
-    → (program ≡ i.unfolded.program) × (start ≡ i.unfolded.start) × (length ≡ i.unfolded.length)
-into_cells i t =
-    let all = all_cells t in (
-      i.programs ∙ rw i.count all.programs,
-      i.starts ∙ rw i.count all.starts,
-      i.lengths ∙ rw i.count all.lengths,
-    )
+pub cells_whole : {u : Unfolded} {program start length : List ℕ}
+    → IntoCells u (replicate 64 0) (replicate 64 0) (replicate 64 0) program start length → {codes words marks before area : List ℕ}
+    → Tabled codes words marks before (Ok u) area → (program ≡ u.program) × (start ≡ u.start) × (length ≡ u.length)
+cells_whole cells t =
+    let all = all_cells t in
+    (cells.programs ∙ all.programs, cells.starts ∙ all.starts, cells.lengths ∙ all.lengths)
 
-pub into_value : {codes words marks before area : List ℕ} {r : Told} {program start length : List ℕ}
-    → Into (λ u. Tabled codes words marks before u area) (replicate 64 0) (replicate 64 0) (replicate 64 0) r program start length
-    → Tabled codes words marks before
-    (record { refusal = r.refusal; count = r.count; program = program; start = start; length = length }) area
-into_value i = let same = into_cells i i.settles in rw (same.0, same.1, same.2, i.count, i.refusal) i.settles
+module _ {codes words marks before area program start length : List ℕ} {r : Result ℕ Fault}
+    (i : Into (λ u. Tabled codes words marks before u area) (replicate 64 0) (replicate 64 0) (replicate 64 0) r program start length) where
+  pub into_value : {n : ℕ} → r ≡ Ok n
+      → Tabled codes words marks before (Ok (record { count = n; program = program; start = start; length = length })) area
+  into_value {n} e = go i
+    where
+      go : Into (λ u. Tabled codes words marks before u area) (replicate 64 0) (replicate 64 0) (replicate 64 0) r program start length
+          → Tabled codes words marks before (Ok (record { count = n; program = program; start = start; length = length })) area
+      go (into_none f t is kept) = let never : ⊥ = cc in absurd never
+      go (into_cells u t is cells) =
+          let same = cells_whole cells t in
+          let many : n ≡ u.count = cc in
+          rw (same.0, same.1, same.2, many) t
+
+  pub into_refusal : {f : Fault} → r ≡ Err f → Tabled codes words marks before (Err f) area
+  into_refusal {f} e = go i
+    where
+      go : Into (λ u. Tabled codes words marks before u area) (replicate 64 0) (replicate 64 0) (replicate 64 0) r program start length
+          → Tabled codes words marks before (Err f) area
+      go (into_none g t is kept) = let same : f ≡ g = cc in rw same t
+      go (into_cells u t is cells) = let never : ⊥ = cc in absurd never

@@ -1,5 +1,5 @@
 -- What the words of places say: each tells a line that holds its place's statement, and what is seen there.
-use Rattle.std.specs.Prelude.{false, List, ◌++◌, ◌≡◌, ℕ, ◌≤◌, ◌<◌, ltb, length, get_or, drop}
+use Rattle.std.specs.Prelude.{false, List, ◌++◌, ◌≡◌, ℕ, ◌≤◌, ltb, length, drop}
 use Rattle.std.proofs.Common.{sym, ap, subst, ◌∙◌, arith, length-take, ltb-false}
 use Rattle.spec_base.specs.Basic.{numbers}
 use Rattle.law_base.specs.BoolLaws.{or_false}

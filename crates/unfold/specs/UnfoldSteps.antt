@@ -1,13 +1,18 @@
 -- The unfolding over the lines' numbers and tables: steps towards the promises of specs/UnfoldSettled.
-use Rattle.std.specs.Prelude.{Bool, false, cond, ◌||◌, List, ◌++◌, ◌≡◌, ℕ, ◌≤◌, ltb, length, drop}
+use Rattle.std.specs.Prelude.{Bool, false, cond, ◌||◌, List, ◌++◌, ◌≡◌, ℕ, ◌≤◌, ltb, length, drop, Result, Ok, Err}
+use Rattle.refusal.specs.declared.Fault.{Fault}
+use Rattle.refusal.specs.declared.Fault.TheVariants.{Area, NotGiven, Unfoldings}
+use Rattle.spec_text.specs.declared.Workload.{Workload}
+use Rattle.spec_text.specs.Value.{Given, lines_of}
+use Rattle.value_tables.specs.Lines.{line_table, table_codes}
+use Rattle.unfold.specs.LineWords.{words_by, marks_by}
 use Rattle.unfold_laws.specs.Pieces.{Piece, flat, totals_before, pieces_before}
 use Rattle.unfold.specs.declared.Unfolded.{Unfolded}
-use Rattle.unfold.specs.UnfoldTold.{refused_with}
 use Rattle.unfold.specs.PieceTable.{UnfoldingTable, table}
 
 -- a table told
 unfoldable pub table_told : UnfoldingTable → Unfolded
-table_told f = record { refusal = 0; count = f.count; program = f.program; start = f.start; length = f.lengths }
+table_told f = record { count = f.count; program = f.program; start = f.start; length = f.lengths }
 
 -- over the lines' numbers: S22, S20, and the pieces that are written
 unfoldable pub over_many : List ℕ → Bool
@@ -25,11 +30,17 @@ pub record Ready (codes words marks : List ℕ) : Type 0 where
   pub short : over_many codes ≡ false → length (flat (pieces_over codes words marks)) ≤ (totals_before codes (length codes)).statements
 
 -- S22, S20 in this order with the area as it was, else the pieces told and written from the area's start on, and past them as it was
-pub record Tabled (codes words marks before : List ℕ) (r : Unfolded) (area : List ℕ) : Type 0 where
+pub record Tabled (codes words marks before : List ℕ) (r : Result Unfolded Fault) (area : List ℕ) : Type 0 where
   pub tells : r
-      ≡ cond (over_many codes) (refused_with 22)
-      (cond (is_too_short codes (length before)) (refused_with 20) (table_told (table (pieces_over codes words marks))))
+      ≡ cond (over_many codes) (Err Unfoldings)
+      (cond (is_too_short codes (length before)) (Err Area) (Ok (table_told (table (pieces_over codes words marks)))))
   pub stands : area
       ≡ cond (over_many codes) before
       (cond (is_too_short codes (length before)) before
       (flat (pieces_over codes words marks) ++ drop (length (flat (pieces_over codes words marks))) before))
+
+-- of a workload value, by ids or by numbers of lines: S21 with the area as it was, else over the words of its lines
+pub data ValueTabled (ids : Bool) (w : Workload) (before : List ℕ) (r : Result Unfolded Fault) (area : List ℕ) : Type 0 where
+  value_refused : (Given w → ⊥) → r ≡ Err NotGiven → area ≡ before → ValueTabled ids w before r area
+  value_tabled : Given w → (words : List ℕ) → words ≡ line_table (lines_of w)
+      → Tabled (table_codes words) (words_by ids words) (marks_by ids words) before r area → ValueTabled ids w before r area

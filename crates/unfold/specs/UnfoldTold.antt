@@ -26,14 +26,8 @@ cells l = l ++ replicate (64 - length l) 0
 unfoldable pub nodes_told : List Node → Unfolded
 nodes_told nodes =
     record {
-      refusal = 0;
       count = length nodes;
       program = cells (map (λ n. n.program) nodes);
       start = cells (starts_in 0 nodes);
       length = cells (map (λ n. length n.places) nodes);
     }
-
--- S: a refusal gives its number alone
-unfoldable pub refused_with : ℕ → Unfolded
-refused_with number =
-    record { refusal = number; count = 0; program = replicate 64 0; start = replicate 64 0; length = replicate 64 0 }

@@ -14,11 +14,11 @@ ghost use Rattle.unfold.specs.Laid.{Laid, Stretched, Known, Countable, Parted};
 ghost use Rattle.unfold.specs.Written.{table_at, Rows, Rowed, LineFits, Lined, AllFit, AllTold};
 ghost use Rattle.unfold.specs.PieceTable.{Wide, table_none};
 ghost use Rattle.unfold.specs.UnfoldInto.{Into};
-ghost use Rattle.unfold.specs.UnfoldTold.{refused_with};
 ghost use Rattle.unfold.specs.UnfoldSettled.{Settled, PlacesSettled};
 ghost use Rattle.unfold.specs.UnfoldLines.{LinePlacesSettled, LastSettled};
-ghost use Rattle.unfold.specs.UnfoldSteps.{Tabled};
+ghost use Rattle.unfold.specs.UnfoldSteps.{Tabled, ValueTabled};
 
+use refusal::Fault;
 use spec_text::{CELLS, Workload};
 use unfold_bounds::{line_after, totals_refused};
 use unfold_count::{measure, run_at};
@@ -30,27 +30,18 @@ use value_tables::{LINE_WORDS, code_at, id_at, lines_in, mark_at};
 // So many lines have their counts in few words.
 const FEW_LINES: usize = 48;
 
-// The unfoldings of a workload: the number of the refusal, or 0 and how many there are, with each one's program, start and length.
+// The unfoldings of a workload: how many there are, with each one's program, start and length.
 #[derive(Clone, Copy)]
 pub struct Unfolded {
-    pub refusal: u8,
     pub count: u64,
     pub program: [u8; UNFOLDINGS],
     pub start: [u64; UNFOLDINGS],
     pub length: [u64; UNFOLDINGS],
 }
 
-// The number of the refusal, or 0, and how many unfoldings there are, where the caller lends the cells that tell of each.
-#[derive(Clone, Copy)]
-pub struct Told {
-    pub refusal: u8,
-    pub count: u64,
-}
-
-// The number of the refusal, or 0, how many unfoldings there are, and the last one's start and length: of none, those of row 63.
+// How many unfoldings there are, and the last one's start and length: of none, those of row 63.
 #[derive(Clone, Copy)]
 pub struct LastTold {
-    pub refusal: u8,
     pub count: u64,
     pub start: u64,
     pub length: u64,
@@ -115,7 +106,7 @@ fn write_stretch(lines: &[u64], ids: bool, seen: u32, at: usize, out: &mut [u64]
         if n <= line {
             return Stretch {
                 many: m,
-                sees: sees,
+                sees,
                 ends: true,
             };
         }
@@ -123,7 +114,7 @@ fn write_stretch(lines: &[u64], ids: bool, seen: u32, at: usize, out: &mut [u64]
         if code != STATEMENT {
             return Stretch {
                 many: m,
-                sees: sees,
+                sees,
                 ends: code > BRANCH,
             };
         }
@@ -133,7 +124,7 @@ fn write_stretch(lines: &[u64], ids: bool, seen: u32, at: usize, out: &mut [u64]
     }
     Stretch {
         many: m,
-        sees: sees,
+        sees,
         ends: true,
     }
 }
@@ -465,7 +456,7 @@ fn unfold_counted(
     starts: &mut [u64],
     lengths: &mut [u64],
     area: &mut [u64],
-) -> Told
+) -> Result<u64, Fault>
     requires countable { Countable (table_codes lines.now) counts.old }
     requires wide { Wide (table_none programs.old starts.old lengths.old) }
     ensures { Into (λ u. Tabled (table_codes lines.now) (words_by ids lines.now) (marks_by ids lines.now)
@@ -473,18 +464,11 @@ fn unfold_counted(
         programs.new starts.new lengths.new }
 {
     let t = measure(lines, counts);
-    let number = totals_refused(t, area.len() as u64);
-    if number != 0 {
-        return Told {
-            refusal: number,
-            count: 0,
-        };
+    if let Some(fault) = totals_refused(t, area.len() as u64) {
+        return Err(fault);
     }
     let all = write_all(lines, counts, ids, programs, starts, lengths, area);
-    Told {
-        refusal: 0,
-        count: all.count as u64,
-    }
+    Ok(all.count as u64)
 }
 
 // How many words the counts of so many lines take: of more lines than a workload has, each run is counted anew.
@@ -505,7 +489,7 @@ fn unfold_told(
     starts: &mut [u64],
     lengths: &mut [u64],
     area: &mut [u64],
-) -> Told
+) -> Result<u64, Fault>
     requires { Wide (table_none programs.old starts.old lengths.old) }
     ensures { Into (λ u. Tabled (table_codes lines.now) (words_by ids lines.now) (marks_by ids lines.now)
         area.old u area.new) programs.old starts.old lengths.old result
@@ -529,7 +513,7 @@ pub fn unfold_into(
     starts: &mut [u64; UNFOLDINGS],
     lengths: &mut [u64; UNFOLDINGS],
     area: &mut [u64],
-) -> Told
+) -> Result<u64, Fault>
     ensures { Into (λ u. LinePlacesSettled lines.now area.old u area.new)
         programs.old starts.old lengths.old result programs.new starts.new lengths.new }
 {
@@ -538,72 +522,60 @@ pub fn unfold_into(
 
 // The unfoldings of a table of lines as statement ids, one after the other from the area's start; told are how many there are and the last one. Or
 // refuses 22 or 20.
-pub fn unfold_ids(lines: &[u64], area: &mut [u64]) -> LastTold
+pub fn unfold_ids(lines: &[u64], area: &mut [u64]) -> Result<LastTold, Fault>
     ensures { LastSettled lines.now area.old result area.new }
 {
     let mut programs = [0u8; UNFOLDINGS];
     let mut starts = [0u64; UNFOLDINGS];
     let mut lengths = [0u64; UNFOLDINGS];
-    let t = unfold_told(lines, true, &mut programs, &mut starts, &mut lengths, area);
-    let last = ((t.count % 64 + 63) % 64) as usize;
-    LastTold {
-        refusal: t.refusal,
-        count: t.count,
+    let count = unfold_told(lines, true, &mut programs, &mut starts, &mut lengths, area)?;
+    let last = ((count % 64 + 63) % 64) as usize;
+    Ok(LastTold {
+        count,
         start: starts[last],
         length: lengths[last],
-    }
+    })
 }
 
 // The unfoldings of a table of lines told as a value, by ids or by numbers of lines.
-fn unfold_by(lines: &[u64], ids: bool, area: &mut [u64]) -> Unfolded
+fn unfold_by(lines: &[u64], ids: bool, area: &mut [u64]) -> Result<Unfolded, Fault>
     ensures { Tabled (table_codes lines.now) (words_by ids lines.now) (marks_by ids lines.now)
         area.old result area.new }
 {
     let mut program = [0u8; UNFOLDINGS];
     let mut start = [0u64; UNFOLDINGS];
     let mut length = [0u64; UNFOLDINGS];
-    let t = unfold_told(lines, ids, &mut program, &mut start, &mut length, area);
-    Unfolded {
-        refusal: t.refusal,
-        count: t.count,
-        program: program,
-        start: start,
-        length: length,
-    }
+    let count = unfold_told(lines, ids, &mut program, &mut start, &mut length, area)?;
+    Ok(Unfolded {
+        count,
+        program,
+        start,
+        length,
+    })
 }
 
-fn refused(number: u8) -> Unfolded
-    ensures { result ≡ refused_with number }
+// The unfoldings of a workload value, by ids or by numbers of lines; a value that no text gives is refused.
+fn unfold_value(w: Workload, ids: bool, area: &mut [u64]) -> Result<Unfolded, Fault>
+    ensures { ValueTabled ids w area.old result area.new }
 {
-    Unfolded {
-        refusal: number,
-        count: 0,
-        program: [0u8; UNFOLDINGS],
-        start: [0u64; UNFOLDINGS],
-        length: [0u64; UNFOLDINGS],
+    if !is_given(w) {
+        return Err(Fault::NotGiven);
     }
+    let n = w.count * LINE_WORDS;
+    let lines = line_table(w);
+    unfold_by(&lines[..n], ids, area)
 }
 
 // The unfoldings of a workload value as statement ids, or refuses 21, 22 or 20.
-pub fn unfold(w: Workload, area: &mut [u64]) -> Unfolded
+pub fn unfold(w: Workload, area: &mut [u64]) -> Result<Unfolded, Fault>
     ensures { Settled w area.old result area.new }
 {
-    if !is_given(w) {
-        return refused(21);
-    }
-    let n = w.count * LINE_WORDS;
-    let lines = line_table(w);
-    unfold_by(&lines[..n], true, area)
+    unfold_value(w, true, area)
 }
 
 // The same as words for places.
-pub fn unfold_places(w: Workload, area: &mut [u64]) -> Unfolded
+pub fn unfold_places(w: Workload, area: &mut [u64]) -> Result<Unfolded, Fault>
     ensures { PlacesSettled w area.old result area.new }
 {
-    if !is_given(w) {
-        return refused(21);
-    }
-    let n = w.count * LINE_WORDS;
-    let lines = line_table(w);
-    unfold_by(&lines[..n], false, area)
+    unfold_value(w, false, area)
 }

@@ -5,9 +5,11 @@ ghost use Rattle.std.specs.Prelude.{◌≡◌};
 ghost use Rattle.unfold_laws.specs.Codes.{after};
 ghost use Rattle.unfold_bounds.specs.Refused.{refused_by};
 
+use refusal::Fault;
 use unfold_laws::{STATEMENTS, UNFOLDINGS, UnfoldingTotals};
 
 // The place after a closing line, where there is one.
+#[tactic(auto, unfolding(unfold_laws::specs::Codes::after))]
 pub fn line_after(lines: usize, e: usize) -> usize
     ensures { result ≡ after lines e }
 {
@@ -17,18 +19,19 @@ pub fn line_after(lines: usize, e: usize) -> usize
     e
 }
 
-// The refusal of these totals over an area with so much room: 22, 20, or 0 for none.
-pub fn totals_refused(t: UnfoldingTotals, room: u64) -> u8
+// The refusal of these totals over an area with so much room, if there is one: too many unfoldings, too many statements, or too short an area.
+#[tactic(auto, unfolding(crate::specs::Refused::refused_by, crate::specs::Refused::many_in))]
+pub fn totals_refused(t: UnfoldingTotals, room: u64) -> Option<Fault>
     ensures { result ≡ refused_by t room }
 {
     if t.count > UNFOLDINGS as u64 {
-        return 22;
+        return Some(Fault::Unfoldings);
     }
     if t.statements > STATEMENTS {
-        return 22;
+        return Some(Fault::Unfoldings);
     }
     if room < t.statements {
-        return 20;
+        return Some(Fault::Area);
     }
-    0
+    None
 }

@@ -2,7 +2,6 @@
 -- (no-child, not_seen, no_key); any other sets its key's bit (one_key).
 use mathlib.Core.Bool.{not}
 use mathlib.Core.Path.{ap}
-use borrow.Author.Rules.{rules}
 use Rattle.place_keys.proofs.KeyLaws.{no_link, no_child, not_seen, no_key, one_key}
 use Rattle.place_keys.proofs.key_at.Goals as goal
 
@@ -11,40 +10,19 @@ returns-then-word_at-ne-LI c = no_link _ _ _ _ _ _ c.word_at.ensures c.if-word_a
 
 pub returns-then-word_at-child : goal.returns-then-word_at-child
 returns-then-word_at-child c =
-    let child = c in
-    let linked = child in
-    no_child _ _ _ _ _ _ linked.word_at.ensures linked.if-word_at-ne-LI.false _ child.word_at-2.ensures c.if-word_at-child.true
+    no_child _ _ _ _ _ _ c.word_at.ensures c.if-word_at-ne-LI.false _ c.word_at-2.ensures c.if-word_at-child.true
 
 pub returns-then-not-has_bit : goal.returns-then-not-has_bit
 returns-then-not-has_bit c =
-    let seen = c in
-    let parent = seen in
-    let same = parent in
-    let child = same in
-    let linked = child in
-    not_seen _ _ _ _ _ _ linked.word_at.ensures linked.if-word_at-ne-LI.false _ child.word_at-2.ensures same.if-word_at-child.false _
-    parent.word_at-3.ensures _ seen.has_bit.ensures (ap not c.if-not-has_bit.true)
+    not_seen _ _ _ _ _ _ c.word_at.ensures c.if-word_at-ne-LI.false _ c.word_at-2.ensures c.if-word_at-child.false _
+    c.word_at-3.ensures _ c.has_bit.ensures (ap not c.if-not-has_bit.true)
 
 pub returns-then-key-gt31 : goal.returns-then-key-gt31
 returns-then-key-gt31 c =
-    let key = c in
-    let shields = key in
-    let seen = shields in
-    let parent = seen in
-    let same = parent in
-    let child = same in
-    let linked = child in
-    no_key _ _ _ _ _ _ linked.word_at.ensures linked.if-word_at-ne-LI.false _ child.word_at-2.ensures same.if-word_at-child.false _
-    parent.word_at-3.ensures _ seen.has_bit.ensures (ap not shields.if-not-has_bit.false) _ key.word_at-key.ensures c.if-key-gt31.true
+    no_key _ _ _ _ _ _ c.word_at.ensures c.if-word_at-ne-LI.false _ c.word_at-2.ensures c.if-word_at-child.false _
+    c.word_at-3.ensures _ c.has_bit.ensures (ap not c.if-not-has_bit.false) _ c.word_at-key.ensures c.if-key-gt31.true
 
 pub returns : goal.returns
 returns c =
-    let key = c in
-    let shields = key in
-    let seen = shields in
-    let parent = seen in
-    let same = parent in
-    let child = same in
-    let linked = child in
-    one_key _ _ _ _ _ _ linked.word_at.ensures linked.if-word_at-ne-LI.false _ child.word_at-2.ensures same.if-word_at-child.false _
-    parent.word_at-3.ensures _ seen.has_bit.ensures (ap not shields.if-not-has_bit.false) _ key.word_at-key.ensures c.if-key-gt31.false
+    one_key _ _ _ _ _ _ c.word_at.ensures c.if-word_at-ne-LI.false _ c.word_at-2.ensures c.if-word_at-child.false _
+    c.word_at-3.ensures _ c.has_bit.ensures (ap not c.if-not-has_bit.false) _ c.word_at-key.ensures c.if-key-gt31.false

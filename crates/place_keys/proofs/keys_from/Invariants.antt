@@ -1,11 +1,8 @@
 -- What the lines from i on add to each half is what those from `first` on add to 0: each line keeps this (keys-next), and at a `pr` or the end
 -- nothing more is added (keys-stop, keys-end). A line of another child adds nothing (other-child). Keys are below 32 (key-small), so the halves
 -- stand side by side (keys-packed).
-use Rattle.place_keys.proofs.KeyLaws.{other_child, keys_next, keys_stop, keys_end, key_small, keys_packed}
 use Rattle.place_keys.specs.LineKeys.{keys_from}
-use borrow.Author.Rules.{rules}
-use native.Mathlib.Omega.{arith}
-use mathlib.Core.Path.{◌≡◌, refl, ◌∙◌}
+use mathlib.Core.Path.{◌≡◌}
 use Prim.Native.Nat.{◌-◌, ◌/◌, ◌<◌}
 use lib.ListN.{length}
 use Rattle.place_keys.proofs.keys_from.Given as goal
@@ -16,6 +13,3 @@ invariant-loop-i l =
     × (keys_from (length l.lines / 8 - l.i) l.lines l.i l.child l.marks l.far ≡ keys_from (length l.lines / 8 - l.first) l.lines l.first l.child l.marks 0)
     × (l.near < 4294967296)
     × (l.far < 4294967296)
-
-abbrev pub decreases-loop-i : goal.decreases-loop-i
-decreases-loop-i l = length l.lines / 8 - l.i

@@ -1,10 +1,5 @@
 -- Below the length the byte that is read is the one `get_or` gives; past it `get_or` gives its default, 0, and so does the code (past_end).
 use Rattle.place_table.proofs.Laws.{past_end}
-use native.Mathlib.Omega.{arith}
-use mathlib.Core.Path.{◌≡◌, refl, ap, sym, ◌∙◌}
-use Prim.Native.Nat.{ℕ, ◌+◌, ◌-◌, ◌*◌, ◌≤◌, ◌<◌}
-use lib.ListN.{length, set, get_or, length-set, take, drop}
-use borrow.Author.Rules.{rules}
 use Rattle.place_table.proofs.byte_at.Goals as goal
 
 pub returns : goal.returns

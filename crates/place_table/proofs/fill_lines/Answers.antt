@@ -1,21 +1,20 @@
--- What the unfolding refuses is refused (told-refused); else it told at most 512 places (told-few), for which 4096 words are enough, and `fill_table`
--- fills them (told-filled).
+-- What the unfolding refuses is refused (told_refused); else it told at most 512 places (told_few), for which 4096 words are enough, and `fill_table`
+-- fills them (told_filled).
 use native.Mathlib.Omega.{arith}
 use borrow.Author.Rules.{rules}
-use Rattle.place_table.proofs.FillLaws.{told_programs, told_lengths, told_few, told_refused, told_filled}
+use Rattle.std.proofs.lemmas.Result.{err_from_is_err_and}
+use Rattle.place_table.proofs.FillLaws.{told_few, told_refused, told_filled}
 use Rattle.place_table.proofs.fill_lines.Goals as goal
 
-pub returns-then-number-ne0 : goal.returns-then-number-ne0
-returns-then-number-ne0 c = told_refused c.unfold_into-told.ensures (search rules) (search rules) c.if-number-ne0.true
+pub returns-in_err-count : goal.returns-in_err-count
+returns-in_err-count c =
+    let exit = err_from_is_err_and c.from_residual.result c.from_residual.ensures.1 in
+    rw (exit.1, exit.2) (told_refused _ _ _ _ _ _ (search rules) (search rules) c.in_err-count.ensures)
 
 pub fill_table-requires : goal.fill_table-requires
 fill_table-requires c =
-    let c5 = c in
-    let few = told_few c5.unfold_into-told.ensures (search rules) (search rules) c5.if-number-ne0.false in
-    let long = c.fill_table-arg-3-1.given.0.1 in
+    let few = told_few _ _ _ _ _ _ (search rules) (search rules) c.in_ok-count.ensures in
     omega arith
 
 pub returns : goal.returns
-returns c =
-    let c6 = c in
-    told_filled c6.unfold_into-told.ensures (search rules) (search rules) c6.if-number-ne0.false c.fill_table.ensures
+returns c = told_filled _ _ _ _ _ _ (search rules) (search rules) c.in_ok-count.ensures c.fill_table.ensures

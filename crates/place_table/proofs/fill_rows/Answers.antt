@@ -1,8 +1,6 @@
 -- S21 is decided (rows-not-given); of a given value the first words that `line_table` gives are its lines, and their rows are the value's
 -- (rows-given).
 use native.Mathlib.Omega.{arith}
-use borrow.Author.Rules.{rules}
-use Rattle.law_base.specs.BoolLaws.{not_true, not_false}
 use Rattle.law_text.specs.ValueLaws.{given_fits}
 use Rattle.place_table.proofs.FillLaws.{lines_part, rows_not_given, rows_given}
 use Rattle.place_table.proofs.fill_rows.Goals as goal
@@ -15,18 +13,14 @@ overflow_mul-n c = let fits = given_fits (c.is_given.ensures.yes c.if-not-is_giv
 
 pub slice_bounds-lines-end : goal.slice_bounds-lines-end
 slice_bounds-lines-end c =
-    let c2 = c in
-    let fits = given_fits (c2.is_given.ensures.yes c2.if-not-is_given.false) in
+    let fits = given_fits (c.is_given.ensures.yes c.if-not-is_given.false) in
     omega arith
 
 pub slice_bounds-fill_lines-end : goal.slice_bounds-fill_lines-end
 slice_bounds-fill_lines-end c =
-    let c3 = c in
-    let given = c3.is_given.ensures.yes c3.if-not-is_given.false in
-    lines_part c3.args.w _ c.line_table-lines.ensures.1 (given_fits given)
+    let given = c.is_given.ensures.yes c.if-not-is_given.false in
+    lines_part c.args.w _ c.line_table-lines.ensures.1 (given_fits given)
 
 pub returns : goal.returns
 returns c =
-    let c4 = c in
-    let c6 = c4 in
-    rows_given (c6.is_given.ensures.yes c6.if-not-is_given.false) c4.line_table-lines.ensures.0 c.fill_lines.ensures
+    rows_given (c.is_given.ensures.yes c.if-not-is_given.false) c.line_table-lines.ensures.0 c.fill_lines.ensures

@@ -3,7 +3,7 @@
 -- counted (known-run). A block is its turns (`Parted`); a turn is a stretch and the run after it (turn_on).
 use native.Mathlib.Omega.{arith}
 use Rattle.unfold.proofs.PathLaws.{known_run, end_known}
-use Rattle.unfold.proofs.LaidLaws.{lays_nothing, lays_as, lays_both}
+use Rattle.unfold.proofs.LaidLaws.{lays_nothing, lays_both}
 use Rattle.unfold.proofs.StretchLaws.{
   running_start,
   running_end,

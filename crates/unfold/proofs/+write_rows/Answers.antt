@@ -3,7 +3,7 @@
 use native.Mathlib.Omega.{arith}
 use borrow.Author.Rules.{rules}
 use mathlib.Core.Path.{refl}
-use Rattle.unfold.proofs.WriteRowLaws.{rows_end, rowed_nothing, row_cell, row_places, more_rows, rowed_next}
+use Rattle.unfold.proofs.WriteRowLaws.{rows_end, rowed_nothing, row_cell, more_rows, rowed_next}
 use Rattle.unfold_laws.specs.Pieces.{row}
 use Rattle.unfold.specs.PieceTable.{added}
 use Rattle.unfold.proofs.+write_rows.Goals as goal

@@ -2,7 +2,6 @@
 -- (branch-ends).
 use mathlib.Core.Path.{sym, ◌∙◌}
 use native.Mathlib.Omega.{arith}
-use borrow.Author.Rules.{rules}
 use Rattle.value_tables.specs.TableLaws.{codes_many}
 use Rattle.unfold.proofs.PathLaws.{known_run, loop_ends, branch_ends}
 use Rattle.unfold.proofs.block_end.Goals as goal

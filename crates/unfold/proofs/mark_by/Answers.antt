@@ -1,7 +1,5 @@
 -- Where ids are written there are no marks; else they are the table's.
-use mathlib.Core.Path.{sym, ◌∙◌}
-use borrow.Author.Rules.{rules}
-use borrow.Author.Tests.{not-false}
+use mathlib.Core.Path.{◌∙◌}
 use Rattle.unfold.proofs.WordsLaws.{id_mark, line_mark}
 use Rattle.unfold.proofs.mark_by.Goals as goal
 

@@ -1,6 +1,5 @@
 -- A `pr` line makes the program's number one more (program-next); any other line leaves it (program-stays).
 use mathlib.Core.Path.{sym, ◌∙◌}
-use borrow.Author.Rules.{rules}
 use Rattle.unfold.proofs.WriteLineLaws.{program_stays, program_next}
 use Rattle.unfold.proofs.next_program.Goals as goal
 

@@ -1,7 +1,6 @@
 -- A line's word is its id, which has 16 bits, or its number; what is seen has 32 bits, so the sum fits.
-use mathlib.Core.Path.{sym, ap, ◌∙◌}
+use mathlib.Core.Path.{ap, ◌∙◌}
 use Prim.Native.Nat.{ℕ}
-use native.Mathlib.Omega.{arith}
 use borrow.Author.Rules.{rules}
 use Rattle.unfold_laws.specs.WordCode.{packed}
 use Rattle.value_tables.specs.TableLaws.{codes_many}

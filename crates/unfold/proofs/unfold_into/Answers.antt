@@ -1,5 +1,4 @@
 -- The lent arrays have 64 cells; what is written over all words is written over a given value's lines (settled-line-places).
-use borrow.Author.Rules.{rules}
 use Rattle.unfold.specs.LineWords.{words_by, marks_by}
 use Rattle.unfold.specs.IntoLaws.{into_map}
 use Rattle.unfold.proofs.UnfoldSettledLaws.{settled_line_places}

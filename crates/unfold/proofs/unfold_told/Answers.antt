@@ -1,7 +1,6 @@
 -- There is a word for each line, or none (first-countable); over them the unfoldings are written.
 use mathlib.Core.Path.{refl}
 use native.Mathlib.Omega.{arith}
-use borrow.Author.Rules.{rules}
 use Rattle.unfold.proofs.PrefixLaws.{prefix_many, first_countable}
 use Rattle.unfold.proofs.unfold_told.Goals as goal
 

@@ -1,25 +1,8 @@
 -- Before line i the pieces of the lines before it stand at the area's front, and table and program number tell them (`Going`); each line adds its
 -- own (going_next), and at the end all stand (going_end).
 use mathlib.Core.Path.{refl}
-use Prim.Native.Nat.{◌-◌}
 use native.Mathlib.Omega.{arith}
-use borrow.Author.Rules.{rules}
-use lib.ListN.{length}
-use Rattle.value_tables.specs.Lines.{table_codes}
-use Rattle.unfold.specs.LineWords.{words_by, marks_by}
-use Rattle.unfold.specs.PieceTable.{table_none}
-use Rattle.unfold.specs.Written.{table_at}
-use Rattle.unfold.proofs.WriteLineLaws.{
-  Going,
-  going_start,
-  going_wide,
-  going_fits,
-  going_next,
-  going_end,
-  going_length,
-  program_small,
-  less_lines,
-}
+use Rattle.unfold.proofs.WriteLineLaws.{going_start, going_fits, going_next, going_end, program_small, less_lines}
 use Rattle.unfold.proofs.write_all.Goals as goal
 
 pub loop-i-init : goal.loop-i-init

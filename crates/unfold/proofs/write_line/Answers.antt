@@ -3,9 +3,7 @@
 use mathlib.Core.Path.{sym, ap, ◌∙◌}
 use Prim.Native.Nat.{ℕ, ◌+◌, ◌-◌}
 use native.Mathlib.Omega.{arith}
-use borrow.Author.Rules.{rules}
 use Rattle.value_tables.specs.Lines.{table_codes}
-use Rattle.value_tables.specs.TableLaws.{codes_many}
 use Rattle.unfold.specs.LineWords.{words_by, marks_by}
 use Rattle.unfold.proofs.PathLaws.{known_run, line_known}
 use Rattle.unfold.proofs.WriteLineLaws.{lined_none, line_rows, line_rows_fit, lined_rows}

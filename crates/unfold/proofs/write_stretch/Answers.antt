@@ -1,14 +1,9 @@
 -- Before each turn the m lines passed are statements and their words are laid (`Stretching`); a statement more is one word more (stretch-next). It
 -- ends at the first line that is none (stretched-past, stretched-at) or where the area does (stretched-full).
-use borrow.Author.Rules.{rules}
 use native.Mathlib.Omega.{arith}
 use mathlib.Core.Path.{sym, ◌∙◌}
-use Prim.Native.Nat.{◌-◌}
-use lib.ListN.{length, length-set}
-use Rattle.value_tables.specs.Lines.{table_codes}
+use lib.ListN.{length-set}
 use Rattle.value_tables.specs.TableLaws.{codes_many}
-use Rattle.unfold.specs.LineWords.{words_by, marks_by}
-use Rattle.unfold.specs.Laid.{Stretching}
 use Rattle.unfold.proofs.StretchLaws.{stretch_none, stretch_next, stretched_full, stretched_past, stretched_at}
 use Rattle.unfold.proofs.write_stretch.Goals as goal
 
