@@ -21,17 +21,15 @@ use Rattle.spec_report.specs.State.{StateRefusal, statements_in, is_too_many}
 use Rattle.spec_report.specs.State.StateRefusal.{not_given, too_many, too_short, taken}
 use Rattle.spec_report.specs.Refusals.{not_both, taken_given}
 use Rattle.place_row.specs.RowTable.{rows_of, table_of}
+use Rattle.place_table.specs.declared.Rows.{Rows}
 use Rattle.refusal.specs.declared.Fault.{Fault}
 use Rattle.refusal.specs.Numbers.{number_of}
-use Rattle.place_table.specs.declared.Rows.{Rows}
 use Rattle.place_table.specs.Rows.{rows_said, RowsSettled}
 use Rattle.place_table.specs.Whole.{whole_filled}
 use Rattle.place_table.specs.LineRows.{LinesFilled}
 use Rattle.value_tables.specs.Lines.{line_table}
 use Rattle.value_tables.specs.LineLaws.{line_table_length}
-use Rattle.text_table.specs.declared.TextTable.{TextTable}
 use Rattle.text_table.specs.Tabled.{not_read, lines_read, TextTabled}
-use Rattle.refusal_laws.specs.RefusalLaws.{refusal_bounds}
 use Rattle.place_text.specs.declared.TextRows.{TextRows}
 use Rattle.place_text.specs.Placed.{no_rows, rows_told, TextPlaced}
 use Rattle.place_text.specs.Placed.TextPlaced.{unread, large, placed}
@@ -42,11 +40,15 @@ module _ (text : List ℕ) {lines : List Line} (is_read : read text ≡ accepted
   same = lines_of_value lines
 
   -- S22 is the only refusal of a value that was read
-  pub rows_refused : {fault : Fault} {r : TextRows} → f ≡ Err fault → r ≡ no_rows (number_of fault) 0 → TextPlaced (read text) before r after
+  pub rows_refused : {fault : Fault} {r : Result TextRows (ℕ × ℕ)} → f ≡ Err fault → r ≡ no_rows (number_of fault) 0
+      → TextPlaced (read text) before r after
   unfolding rows_said
   rows_refused {fault} {r} e told = go settled
     where
-      by_number : {o : Option ℕ} (m : ℕ) → o ≡ some m → StateRefusal (value_of lines) false o → number_of fault ≡ m → after ≡ before
+      n : ℕ
+      n = number_of fault
+
+      by_number : {o : Option ℕ} (m : ℕ) → o ≡ some m → StateRefusal (value_of lines) false o → n ≡ m → after ≡ before
           → TextPlaced (read text) before r after
       by_number m q (not_given h) number kept = absurd (h (value_given text is_read))
       by_number m q (too_many g t) number kept =
@@ -56,13 +58,13 @@ module _ (text : List ℕ) {lines : List Line} (is_read : read text ≡ accepted
       by_number m q (taken g t s) number kept = absurd (not_both q refl)
 
       go : RowsSettled (value_of lines) before f after → TextPlaced (read text) before r after
-      go (RowsSettled.refused m refusal said kept) = by_number m refl refusal (let z : ◌≡◌ {A = ℕ ⊎ (ℕ × ℕ × ℕ)} (inl (number_of fault)) (inl m) = cc in cc) kept
+      go (RowsSettled.refused m refusal said kept) =
+          by_number m refl refusal (let z : ◌≡◌ {A = ℕ ⊎ (ℕ × ℕ × ℕ)} (inl n) (inl m) = sym (ap rows_said e) ∙ said in cc) kept
       go (RowsSettled.filled refusal said stands) = absurd (let z : ◌≡◌ {A = ℕ} 0 1 = cc in omega arith)
 
   -- what is filled are the rows of the text
-  pub rows_placed : {rows : Rows} {r : TextRows} → f ≡ Ok rows
-      → r ≡ record { number = 0; line = 0; programs = rows.programs; nodes = rows.nodes; words = rows.places * 8 }
-      → TextPlaced (read text) before r after
+  pub rows_placed : {rows : Rows} {r : Result TextRows (ℕ × ℕ)} → f ≡ Ok rows
+      → r ≡ Ok (record { programs = rows.programs; nodes = rows.nodes; words = rows.places * 8 }) → TextPlaced (read text) before r after
   unfolding rows_said rows_told
   rows_placed {rows} {r} e told = go settled
     where
@@ -84,39 +86,29 @@ module _ (text : List ℕ) {lines : List Line} (is_read : read text ≡ accepted
 
 -- ---- from the table of a text's lines on
 
-module _ (text : List ℕ) {lines₀ : List ℕ} {t : TextTable} {lines : List ℕ} (tabled_text : TextTabled (read text) lines₀ t lines) where
+module _ (text : List ℕ) {lines₀ : List ℕ} {lines : List ℕ} where
   -- R: a text that is not read has no rows
-  pub rows_unread : (t.number ≡ 0 → ⊥) → {before : List ℕ} {r : TextRows} → r ≡ no_rows t.number t.line → TextPlaced (read text) before r before
-  unfolding not_read lines_read
-  rows_unread other {before} {r} told = go tabled_text
-    where
-      go : TextTabled (read text) lines₀ t lines → TextPlaced (read text) before r before
-      go (TextTabled.unread number line is_read e) =
-          let same_number = ap (λ (x : TextTable). x.number) e in
-          let same_line = ap (λ (x : TextTable). x.line) e in
-          unread number line is_read (told ∙ ap₂ no_rows same_number same_line) refl
-      go (TextTabled.tabled ls is_read e stands) = absurd (other (ap (λ (x : TextTable). x.number) e))
+  pub rows_unread : {number line : ℕ} → TextTabled (read text) lines₀ (Err (number, line)) lines
+      → {before : List ℕ} → TextPlaced (read text) before (Err (number, line)) before
+  unfolding not_read lines_read no_rows
+  rows_unread {number} {line} (TextTabled.unread m n is_read e) {before} =
+      let told : ◌≡◌ {A = ℕ × ℕ} (number, line) (m, n) = cc in unread m n is_read (ap {B = Result TextRows (ℕ × ℕ)} Err told) refl
+  rows_unread {number} {line} (TextTabled.tabled ls is_read e stands) {before} = cc
 
   -- one that is read has its lines in the table
-  pub lines_read_lem : t.number ≡ 0
-      → (ls : List Line) × (read text ≡ accepted ls) × (t.count ≤ 1616) × (take (t.count * 8) lines ≡ line_table ls)
+  pub lines_read_lem : {count : ℕ} → TextTabled (read text) lines₀ (Ok count) lines
+      → (ls : List Line) × (read text ≡ accepted ls) × (count ≤ 1616) × (take (count * 8) lines ≡ line_table ls)
   unfolding not_read lines_read value_of
-  lines_read_lem none_told = go tabled_text
-    where
-      go : TextTabled (read text) lines₀ t lines
-          → (ls : List Line) × (read text ≡ accepted ls) × (t.count ≤ 1616) × (take (t.count * 8) lines ≡ line_table ls)
-      go (TextTabled.unread number line is_read e) =
-          let z = (refusal_bounds text is_read).0.0 in
-          let same_number = ap (λ (x : TextTable). x.number) e in
-          absurd (omega arith)
-      go (TextTabled.tabled ls is_read e stands) =
-          let many : t.count ≡ length ls = ap (λ (x : TextTable). x.count) e in
-          let few = given_fits (value_given text is_read) in
-          let long = line_table_length ls in
-          (ls, is_read, omega arith, ap (take (t.count * 8)) stands ∙ take_at (line_table ls) _ (t.count * 8) (omega arith))
+  lines_read_lem {count} (TextTabled.unread number line is_read e) = cc
+  lines_read_lem {count} (TextTabled.tabled ls is_read e stands) =
+      let many : count ≡ length ls = cc in
+      let few = given_fits (value_given text is_read) in
+      let long = line_table_length ls in
+      (ls, is_read, omega arith, ap (take (count * 8)) stands ∙ take_at (line_table ls) _ (count * 8) (omega arith))
 
   -- their rows are the text's
-  pub rows_read : (none_told : t.number ≡ 0) → {places₀ before : List ℕ} {f : Result Rows Fault} {places after : List ℕ}
-      → LinesFilled (take (t.count * 8) lines) places₀ before f places after → RowsSettled (value_of (lines_read_lem none_told).0) before f after
-  rows_read none_told filled =
-      let l = lines_read_lem none_told in filled.settled l.0 l.3 (value_given text l.1)
+  pub rows_read : {count : ℕ} (stands : TextTabled (read text) lines₀ (Ok count) lines) {places₀ before : List ℕ} {f : Result Rows Fault}
+      {places after : List ℕ} → LinesFilled (take (count * 8) lines) places₀ before f places after
+      → RowsSettled (value_of (lines_read_lem stands).0) before f after
+  rows_read stands filled =
+      let l = lines_read_lem stands in filled.settled l.0 l.3 (value_given text l.1)

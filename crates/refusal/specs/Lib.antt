@@ -1,4 +1,4 @@
 pub mod Numbers
+pub mod Told
 pub mod NumberLaws
 pub mod Refusing
-pub mod Told
