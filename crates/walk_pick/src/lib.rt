@@ -415,8 +415,8 @@ fn head_of(heads: &[u16; place_next::CHAINS], relation: u64) -> usize
     heads[(relation % place_next::CHAINS as u64) as usize] as usize
 }
 
-// Counts the edges from a row to the rows on its chain, of which the first is given, and keeps their words. It stays a loop: a run tells where the next
-// one begins.
+// Counts the edges from a row to the rows on its chain, of which the first is given, and keeps their words. It stays a loop: a run tells where the
+// next one begins.
 fn pick_chain(
     s: &Leaving,
     first: usize,

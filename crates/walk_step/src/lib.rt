@@ -21,6 +21,15 @@ use word_list::word_at;
 // Further than any edge opens: no step counts that needs so much.
 const NEVER: u64 = 1025;
 
+// What a least step is sought by: a table with so many rows, and what is asked of a step into each node (least_step).
+#[derive(Clone, Copy)]
+struct Asked<'a> {
+    table: &'a [u64],
+    count: usize,
+    needs: &'a [u64],
+    limits: &'a [u64],
+}
+
 // Whether a word has room for a step into row q: its node is below 64 and its place below 1024.
 #[tactic(auto, unfolding(crate::specs::LeastStep::has_word))]
 fn has_word(q: Row) -> bool
@@ -90,15 +99,15 @@ fn need_into(needs: &[u64], y: usize) -> u64
 }
 
 // The lesser of the best word so far and that of the least step from row p to row q that counts. No step is less than the forward one.
-fn better_step(p: Row, q: Row, needs: &[u64], limits: &[u64], best: u64) -> u64
+fn better_step(asked: &Asked, p: Row, q: Row, best: u64) -> u64
     requires { best ≤ 134217728 }
-    ensures { result ≡ min best (pair_step (whole_needs needs.now) limits.now p q) }
+    ensures { result ≡ min best (pair_step (whole_needs asked.now.needs.now) asked.now.limits.now p q) }
 {
     if has_word(q) {
         let w = step_word(p.place, q.place, false, q.node);
         if w < best {
             let y = q.node as usize;
-            let s = counted_step(p, q, need_into(needs, y), word_at(limits, y));
+            let s = counted_step(p, q, need_into(asked.needs, y), word_at(asked.limits, y));
             if s < best {
                 return s;
             }
@@ -109,92 +118,79 @@ fn better_step(p: Row, q: Row, needs: &[u64], limits: &[u64], best: u64) -> u64
 
 // Whether a step from a place into a row of node y can count, by what is asked for y alone. Most rows are passed over by this: it is cheaper than to
 // take the row out of the table.
-fn may_count(needs: &[u64], limits: &[u64], place: u64, y: u64) -> bool
-    ensures { result ≡ may_count (whole_needs needs.now) limits.now place y }
+fn may_count(asked: &Asked, place: u64, y: u64) -> bool
+    ensures { result ≡ may_count (whole_needs asked.now.needs.now) asked.now.limits.now place y }
 {
     if y < NODES as u64 {
         let k = y as usize;
-        if need_into(needs, k) <= PLACES {
+        if need_into(asked.needs, k) <= PLACES {
             return true;
         }
-        return place < word_at(limits, k);
+        return place < word_at(asked.limits, k);
     }
     false
 }
 
 // The lesser of the best word so far and that of the least step from row p to row j that counts.
-fn with_row(table: &[u64], j: usize, p: Row, needs: &[u64], limits: &[u64], best: u64) -> u64
+fn with_row(asked: &Asked, j: usize, p: Row, best: u64) -> u64
     requires { best ≤ 134217728 }
-    ensures { result ≡ min best (pair_step (whole_needs needs.now) limits.now p (row_at table.now j)) }
+    ensures { result
+        ≡ min best (pair_step (whole_needs asked.now.needs.now) asked.now.limits.now p (row_at asked.now.table.now j)) }
 {
     if j < ROWS {
-        let y = word_at(table, j * ROW_WORDS);
-        if may_count(needs, limits, p.place, y) {
-            let q = row_at(table, j);
-            return better_step(p, q, needs, limits, best);
+        let y = word_at(asked.table, j * ROW_WORDS);
+        if may_count(asked, p.place, y) {
+            let q = row_at(asked.table, j);
+            return better_step(asked, p, q, best);
         }
         return best;
     }
-    let q = row_at(table, j);
-    better_step(p, q, needs, limits, best)
+    let q = row_at(asked.table, j);
+    better_step(asked, p, q, best)
 }
 
-// The least of the best word so far and those of the steps from row p to the first n rows.
-fn row_least(table: &[u64], n: usize, p: Row, needs: &[u64], limits: &[u64], best: u64) -> u64
+// The least of the best word so far and those of the steps from row p to the rows of the table.
+fn row_least(asked: &Asked, p: Row, best: u64) -> u64
     requires { best ≤ 134217728 }
-    ensures { result ≡ row_least table.now n (whole_needs needs.now) limits.now p best }
+    ensures { result ≡ row_least asked.now.table.now asked.now.count (whole_needs asked.now.needs.now) asked.now.limits.now p best }
 {
     let mut least = best;
-    for j in 0..n {
-        least = with_row(table, j, p, needs, limits, least);
+    for j in 0..asked.count {
+        least = with_row(asked, j, p, least);
     }
     least
 }
 
 // The same from row p where it is of node x. A row from whose place on every word is too great is passed over.
-fn from_row(
-    table: &[u64],
-    n: usize,
-    x: u64,
-    p: Row,
-    needs: &[u64],
-    limits: &[u64],
-    best: u64,
-) -> u64
+fn from_row(asked: &Asked, x: u64, p: Row, best: u64) -> u64
     requires { best ≤ 134217728 }
-    ensures { result ≡ from_row table.now n x (whole_needs needs.now) limits.now p best }
+    ensures { result ≡ from_row asked.now.table.now asked.now.count x (whole_needs asked.now.needs.now) asked.now.limits.now p best }
 {
     if p.node != x {
         return best;
     }
     if p.place < PLACES {
         if p.place * LEAVES < best {
-            return row_least(table, n, p, needs, limits, best);
+            return row_least(asked, p, best);
         }
     }
     best
 }
 
 // The same from row i. The row of another node is told by its first word: most rows are not taken out of the table.
-fn from_place(
-    table: &[u64],
-    n: usize,
-    x: u64,
-    i: usize,
-    needs: &[u64],
-    limits: &[u64],
-    best: u64,
-) -> u64
+fn from_place(asked: &Asked, x: u64, i: usize, best: u64) -> u64
     requires { best ≤ 134217728 }
-    ensures { result ≡ from_row table.now n x (whole_needs needs.now) limits.now (row_at table.now i) best }
+    ensures { result
+        ≡ from_row asked.now.table.now asked.now.count x (whole_needs asked.now.needs.now) asked.now.limits.now
+        (row_at asked.now.table.now i) best }
 {
     if i < ROWS {
-        if word_at(table, i * ROW_WORDS) != x {
+        if word_at(asked.table, i * ROW_WORDS) != x {
             return best;
         }
     }
-    let p = row_at(table, i);
-    from_row(table, n, x, p, needs, limits, best)
+    let p = row_at(asked.table, i);
+    from_row(asked, x, p, best)
 }
 
 // The word of the least step out of node x that counts: a forward edge into y where it opens as far as `needs` has it for y, a back edge into y where
@@ -203,10 +199,16 @@ fn from_place(
 pub fn least_step(table: &[u64], x: u64, needs: &[u64], limits: &[u64]) -> u64
     ensures { result ≡ least_step table.now x (whole_needs needs.now) limits.now }
 {
-    let n = row_count(table);
+    let count = row_count(table);
+    let asked = Asked {
+        table,
+        count,
+        needs,
+        limits,
+    };
     let mut best = NO_STEP;
-    for i in 0..n {
-        best = from_place(table, n, x, i, needs, limits, best);
+    for i in 0..count {
+        best = from_place(&asked, x, i, best);
     }
     best
 }

@@ -19,4 +19,4 @@ loop-i-preserved c =
 
 pub returns : goal.returns
 returns c =
-    all_least _ _ _ _ _ _ c.row_count-n.ensures c.loop-i.auto.i-end c.loop-i-test.false c.loop-i.invariant.1
+    all_least _ _ _ _ _ _ c.row_count-count.ensures c.loop-i.auto.i-end c.loop-i-test.false c.loop-i.invariant.1

@@ -6,4 +6,6 @@ use Prim.Native.Nat.{◌≤◌}
 use Rattle.walk_step.proofs.least_step.Given as goal
 
 abbrev pub invariant-loop-i : goal.invariant-loop-i
-invariant-loop-i l = (l.best ≤ 134217728) × (l.best ≡ least_rows l.table l.n l.x (whole_needs l.needs) l.limits l.i)
+invariant-loop-i l =
+    (l.best ≤ 134217728)
+    × (l.best ≡ least_rows l.asked.table.now l.asked.count l.x (whole_needs l.asked.needs.now) l.asked.limits.now l.i)

@@ -6,4 +6,4 @@ use Prim.Native.Nat.{◌≤◌}
 use Rattle.walk_step.proofs.row_least.Given as goal
 
 abbrev pub invariant-loop-j : goal.invariant-loop-j
-invariant-loop-j l = (l.least ≤ 134217728) × (l.least ≡ row_least l.table l.j (whole_needs l.needs) l.limits l.p l.best)
+invariant-loop-j l = (l.least ≤ 134217728) × (l.least ≡ row_least l.asked.table.now l.j (whole_needs l.asked.needs.now) l.asked.limits.now l.p l.best)
