@@ -1,5 +1,5 @@
 -- Linked rows have the edges that they had, so a text's edges are put from them.
-use Rattle.std.specs.Prelude.{List, map, ◌++◌, ◌≡◌, ℕ, ◌≤◌, length, take, drop, Result}
+use Rattle.std.specs.Prelude.{List, map, ◌++◌, ◌≡◌, ℕ, ◌≤◌, length, take, drop, Result, Ok, Err, ◌⊎◌}
 use Rattle.std.proofs.Common.{sym, subst, ap, ◌∙◌, arith, length-append, length-take, length-drop, length-take-le}
 use Rattle.std.proofs.Math.Seq.{take-append_seam, drop-append_seam}
 use Rattle.spec_base.specs.Basic.{numbers}
@@ -13,6 +13,9 @@ use Rattle.place_text.specs.Placed.{TextPlaced}
 use Rattle.edge_record.specs.declared.Edge.{Edge}
 use Rattle.edge_count.specs.Slots.{table_edges}
 use Rattle.refusal.specs.declared.Fault.{Fault}
+use Rattle.refusal.specs.declared.Refusal.{Refusal}
+use Rattle.refusal.specs.Numbers.{number_of}
+use Rattle.refusal.specs.Told.{told as told_by}
 use Rattle.edge_put.specs.Put.{put_said, PutAs}
 use Rattle.exports.specs.TextEdges.{TextEdges}
 use Rattle.export_edges.specs.EdgesTold.{edges_told}
@@ -63,3 +66,22 @@ module _ (text : List ℕ) {old : List ℕ} {t : Result TextRows (ℕ × ℕ)} {
     -- R, S22, S20, or the edges put
     pub linked_settled : {r : ℕ} → r ≡ edges_told (number_in t) (line_in t) (put_said answer) → TextEdges (read text) before r after
     linked_settled word = text_settled text rows.placed plain_edges word
+
+-- the rows are as many words as are told
+pub put_at_words : {m n : ℕ} {table : List ℕ} {before after : List Edge} {answer : Result ℕ Fault} → m ≡ n
+    → PutAs (table_edges (take m table)) before answer after → PutAs (table_edges (take n table)) before answer after
+put_at_words {table = table} {before} {after} {answer} e h = subst (λ (k : ℕ). PutAs (table_edges (take k table)) before answer after) e h
+
+-- the word for the edges of a text that is read, and for those of one that is refused
+pub word_read : {t : Result TextRows Refusal} {x : TextRows} → t ≡ Ok x → {a b : ℕ ⊎ ℕ} → a ≡ b → {r : ℕ} → r ≡ edges_told 0 0 a
+    → r ≡ edges_told (number_in (told_by t)) (line_in (told_by t)) b
+word_read {t} {x} is {a} {b} same e =
+    e ∙ ap (edges_told 0 0) same ∙ ap (λ (y : Result TextRows Refusal). edges_told (number_in (told_by y)) (line_in (told_by y)) b) (sym is)
+
+pub word_refused : {t : Result TextRows Refusal} (f : Refusal) {number : ℕ} → t ≡ Err f → number ≡ number_of f.fault → {a b : ℕ ⊎ ℕ} → a ≡ b
+    → {r : ℕ} → r ≡ edges_told number f.line a → r ≡ edges_told (number_in (told_by t)) (line_in (told_by t)) b
+word_refused {t} f {number} is number_is {a} {b} same e =
+    e
+    ∙ ap (λ (n : ℕ). edges_told n f.line a) number_is
+    ∙ ap (edges_told (number_of f.fault) f.line) same
+    ∙ ap (λ (y : Result TextRows Refusal). edges_told (number_in (told_by y)) (line_in (told_by y)) b) (sym is)
