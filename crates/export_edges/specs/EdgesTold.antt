@@ -1,7 +1,12 @@
 -- The number that answers for edges, from the parts of the code: a step towards `TextEdges` (exports).
-use Rattle.std.specs.Prelude.{cond, ◌⊎◌, ℕ, ◌%◌, eqb}
+use Rattle.std.specs.Prelude.{cond, ◌⊎◌, Result, Ok, Err, ℕ, ◌%◌, eqb}
 use Rattle.std.proofs.Common.{inl, inr}
 use Rattle.export_word.specs.Word.{refusal_word}
+
+-- what an answer with a refusal's number says: the number, or how many edges are put
+abbrev pub number_said : Result ℕ ℕ → ℕ ⊎ ℕ
+number_said (Err number) = inl number
+number_said (Ok count) = inr count
 
 -- a refusal's word, or how many edges are put; no workload has as many as do not fit
 abbrev pub put_told : ℕ ⊎ ℕ → ℕ

@@ -3,8 +3,8 @@ use borrow.Author.Rules.{rules}
 use Rattle.export_edges.specs.ToldLaws.{all_word, refused_word}
 use Rattle.export_edges.proofs.put_word.Goals as goal
 
-pub returns-in-All : goal.returns-in-All
-returns-in-All c = all_word c.in-All.is
+pub returns-in-Ok : goal.returns-in-Ok
+returns-in-Ok c = all_word c.in-Ok.is
 
-pub returns-in-Refused : goal.returns-in-Refused
-returns-in-Refused c = refused_word c.in-Refused.is c.refusal_word.ensures
+pub returns-in-Err : goal.returns-in-Err
+returns-in-Err c = refused_word c.in-Err.is c.refusal_word.ensures
