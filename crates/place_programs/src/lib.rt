@@ -7,7 +7,7 @@ ghost use Rattle.place_programs.specs.LinePrograms.{begun_line, begun_in};
 use value_tables::{LINE_WORDS, PR};
 use word_list::word_at;
 
-// The programs so far, and the line after the `pr` of each.
+// The programs so far, and the line after the `pr` of each. There is no heap: as many cells stand here as there may be programs.
 #[derive(Clone, Copy)]
 pub struct Begun {
     pub programs: usize,

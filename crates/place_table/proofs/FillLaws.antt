@@ -256,7 +256,8 @@ unfolding rows_said
 rows_not_given never = refused 21 (not_given never) refl refl
 
 -- a given value's lines stand in its table of lines
-pub rows_given : {w : Workload} → Given w → {lines places₀ table₀ : List ℕ} {r : Result Rows Fault} {places table : List ℕ} → lines ≡ line_table (lines_of w)
+pub rows_given : {w : Workload} → Given w → {lines places₀ table₀ : List ℕ} {r : Result Rows Fault} {places table : List ℕ}
+    → lines ≡ line_table (lines_of w)
     → LinesFilled lines places₀ table₀ r places table → RowsSettled w table₀ r table
 rows_given {w} g {table₀ = table₀} {r} {table = table} e f =
     let same = given_value g in

@@ -1,4 +1,3 @@
-pub mod Laws
 pub mod PutRowLaws
 pub mod PlaceRowLaws
 pub mod NodeLaws

@@ -103,7 +103,8 @@ module _ (text : List ℕ) (lines : List Line) (taken : read text ≡ accepted l
         ∙ ap (λ (l : List Place). flat_map words_of (map row_of l)) (sym (take_more (places_from m n 0 n.places) k here))
 
     -- the rows of a node
-    pub node_rows_lem : node_rows (line_table lines) links m area start (length n.places) ≡ flat_map words_of (map row_of (places_from m n 0 n.places))
+    pub node_rows_lem : node_rows (line_table lines) links m area start (length n.places)
+        ≡ flat_map words_of (map row_of (places_from m n 0 n.places))
     node_rows_lem =
         let many = places_from_length m n 0 n.places in
         part_rows (length n.places) (omega arith)
@@ -126,7 +127,8 @@ places_more m (x ∷ nodes) n =
     ∙ sym (append_assoc (places_from m x 0 x.places) (places_of (suc m) nodes) (places_from (suc m + length nodes) n 0 n.places))
     ∙ ap (λ (k : ℕ). places_from m x 0 x.places ++ places_of (suc m) nodes ++ places_from k n 0 n.places) z
 
-node_words_lem : (lines : List Line) (nodes : List Node) (words : List ℕ) → WordsFor lines nodes words → (j : ℕ) {n : Node} → get_elem? nodes j ≡ some n
+node_words_lem : (lines : List Line) (nodes : List Node) (words : List ℕ) → WordsFor lines nodes words → (j : ℕ) {n : Node}
+    → get_elem? nodes j ≡ some n
     → NodeWords lines [] n.places (take (length n.places) (drop (statements_in (take j nodes)) words))
 unfolding WordsFor statements_in
 node_words_lem lines [] words h j e = let z : ◌≡◌ {A = ℕ} 0 1 = cc in absurd (omega arith)

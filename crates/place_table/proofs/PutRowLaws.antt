@@ -160,7 +160,8 @@ module _ (lines firsts programs lengths words : List ℕ) where
         omega arith
 
     pub all_next : (j at : ℕ) (table : List ℕ) → j < n → at ≡ total_of lengths j → table ≡ put_at before 0 (rows j)
-        → (program first : ℕ) (links : Links) (places : ℕ) → program ≡ get_or programs j 0 → first ≡ get_or firsts program 0 → links ≡ links_in lines first
+        → (program first : ℕ) (links : Links) (places : ℕ) → program ≡ get_or programs j 0 → first ≡ get_or firsts program 0
+        → links ≡ links_in lines first
         → places ≡ get_or lengths j 0 → (after : List ℕ) → after ≡ put_at table (at * 8) (node_rows lines links j words at places)
         → after ≡ put_at before 0 (rows (j + 1))
     unfolding all_rows

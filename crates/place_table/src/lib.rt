@@ -1,7 +1,7 @@
 // The table of the places of a workload: one row of eight words for each place of each node.
 #![tactic(auto)]
 
-ghost use Rattle.std.specs.Prelude.{◌≡◌, ◌+◌, ◌*◌, ◌≤◌, length, get_or, Ok};
+ghost use Rattle.std.specs.Prelude.{◌≡◌, ◌+◌, ◌*◌, ◌≤◌, length, Ok};
 ghost use Rattle.word_rows.specs.Put.{put_at};
 ghost use Rattle.place_table.specs.RowWords.{row_words, node_rows, total_of, all_rows, FilledBy};
 ghost use Rattle.place_table.specs.Rows.{RowsSettled};
@@ -45,13 +45,6 @@ struct Node<'a> {
     lines: &'a [u64],
     links: Links,
     number: u64,
-}
-
-// The byte at an index, 0 past the end.
-fn byte_at(bytes: &[u8], i: usize) -> u8
-    ensures { result ≡ get_or bytes.now i 0 }
-{
-    bytes.get(i).copied().unwrap_or(0)
 }
 
 // The row of a node's place from its word, into the table at a place.
@@ -103,7 +96,7 @@ fn put_nodes(lines: &[u64], firsts: &[u64], nodes: Nodes, table: &mut [u64]) -> 
 {
     let mut at: usize = 0;
     for j in 0..nodes.count {
-        let p = byte_at(nodes.programs, j);
+        let p = nodes.programs.get(j).copied().unwrap_or(0);
         let first = word_at(firsts, p as usize);
         let node = Node {
             lines,

@@ -161,7 +161,8 @@ module _ (codes : List ℕ) (node : ℕ) (t : UnfoldingTotals) (all : AllCounted
           told = λ lines c few bodies u there. absurd (none-ne-some u (sym (none_found lines c few) ∙ there));
         }
 
-    pub over_told : (f : NodePlace) → NodeFound codes node (Some f) → (empty c : ChoiceTable) → empty ≡ table_of [] → (n : ℕ) → n ≡ length codes → c ≡ put_all empty (tell_at (n - (f.line + 1)) codes (f.line + 1) f.number)
+    pub over_told : (f : NodePlace) → NodeFound codes node (Some f) → (empty c : ChoiceTable) → empty ≡ table_of []
+        → (n : ℕ) → n ≡ length codes → c ≡ put_all empty (tell_at (n - (f.line + 1)) codes (f.line + 1) f.number)
         → ChoicesOver codes node
         (Ok (Some (record { program = f.program; number = f.number; count = c.count; words = c.words })))
     over_told f found empty c start n many put =
@@ -184,12 +185,14 @@ pub not_told : (w : Workload) (node : ℕ) → (Given w → ⊥) → ChoicesSett
 not_told w node never = refused NotGiven (not_given never)
 
 -- a given value, over the codes of its lines
-pub settled_over : (w : Workload) (node : ℕ) (codes : List ℕ) (r : Result (Maybe Choices) Fault) → Given w → codes ≡ codes_of (lines_of w) → ChoicesOver codes node r
+pub settled_over : (w : Workload) (node : ℕ) (codes : List ℕ) (r : Result (Maybe Choices) Fault) → Given w → codes ≡ codes_of (lines_of w)
+    → ChoicesOver codes node r
     → ChoicesSettled w node r
 unfolding Bodies
 settled_over w node codes r g e h = go (is_too_many (lines_of w)) refl (get_elem? (unfoldings_of (lines_of w)) node) refl
   where
-    go : (b : Bool) → is_too_many (lines_of w) ≡ b → (o : Option Unfolding) → get_elem? (unfoldings_of (lines_of w)) node ≡ o → ChoicesSettled w node r
+    go : (b : Bool) → is_too_many (lines_of w) ≡ b → (o : Option Unfolding) → get_elem? (unfoldings_of (lines_of w)) node ≡ o
+        → ChoicesSettled w node r
     go true p o q = rw (h.many (lines_of w) e p) (refused Unfoldings (too_many g p))
     go false p none q = rw (h.missing (lines_of w) e p q) (missing (taken g p refl) q)
     go false p (some u) q =

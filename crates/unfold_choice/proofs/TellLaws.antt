@@ -67,7 +67,8 @@ module _ (codes : List ℕ) (at k : ℕ) (t : ChoiceTable) where
     Put r = r ≡ put_all t (tell_block (tell_at left codes) (count_at left codes) codes at k)
 
     -- what the block tells is put
-    puts_as : (r : ChoiceTable) (words : List ℕ) → r ≡ put_all t words → tell_block (tell_at left codes) (count_at left codes) codes at k ≡ words → Put r
+    puts_as : (r : ChoiceTable) (words : List ℕ) → r ≡ put_all t words
+        → tell_block (tell_at left codes) (count_at left codes) codes at k ≡ words → Put r
     puts_as r words e same = e ∙ ap (put_all t) (sym same)
 
     pub loop_none : (r : ChoiceTable) → get_or codes at 0 ≡ 1 → k ≡ 0 → r ≡ put_word t (choice_word at 0) → Put r

@@ -1,4 +1,4 @@
--- What is told of a node is settled: a value and a number have one answer. Refusals exclude each other (`refused-once`), and a node is there or not.
+-- What is told of a node is settled: a value and a number have one answer. Refusals exclude each other (`refused_once`), and a node is there or not.
 use Rattle.std.proofs.Math.Option.{none-ne-some}
 use Rattle.std.specs.Prelude.{◌≡◌, refl, ℕ, Option, Some, Result, Ok, Err}
 use Rattle.std.proofs.Common.{sym, ap, ◌∙◌}

@@ -1,6 +1,9 @@
 -- What is told of unfolding number k are its choices, and it makes fewer of them than its run has unfoldings.
-use Rattle.std.specs.Prelude.{Bool, true, false, cond, List, [], ◌∷◌, ◌++◌, map, ◌≡◌, refl, ℕ, zero, suc, ◌+◌, ◌*◌, ◌-◌, ◌/◌, ◌%◌, ◌<◌, ◌≤◌, eqb, leb, ltb, length}
-use Rattle.std.proofs.Common.{append-nil, sym, ap, ap₂, ◌∙◌, div-add-mod', mod-lt, div-lt_iff_lt-mul, mul-le-mul, suc-mul, le-mul_of_pos_right, sub-one, arith, length-append, ltb-true, ltb-false, lt-ltb, le-ltb, le-leb, leb-true, leb-false}
+use Rattle.std.specs.Prelude.{Bool, true, false, cond, List, [], ◌∷◌, ◌++◌, map}
+use Rattle.std.specs.Prelude.{◌≡◌, refl, ℕ, zero, suc, ◌+◌, ◌*◌, ◌-◌, ◌/◌, ◌%◌, ◌<◌, ◌≤◌, eqb, leb, ltb, length}
+use Rattle.std.proofs.Common.{append-nil, sym, ap, ap₂, ◌∙◌}
+use Rattle.std.proofs.Common.{div-add-mod', mod-lt, div-lt_iff_lt-mul, mul-le-mul, suc-mul, le-mul_of_pos_right, sub-one}
+use Rattle.std.proofs.Common.{arith, length-append, ltb-true, ltb-false, lt-ltb, le-ltb, le-leb, leb-true, leb-false}
 use Rattle.std.proofs.lemmas.List.{map-append, length-map}
 use Rattle.std.proofs.Math.Option.{some}
 use Rattle.std.proofs.Math.Dec.{eqb-suc-zero}
@@ -150,7 +153,8 @@ mutual
   tells_run (next x r) at k e h =
       next_tells x r at k e h (λ j f m. tells_item x at j f m) (λ j f m. tells_run r (at + item_lines x) j f m)
 
-  tells_item : (x : Item) (at k : ℕ) (e : ItemExecution x) → get_elem? (item_unfoldings x) k ≡ some e → words_of (item_choices e at) ≡ tell_item x at k
+  tells_item : (x : Item) (at k : ℕ) (e : ItemExecution x) → get_elem? (item_unfoldings x) k ≡ some e
+      → words_of (item_choices e at) ≡ tell_item x at k
   tells_item (statement s) at k perform h = refl
   tells_item (loop r) at k e h = loop_tells r at k e h (λ j f m. tells_run r (at + 1) j f m)
   tells_item (branch a b) at k e h =

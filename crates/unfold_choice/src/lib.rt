@@ -26,7 +26,8 @@ pub const TAKEN: u64 = 4;
 // An unfolding of a workload that S22 lets pass makes fewer choices than this.
 pub const CHOICES: usize = 64;
 
-// The choices of a node: its program, which unfolding of that program it is, how many choices it makes, and a word for each.
+// The choices of a node: its program, which unfolding of that program it is, how many choices it makes, and a word for each. There is no heap: the
+// words stand in as many cells as there may be choices.
 #[derive(Clone, Copy)]
 pub struct Choices {
     pub program: u64,

@@ -72,7 +72,8 @@ over_none codes k h =
     nothing lines c = get_elem?_past (programs_of lines) k (omega (arith, programs_many lines, rw c at h))
 
 -- program k stands after the line
-pub over_told : (codes : List ℕ) (k i : ℕ) (c : Counted) → ProgramLine codes k (Some i) → (n : ℕ) → n ≡ length codes → RunCounted (n - (i + 1)) codes (i + 1) c
+pub over_told : (codes : List ℕ) (k i : ℕ) (c : Counted) → ProgramLine codes k (Some i) → (n : ℕ) → n ≡ length codes
+    → RunCounted (n - (i + 1)) codes (i + 1) c
     → ProgramOver codes k (Some (record { line = i; count = c.count; statements = c.statements }))
 unfolding program_told program_at
 over_told codes k i c h n many got =
@@ -104,7 +105,8 @@ over_told codes k i c h n many got =
         rw (← line, ← count, ← statements)
 
 -- over the lines of a given value that is the promise
-pub settled_over : (w : Workload) (k : ℕ) (codes : List ℕ) (r : Maybe ProgramUnfoldings) → Given w → codes ≡ codes_of (lines_of w) → ProgramOver codes k r
+pub settled_over : (w : Workload) (k : ℕ) (codes : List ℕ) (r : Maybe ProgramUnfoldings) → Given w → codes ≡ codes_of (lines_of w)
+    → ProgramOver codes k r
     → ProgramSettled w k (Ok r)
 settled_over w k codes r g e h = go (get_elem? (programs_of (lines_of w)) k) refl
   where

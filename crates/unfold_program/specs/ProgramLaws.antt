@@ -24,7 +24,8 @@ program_later l lines i =
     let next : suc i + 1 ≡ suc (i + 1) = omega arith in
     rw (many, next)
 
-program_first : (l : Line) (lines : List Line) → program_at (l ∷ lines) 0 ≡ record { body = (run_of (length lines) lines).run; links = links_of lines }
+program_first : (l : Line) (lines : List Line)
+    → program_at (l ∷ lines) 0 ≡ record { body = (run_of (length lines) lines).run; links = links_of lines }
 unfolding program_at
 program_first l lines = let many : length (l ∷ lines) - (0 + 1) ≡ length lines = omega arith in rw many
 

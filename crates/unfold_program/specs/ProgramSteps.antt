@@ -17,4 +17,5 @@ ProgramLine codes k None = programs_before codes (length codes) ≤ k
 -- over the lines of a workload: that there is no program k, or what is told of it
 pub record ProgramOver (codes : List ℕ) (k : ℕ) (r : Option ProgramUnfoldings) : Type 0 where
   pub missing : (lines : List Line) → codes ≡ codes_of lines → get_elem? (programs_of lines) k ≡ none → r ≡ None
-  pub told : (lines : List Line) → codes ≡ codes_of lines → (p : Program) → get_elem? (programs_of lines) k ≡ some p → r ≡ Some (program_told lines k p)
+  pub told : (lines : List Line) → codes ≡ codes_of lines → (p : Program) → get_elem? (programs_of lines) k ≡ some p
+      → r ≡ Some (program_told lines k p)

@@ -1,5 +1,5 @@
--- A line that is no `li` leaves the word (no-link), and so does a link of another child, with a parent that is not seen, or by a key past 31
--- (no-child, not_seen, no_key); any other sets its key's bit (one_key).
+-- A line that is no `li` leaves the word (no_link), and so does a link of another child, with a parent that is not seen, or by a key past 31
+-- (no_child, not_seen, no_key); any other sets its key's bit (one_key).
 use mathlib.Core.Bool.{not}
 use mathlib.Core.Path.{ap}
 use Rattle.place_keys.proofs.KeyLaws.{no_link, no_child, not_seen, no_key, one_key}

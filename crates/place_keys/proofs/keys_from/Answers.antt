@@ -1,6 +1,6 @@
--- What the lines from i on add to each half is what those from `first` on add to 0: each line keeps this (keys-next), and at a `pr` or the end
--- nothing more is added (keys-stop, keys-end). A line of another child adds nothing (other-child). Keys are below 32 (key-small), so the halves
--- stand side by side (keys-packed).
+-- What the lines from i on add to each half is what those from `first` on add to 0: each line keeps this (keys_next), and at a `pr` or the end
+-- nothing more is added (keys_stop, keys_end). A line of another child adds nothing (other_child). Keys are below 32 (key_small), so the halves
+-- stand side by side (keys_packed).
 use Rattle.place_keys.proofs.KeyLaws.{other_child, keys_next, keys_stop, keys_end, key_small, keys_packed}
 use native.Mathlib.Omega.{arith}
 use mathlib.Core.Path.{refl, ◌∙◌}

@@ -4,7 +4,8 @@ use Rattle.place_links.proofs.LinkLaws.{links_program, links_link, links_end}
 use Rattle.place_links.specs.LineLinks.{links_in}
 use mathlib.Core.Path.{refl, ap, ◌∙◌}
 use Rattle.place_links.proofs.links_from.Goals as goal
-use Rattle.place_links.proofs.links_from.Goals.{then-kind-eq-PR-via-then-kind-eq-PR as via-pr, then-kind-eq-PR-via-else-kind-eq-PR+then-kind-eq-LI as via-li}
+use Rattle.place_links.proofs.links_from.Goals.{then-kind-eq-PR-via-then-kind-eq-PR as via-pr}
+use Rattle.place_links.proofs.links_from.Goals.{then-kind-eq-PR-via-else-kind-eq-PR+then-kind-eq-LI as via-li}
 
 pub loop-i-init : goal.loop-i-init
 unfolding links_in

@@ -1,5 +1,5 @@
--- S21 is decided (rows-not-given); of a given value the first words that `line_table` gives are its lines, and their rows are the value's
--- (rows-given).
+-- S21 is decided (rows_not_given); of a given value the first words that `line_table` gives are its lines, and their rows are the value's
+-- (rows_given).
 use native.Mathlib.Omega.{arith}
 use Rattle.law_text.specs.ValueLaws.{given_fits}
 use Rattle.place_table.proofs.FillLaws.{lines_part, rows_not_given, rows_given}

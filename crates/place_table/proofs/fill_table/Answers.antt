@@ -1,4 +1,4 @@
--- Programs and rows are taken from the lines as `FilledBy` says (filled-by).
+-- Programs and rows are taken from the lines as `FilledBy` says (filled_by).
 use Rattle.place_table.proofs.FillLaws.{filled_by}
 use Rattle.place_table.proofs.fill_table.Goals as goal
 

@@ -1,5 +1,5 @@
--- A value that no text gives is refused by 21 (not-told). Else the codes are those of its lines, so what is told over them is the promise
--- (settled-over).
+-- A value that no text gives is refused by 21 (not_told). Else the codes are those of its lines, so what is told over them is the promise
+-- (settled_over).
 use Rattle.unfold_choice.proofs.OverLaws.{not_told, settled_over}
 use Rattle.unfold_program.specs.GivenCodes.{table_fits, table_many, codes_few, codes_given}
 use Rattle.law_text.specs.ValueLaws.{given_fits}

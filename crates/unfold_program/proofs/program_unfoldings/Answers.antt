@@ -1,4 +1,4 @@
--- A value that no text gives is refused by 21. Else the codes are those of its lines, so what is told over them is the promise (settled-over).
+-- A value that no text gives is refused by 21. Else the codes are those of its lines, so what is told over them is the promise (settled_over).
 use Rattle.unfold_program.proofs.LineLaws.{settled_over}
 use Rattle.unfold_program.specs.GivenCodes.{table_fits, table_many, codes_given}
 use Rattle.unfold_program.specs.ProgramSettled.ProgramSettled.{refused}
