@@ -1,7 +1,7 @@
 // The code of two kinds (kind_table) where it is the only one that is looked up: taken out of words that hold four.
 #![tactic(auto)]
 
-ghost use Rattle.std.specs.Prelude.{cond, ◌≡◌, leb};
+ghost use Rattle.std.specs.Prelude.{cond, ◌≡◌, get_or, leb};
 ghost use Rattle.kind_table.specs.Codes.{code_of, codes_from};
 ghost use Rattle.kind_pair.specs.Packed.{packed, halves_of};
 
@@ -27,23 +27,17 @@ fn packed_word(a: u32, b: u32, c: u32, d: u32) -> u64
 }
 
 // The codes of a row in two words.
-#[derive(Clone, Copy)]
-struct Halves {
-    first: u64,
-    last: u64,
-}
-
-fn halves_of(row: [u32; KINDS]) -> Halves
+fn halves_of(row: [u32; KINDS]) -> [u64; 2]
     ensures { result ≡ halves_of row }
 {
-    Halves {
-        first: packed_word(row[0], row[1], row[2], row[3]),
-        last: packed_word(row[4], row[5], row[6], row[7]),
-    }
+    [
+        packed_word(row[0], row[1], row[2], row[3]),
+        packed_word(row[4], row[5], row[6], row[7]),
+    ]
 }
 
 // The codes of a kind that an edge leaves in two words: all is known beforehand, so that the compiler keeps the words of the eight kinds.
-fn halves_from(k: StatementKind) -> Halves
+fn halves_from(k: StatementKind) -> [u64; 2]
     ensures { result ≡ halves_of (codes_from k) }
 {
     let table = letters();
@@ -59,14 +53,11 @@ fn halves_from(k: StatementKind) -> Halves
     }
 }
 
-// The half that holds the code of the kind with this number.
-fn half_for(i: u64, first: u64, last: u64) -> u64
-    ensures { result ≡ cond (leb 4 i) last first }
+// The half that holds the code of the kind with this number. No index but these two, so that the words stay in registers.
+fn half_for(i: u64, halves: [u64; 2]) -> u64
+    ensures { result ≡ cond (leb 4 i) (get_or halves 1 0) (get_or halves 0 0) }
 {
-    if PACKED <= i {
-        return last;
-    }
-    first
+    if PACKED <= i { halves[1] } else { halves[0] }
 }
 
 // The code of two kinds.
@@ -75,6 +66,6 @@ pub fn pair_code(k: StatementKind, l: StatementKind) -> u32
 {
     let i = kind_number(l);
     let halves = halves_from(k);
-    let word = half_for(i, halves.first, halves.last);
+    let word = half_for(i, halves);
     ((word >> (i % PACKED * CODE_BITS)) % CODES) as u32
 }

@@ -2,7 +2,6 @@
 use mathlib.Core.List.{List}
 use mathlib.Core.Path.{ap, ◌∙◌}
 use Prim.Native.Nat.{ℕ}
-use borrow.Author.Rules.{rules}
 use Rattle.kind_table.specs.Codes.{letter_table}
 use Rattle.kind_pair.specs.Packed.{halves_of}
 use Rattle.kind_table.specs.CodeLaws.{row_of}

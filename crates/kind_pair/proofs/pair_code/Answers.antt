@@ -1,5 +1,4 @@
 -- The word that holds the code is taken, and the code out of its place in it (code-packed).
-use borrow.Author.Rules.{rules}
 use Rattle.kind_pair.specs.PackedLaws.{code_packed}
 use Rattle.kind_pair.proofs.pair_code.Goals as goal
 
