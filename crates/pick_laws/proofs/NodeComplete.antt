@@ -1,4 +1,5 @@
--- Where one edge stands for all, a dangerous closed walk of any length passes the test. It rests on `return_tested` (PickLaws of specs/), so it stands here.
+-- Where one edge stands for all, a dangerous closed walk of any length passes the test. It rests on `return_tested` (PickLaws of specs/), so it
+-- stands here.
 use Rattle.std.specs.Prelude.{◌≡◌}
 use Rattle.std.proofs.Math.Bool.{true}
 use Prim.Native.Nat.{ℕ, ◌≤◌}

@@ -1,4 +1,5 @@
--- Where a walk in normal form leads: its dangerous pair goes from u over v to w, and forward steps go on from w to u, two fewer than the walk has. It rests on `edge_opens`, so it stands here.
+-- Where a walk in normal form leads: its dangerous pair goes from u over v to w, and forward steps go on from w to u, two fewer than the walk has. It
+-- rests on `edge_opens`, so it stands here.
 use Rattle.std.specs.Prelude.{◌≡◌, Bool, not, ◌&&◌, List, ◌⊎◌}
 use Rattle.std.proofs.Math.Path.{refl, ap, subst}
 use Rattle.std.proofs.Common.{sym}

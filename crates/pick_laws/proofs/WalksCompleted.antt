@@ -1,4 +1,5 @@
--- Whatever steps complete a walk in normal form, the tests of Completing pass. It rests on `edge_opens` (CompletingLaws of specs/), so it stands here.
+-- Whatever steps complete a walk in normal form, the tests of Completing pass. It rests on `edge_opens` (CompletingLaws of specs/), so it stands
+-- here.
 use Rattle.std.specs.Prelude.{◌≡◌, not, List}
 use Rattle.std.proofs.Math.Path.{refl, subst}
 use Rattle.std.proofs.Common.{sym}

@@ -23,7 +23,8 @@ use Rattle.pick_laws.specs.Completing.{least_below, opens_below, leaves_at, exac
 use Rattle.pick_laws.specs.Opening.{open_below, open_most, below_pair}
 use Rattle.pick_laws.specs.LeastLaws.{least_some, greatest_some}
 use Rattle.pick_laws.specs.CompletingLaws.{SmallPlaces}
-use Rattle.pick_laws.specs.Demands.{ending_needs, needs_in, starting_limit, limits_in, counts, going_in, going_after, begun, fits, can_end, can_finish}
+use Rattle.pick_laws.specs.Demands.{ending_needs, needs_in, starting_limit, limits_in, counts, going_in, going_after, begun, fits, can_end}
+use Rattle.pick_laws.specs.Demands.{can_finish}
 use Rattle.pick_laws.specs.DemandLaws.{passed_only, counts_forward, counts_back}
 
 -- a step that counts

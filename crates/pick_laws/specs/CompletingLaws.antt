@@ -1,4 +1,5 @@
--- What the edges that stand for all tell of single edges. That the tests of Completing pass for whatever steps complete a walk is in `WalksCompleted` of proofs/.
+-- What the edges that stand for all tell of single edges. That the tests of Completing pass for whatever steps complete a walk is in `WalksCompleted`
+-- of proofs/.
 use Rattle.std.specs.Prelude.{◌≡◌, ◌⊎◌}
 use Rattle.std.proofs.Math.Path.{refl, ap}
 use Rattle.std.proofs.Common.{inl, inr}

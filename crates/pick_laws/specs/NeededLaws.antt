@@ -93,7 +93,8 @@ module _ (forwards backs : Picks) (n s : ℕ) where
   needed_cases : (r x : ℕ) → (needed forwards backs n s (suc r) x ≡ 0)
       ⊎ (needed forwards backs n s (suc r) x ≡ suc (leaves_first backs n (exactly forwards n s r) x))
   unfolding needed
-  needed_cases r x = go (any (opens_into forwards (needed forwards backs n s r) x) (numbers n)) (suc (leaves_first backs n (exactly forwards n s r) x))
+  needed_cases r x =
+      go (any (opens_into forwards (needed forwards backs n s r) x) (numbers n)) (suc (leaves_first backs n (exactly forwards n s r) x))
     where
       go : (b : Bool) (k : ℕ) → (cond b 0 k ≡ 0) ⊎ (cond b 0 k ≡ k)
       go true k = inl refl

@@ -1,6 +1,8 @@
 -- The edges between nodes of a word stand for all edges of the graph among these nodes.
-use Rattle.std.specs.Prelude.{◌≡◌, refl, Bool, true, false, cond, ◌&&◌, List, ◌⊎◌, ℕ, ◌+◌, ◌*◌, ◌/◌, ◌%◌, ◌≤◌, ◌<◌, eqb, get_or}
+use Rattle.std.specs.Prelude.{◌≡◌, refl, Bool, true, false, cond, ◌&&◌, List, ◌⊎◌, ℕ, ◌+◌, ◌*◌, ◌/◌, ◌%◌, ◌≤◌, ◌<◌, eqb, length, get_or, replicate}
 use Rattle.std.proofs.Common.{sym, ap, ap₂, ◌∙◌, inl, inr, arith, eqb-true}
+use Rattle.std.proofs.Math.ListN.{length-replicate}
+use Rattle.std.proofs.lemmas.Grind.{same_number_lists}
 use Rattle.std.proofs.Math.Option.{Option, none, some, none-ne-some}
 use Rattle.spec_base.specs.Basic.{has}
 use Rattle.law_base.specs.BoolLaws.{decide, and_of}
@@ -11,8 +13,19 @@ use Rattle.law_walk.specs.Parts.{only, only_edge}
 use Rattle.pick_laws.specs.declared.Pick.{Pick}
 use Rattle.pick_laws.specs.PickLaws.{Picked}
 use Rattle.edge_word.specs.Coding.{forward_pick, back_pick, entry, forwards_in, backs_in}
-use Rattle.walk_reach.specs.FilledLaws.{filled_at}
+use Rattle.walk_reach.specs.Layers.{filled, FilledBy}
+use Rattle.walk_reach.specs.FilledLaws.{filled_length, filled_at}
 use Rattle.walk_first.specs.FirstSteps.{chosen_word, chosen_words, chosen_edges}
+
+-- where a function tells each of so many words, they are filled by it
+pub all_told : {told : ℕ → ℕ → Type 0} (f : ℕ → ℕ) (n : ℕ) {words : List ℕ} → ((i x : ℕ) → i < n → told i x → x ≡ f i)
+    → FilledBy told n (replicate n 0) words → words ≡ filled n f n
+all_told f n {words} same p =
+    same_number_lists words (filled n f n) (size ∙ sym (filled_length n f n))
+    (λ i h. let l : i < n = omega (arith, size) in same i _ l (p.inside i l) ∙ sym (filled_at n f n i (omega arith) l))
+  where
+    size : length words ≡ n
+    size = p.size ∙ length-replicate {A = ℕ} n 0
 
 -- the word for two nodes
 chosen_entry : (table : List ℕ) (nodes u v : ℕ) → u < 64 → v < 64

@@ -24,7 +24,7 @@ use walk_lead::{lead_rows, wrap_start};
 use walk_limit::limits_in;
 use walk_need::needs_in;
 use walk_nodes::rows_in;
-use walk_reach::joined_rows;
+use walk_reach::{fill_words, joined_rows};
 use walk_return::shortest_return;
 use walk_step::{least_step, loose_at};
 use walk_ways::{first_start, openings, ways_to};
@@ -248,9 +248,7 @@ fn chosen_words(table: &[u64], nodes: u64) -> [u64; PAIRS]
     ensures { result ≡ chosen_words table.now nodes }
 {
     let mut words = [0u64; PAIRS];
-    for x in 0..PAIRS {
-        words[x] = chosen_word(table, nodes, x);
-    }
+    fill_words(&mut words, PAIRS, |x| chosen_word(table, nodes, x));
     words
 }
 
