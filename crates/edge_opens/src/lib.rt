@@ -8,7 +8,8 @@ ghost use Rattle.edge_word.specs.Coding.{forward_pick, back_pick};
 
 use edge_word::{PLACES, back_edge, forward_edge};
 
-// W4: a back edge that leaves at a place below this is dangerous after the forward edge of the word; 0 for no edge.
+// W4: a back edge that leaves at a place below this is dangerous after the forward edge of the word; 0 for no edge. A number and not an Option: the
+// search takes the greatest of them.
 pub fn opens_below(word: u64) -> u64
     ensures { result ≡ opens_below (forward_pick word) }
 {
@@ -22,7 +23,7 @@ pub fn opens_below(word: u64) -> u64
     e.enters
 }
 
-// The place at which the back edge of a word leaves; 1024 where there is no edge.
+// The place at which the back edge of a word leaves; 1024 where there is no edge. A number and not an Option: the search takes the least of them.
 pub fn leaves_at(word: u64) -> u64
     ensures { (result ≡ leaves_at (back_pick word)) × (result ≤ 1024) }
 {

@@ -1,5 +1,6 @@
 // The word of an edge between two of 64 nodes, as the two tables of the search hold it, and the edge that it stands for (specs/Coding). The word of
-// no edge is 0. Of two edges between the same nodes the one with the greater word makes a dangerous pair wherever the other does.
+// no edge is 0: a table is one word for each pair of nodes, so an edge or none is a word too, and no Option. Of two edges between the same nodes the
+// one with the greater word makes a dangerous pair wherever the other does.
 #![tactic(auto)]
 
 ghost use Rattle.std.specs.Prelude.{cond, ◌≡◌};
@@ -24,6 +25,7 @@ const EDGE: u64 = 1048576;
 const LOOSE_EDGE: u64 = 2097152;
 
 // The word of a forward edge from place i to place j, 0 where none stands.
+#[tactic(auto, unfolding(crate::specs::Coding::forward_word))]
 pub fn forward_word(stands: bool, loose: bool, i: u64, j: u64) -> u64
     ensures { result ≡ cond stands (forward_word loose i j) 0 }
 {
@@ -37,6 +39,7 @@ pub fn forward_word(stands: bool, loose: bool, i: u64, j: u64) -> u64
 }
 
 // The word of a back edge from place k to place l, 0 where none stands.
+#[tactic(auto, unfolding(crate::specs::Coding::back_word))]
 pub fn back_word(stands: bool, k: u64, l: u64) -> u64
     ensures { result ≡ cond stands (back_word k l) 0 }
 {
@@ -47,6 +50,7 @@ pub fn back_word(stands: bool, k: u64, l: u64) -> u64
 }
 
 // The forward edge that word x stands for.
+#[tactic(auto, unfolding(crate::specs::Coding::forward_edge))]
 pub fn forward_edge(x: u64) -> Pick
     ensures { result ≡ forward_edge x }
 {
@@ -58,6 +62,7 @@ pub fn forward_edge(x: u64) -> Pick
 }
 
 // The back edge that word y stands for.
+#[tactic(auto, unfolding(crate::specs::Coding::back_edge))]
 pub fn back_edge(y: u64) -> Pick
     ensures { result ≡ back_edge y }
 {

@@ -14,7 +14,7 @@ const ENTERS: u64 = 128;
 
 const BACK: u64 = 64;
 
-// Greater than the word of every step: no step.
+// Greater than the word of every step: no step. A word and not None, since the least of the words is taken.
 pub const NO_STEP: u64 = 134217728;
 
 // A step out of a node: the place left, the place entered, whether it is a back edge, and the node entered.
@@ -27,6 +27,7 @@ pub struct Taken {
 }
 
 // The word of a step.
+#[tactic(auto, unfolding(crate::specs::StepWord::step_word))]
 pub fn step_word(leaves: u64, enters: u64, back: bool, into: u64) -> u64
     ensures { result ≡ step_word leaves enters (flow_of back) into }
 {
@@ -39,6 +40,7 @@ pub fn step_word(leaves: u64, enters: u64, back: bool, into: u64) -> u64
 }
 
 // The step that a word stands for.
+#[tactic(auto, unfolding(crate::specs::StepWord::step_of))]
 pub fn step_of(word: u64) -> Taken
     ensures { result ≡ step_of word }
 {

@@ -142,7 +142,8 @@ impl<'a> Turn<'a> {
     }
 }
 
-// For each node that has a row of back edges the first place at which one leaves it.
+// For each node that has a row of back edges the first place at which one leaves it. The list stands beside that of the rows and not in it, since the
+// rows are what walk_reach promises.
 fn first_places(backs: &[u64], turns: &[u64; NODES]) -> [u64; NODES]
     requires { turns.now ≡ rows_filled backs.now }
     ensures { result ≡ early_filled backs.now }
@@ -193,7 +194,8 @@ fn layers_at(rows: &[u64], d: usize, n: usize) -> [u64; NODES]
 }
 
 // The first node below `below`, and below 64, by way of which a dangerous pair leads from a node to one from which that node is reached in at most d
-// steps; where there is none, `below` or 64, whichever is less. A closed walk that begins with the pair's back edge begins at such a node.
+// steps; where there is none, `below` or 64, whichever is less: it is where the walk starts then, and so no None. A closed walk that begins with the
+// pair's back edge begins at such a node.
 pub fn wrap_start(forwards: &[u64], backs: &[u64], rows: &[u64], d: usize, below: usize) -> usize
     ensures { result ≡ wrap_start forwards.now backs.now rows.now d below }
 {

@@ -31,7 +31,8 @@ fn return_from(rows: &[u64], nodes: u64, u: usize, most: usize) -> usize
     most
 }
 
-// The fewest steps of a way back to a node from one of the nodes to which pairs lead from it, or 64 where no pair has a way back.
+// The fewest steps of a way back to a node from one of the nodes to which pairs lead from it, or 64 where no pair has a way back: a number and not
+// None, since it is the least so far that bounds each search.
 pub fn shortest_return(rows: &[u64], leads: &[u64]) -> usize
     ensures { result ≡ shortest_return rows.now leads.now }
 {

@@ -87,7 +87,8 @@ fn starts_at(rows: &[u64], leads: &[u64], s: usize, steps: usize) -> bool
     has_bit(open_word(rows, leads, s, steps), s as u64)
 }
 
-// The first node at which a dangerous walk of so many steps can start so, or 64 where there is none.
+// The first node at which a dangerous walk of so many steps can start so, or 64 where there is none: a number and not None, since the search for a
+// start on a pair across the end (walk_lead) goes up to it.
 pub fn first_start(rows: &[u64], leads: &[u64], steps: usize) -> usize
     ensures { result ≡ first_start rows.now leads.now steps }
 {

@@ -1,5 +1,4 @@
 -- A word 0 is no edge, and no pair is dangerous without both; else the two tests are those of the picks that the words stand for.
-use borrow.Author.Rules.{rules}
 use Rattle.edge_word.specs.Coding.{forward_pick, back_pick}
 use borrow.Author.Tests.{eq-eqb, ne_eqb, lt-ltb, le-ltb}
 use Rattle.edge_opens.proofs.dangerous.Goals as goal

@@ -1,8 +1,6 @@
 -- No edge leaves at 1024 (leaves_none); the word of an edge at its own place (leaves-edge).
 use Rattle.edge_opens.specs.OpensLaws.{leaves_none, leaves_edge}
 use native.Mathlib.Omega.{arith}
-use Prim.Native.Nat.{◌-◌}
-use borrow.Author.Rules.{rules}
 use Rattle.edge_opens.proofs.leaves_at.Goals as goal
 
 pub returns-then-word-eq0 : goal.returns-then-word-eq0

@@ -1,5 +1,4 @@
 -- No edge opens nothing (opens-none); one from a loose place opens all places (opens-loose), another those below where it enters (opens-place).
-use borrow.Author.Rules.{rules}
 use Rattle.edge_opens.specs.OpensLaws.{opens_none, opens_loose, opens_place}
 use Rattle.edge_opens.proofs.opens_below.Goals as goal
 
