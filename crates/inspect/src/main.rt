@@ -345,7 +345,9 @@ fn list_areas(out: Stdout, w: Workload) {
 // ---- from the arguments to the listings
 
 // What is asked of a text that is read, or its refusal.
-fn list_value(out: Stdout, text: &[u8], list: impl Fn(Stdout, Workload)) {
+fn list_value<List: Fn(Stdout, Workload)>(out: Stdout, text: &[u8], list: List)
+    requires { List.IsAlwaysCallable list }
+{
     match text_read::read_text(text) {
         Ok(w) => list(out, w),
         Err(r) => print_refused(out, r.fault.number(), r.line),
