@@ -1,6 +1,6 @@
 -- The paths through `write_run` and `write_block`.
 use mathlib.Core.List.{List}
-use mathlib.Core.Path.{◌≡◌, refl, sym, ap, ◌∙◌}
+use mathlib.Core.Path.{◌≡◌, sym, ap, ◌∙◌}
 use Prim.Native.Nat.{ℕ, ◌+◌, ◌-◌, ◌/◌, ◌%◌, ◌≤◌, ◌<◌}
 use native.Mathlib.Omega.{arith}
 use lib.ListN.{length, get_or}
@@ -15,7 +15,7 @@ use Rattle.unfold_count.specs.CountWords.{Held, Looked}
 use Rattle.unfold_count.proofs.WordLaws.{looked_run}
 use Rattle.unfold_laws.specs.CountEnds.{after_onward, item_onward, count_onward}
 use Rattle.unfold.specs.Laid.{Known, Parted}
-use Rattle.unfold.specs.declared.Part.{Part}
+use Rattle.unfold.specs.declared.Part.TheVariants.{Nothing, Once, Twice}
 
 -- ---- what is known of the runs behind
 
@@ -70,67 +70,46 @@ line_known codes counts i left h e = record { held = h; enough = omega arith }
 
 -- ---- the parts of a block
 
-abbrev part : ℕ → ℕ → ℕ → ℕ → Part
-part turns at one two = record { turns = turns; at = at; one = one; two = two }
-
 module _ (codes counts : List ℕ) (at left k : ℕ) (known : Known codes counts (at + 1) left) (body : Counted)
     (b : RunCounted left codes (at + 1) body) where
-  pub loop_none : (one two : ℕ) → get_or codes at 0 ≡ 1 → k ≡ 0 → Parted codes counts left at k (part 0 (at + 1) one two)
+  pub loop_none : get_or codes at 0 ≡ 1 → k ≡ 0 → Parted codes counts left at k Nothing
   unfolding write_loop
-  loop_none one two c z =
-      record {
-        known = known;
-        none = λ e write. write_loop_lem codes at k write (count_at left codes) c ∙ simp (eq-eqb k 0 z);
-        once = λ e. let y : ◌≡◌ {A = ℕ} 0 1 = e in absurd (omega arith);
-        twice = λ e. absurd (e refl);
-      }
+  loop_none c z write = write_loop_lem codes at k write (count_at left codes) c ∙ simp (eq-eqb k 0 z)
 
-  pub loop_one : (two : ℕ) → get_or codes at 0 ≡ 1 → (k ≡ 0 → ⊥) → k ≤ body.count → Parted codes counts left at k (part 1 (at + 1) (k - 1) two)
+  pub loop_one : get_or codes at 0 ≡ 1 → (k ≡ 0 → ⊥) → k ≤ body.count → Parted codes counts left at k (Once (at + 1) (k - 1))
   unfolding write_loop
-  loop_one two c z h =
-      record {
-        known = known;
-        none = λ e. let y : ◌≡◌ {A = ℕ} 1 0 = e in absurd (omega arith);
-        once = λ e write.
-            write_loop_lem codes at k write (count_at left codes) c
-            ∙ rw (← b.counting.same) (simp (ne_eqb k 0 z, le-leb k body.count h));
-        twice = λ e d. absurd (d refl);
-      }
+  loop_one c z h = (
+    known,
+    λ write.
+        write_loop_lem codes at k write (count_at left codes) c
+        ∙ rw (← b.counting.same) (simp (ne_eqb k 0 z, le-leb k body.count h)),
+  )
 
   pub loop_two : get_or codes at 0 ≡ 1 → (k ≡ 0 → ⊥) → body.count < k
-      → Parted codes counts left at k (part 2 (at + 1) ((k - 1 - body.count) / body.count) ((k - 1 - body.count) % body.count))
+      → Parted codes counts left at k (Twice (at + 1) ((k - 1 - body.count) / body.count) ((k - 1 - body.count) % body.count))
   unfolding write_loop
-  loop_two c z h =
-      record {
-        known = known;
-        none = λ e. let y : ◌≡◌ {A = ℕ} 2 0 = e in absurd (omega arith);
-        once = λ e. let y : ◌≡◌ {A = ℕ} 2 1 = e in absurd (omega arith);
-        twice = λ e d write.
-            write_loop_lem codes at k write (count_at left codes) c
-            ∙ rw (← b.counting.same) (simp (ne_eqb k 0 z, lt-leb k body.count h));
-      }
+  loop_two c z h = (
+    known,
+    λ write.
+        write_loop_lem codes at k write (count_at left codes) c
+        ∙ rw (← b.counting.same) (simp (ne_eqb k 0 z, lt-leb k body.count h)),
+  )
 
-  pub branch_one : (two : ℕ) → (get_or codes at 0 ≡ 1 → ⊥) → k < body.count → Parted codes counts left at k (part 1 (at + 1) k two)
+  pub branch_one : (get_or codes at 0 ≡ 1 → ⊥) → k < body.count → Parted codes counts left at k (Once (at + 1) k)
   unfolding write_branch
-  branch_one two c h =
-      record {
-        known = known;
-        none = λ e. let y : ◌≡◌ {A = ℕ} 1 0 = e in absurd (omega arith);
-        once = λ e write.
-            write_branch_lem codes at k write (count_at left codes) c
-            ∙ rw (← b.counting.same) (simp (lt-ltb k body.count h));
-        twice = λ e d. absurd (d refl);
-      }
+  branch_one c h = (
+    known,
+    λ write.
+        write_branch_lem codes at k write (count_at left codes) c
+        ∙ rw (← b.counting.same) (simp (lt-ltb k body.count h)),
+  )
 
-  pub branch_two : (n : ℕ) → n ≡ length codes → (other : ℕ) → other ≡ after n body.end → (two : ℕ) → (get_or codes at 0 ≡ 1 → ⊥)
-      → body.count ≤ k → Parted codes counts left at k (part 1 other (k - body.count) two)
+  pub branch_two : (n : ℕ) → n ≡ length codes → (other : ℕ) → other ≡ after n body.end → (get_or codes at 0 ≡ 1 → ⊥)
+      → body.count ≤ k → Parted codes counts left at k (Once other (k - body.count))
   unfolding write_branch
-  branch_two n many other o two c h =
-      record {
-        known = other_known codes counts at left known body b n many other o;
-        none = λ e. let y : ◌≡◌ {A = ℕ} 1 0 = e in absurd (omega arith);
-        once = λ e write.
-            write_branch_lem codes at k write (count_at left codes) c
-            ∙ rw (← b.counting.same, other_after codes counts at left known body b n many other o) (simp (le-ltb k body.count h));
-        twice = λ e d. absurd (d refl);
-      }
+  branch_two n many other o c h = (
+    other_known codes counts at left known body b n many other o,
+    λ write.
+        write_branch_lem codes at k write (count_at left codes) c
+        ∙ rw (← b.counting.same, other_after codes counts at left known body b n many other o) (simp (le-ltb k body.count h)),
+  )

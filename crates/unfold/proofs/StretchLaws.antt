@@ -1,5 +1,5 @@
 -- Statement after statement: the steps of `write_stretch`, and what a stretch is to the run that it begins.
-use mathlib.Core.Bool.{Bool, true, false, cond}
+use mathlib.Core.Bool.{Bool, true, false, cond, not}
 use mathlib.Core.List.{List, [], ◌∷◌, ◌++◌, append_assoc}
 use mathlib.Core.Path.{◌≡◌, refl, sym, ap, ◌∙◌}
 use Prim.Native.Nat.{ℕ, suc, ◌+◌, ◌-◌, ◌/◌, ◌%◌, ◌≤◌, ◌<◌}
@@ -7,10 +7,8 @@ use native.Mathlib.Nat.{add-zero, sub-zero}
 use native.Mathlib.Numerals.{add-one}
 use native.Mathlib.Omega.{arith}
 use lib.Bits.{bit_or}
-use lib.Dec.{ltb}
 use lib.ListN.{length, get_or, take, drop, set, length-set, length-take, take-append-drop}
 use lib.Seq.{take-suc-set, drop-set-lt, drop-drop}
-use borrow.Author.Tests.{ltb-true, ltb-false}
 use borrow.Rule.Slice.PartMut.{put_mid}
 use Rattle.unfold_laws.specs.declared.Counted.{Counted}
 use Rattle.unfold_laws.specs.Codes.{item_at, count_at}
@@ -22,6 +20,12 @@ use Rattle.unfold_count.specs.Counted.{RunCounted}
 use Rattle.unfold.specs.declared.Stretch.{Stretch}
 use Rattle.unfold.specs.Laid.{Laid, Stretching, BlockAt, Stretched, Known}
 use Rattle.unfold.proofs.LaidLaws.{laid_fits, lays_nothing, lays_length, lays_full, lays_end, lays_both}
+
+-- a run ends at a line where no statement or block begins
+pub ends_told : (item : Bool) (n : ℕ) → (item ≡ true → n ≤ 2) → (n ≤ 2 → item ≡ true) → (not item ≡ true → 2 < n) × (not item ≡ false → n ≤ 2)
+ends_told true n small back = (λ e. let never : ⊥ = cc in absurd never, λ e. small refl)
+ends_told false n small back =
+    let over : n ≤ 2 → ⊥ = λ few. let is = back few in cc in (λ e. omega (arith, over), λ e. let never : ⊥ = cc in absurd never)
 
 module _ (codes words marks : List ℕ) (seen at : ℕ) (before : List ℕ) where
   pub stretch_none : Stretching codes words marks seen at before 0 seen before
@@ -94,15 +98,16 @@ module _ (codes words marks : List ℕ) (seen at : ℕ) (before : List ℕ) wher
         (stretch_laid m sees area s))
 
     -- the next line begins no statement: a block, or none either
-    pub stretched_at : at + m < length codes → (code : ℕ) → code ≡ get_or codes (at + m) 0 → (code ≡ 0 → ⊥)
-        → Stretched codes words marks seen at before (told (ltb 2 code)) area
-    stretched_at inside code e some =
+    pub stretched_at : at + m < length codes → (get_or codes (at + m) 0 ≡ 0 → ⊥) → (stops : Bool)
+        → (stops ≡ true → 2 < get_or codes (at + m) 0) → (stops ≡ false → get_or codes (at + m) 0 ≤ 2)
+        → Stretched codes words marks seen at before (told stops) area
+    stretched_at inside some stops none block =
         record {
           laid = s;
           whole = λ stop left k enough.
               lays_end _ _ _ before m area (first_words left k enough)
-              (write_stop codes words marks sees (at + m) k (left - m) inside (omega (arith, ltb-true 2 code stop, e))) (stretch_laid m sees area s);
-          block = λ go. record { inside = inside; some = λ z. some (e ∙ z); few = omega (arith, ltb-false 2 code go, e) };
+              (write_stop codes words marks sees (at + m) k (left - m) inside (none stop)) (stretch_laid m sees area s);
+          block = λ go. record { inside = inside; some = some; few = block go };
         }
 
 -- ---- a stretch, and the run after it

@@ -4,6 +4,7 @@ use Rattle.unfold_laws.specs.Codes.{count_at}
 use Rattle.unfold_laws.specs.Writing.{write_block, write_at}
 use Rattle.unfold_count.specs.CountWords.{Held}
 use Rattle.unfold.specs.declared.Part.{Part}
+use Rattle.unfold.specs.declared.Part.TheVariants.{Nothing, Once, Twice}
 use Rattle.unfold.specs.declared.Stretch.{Stretch}
 
 -- words over an area from its start on; past them it is as it was
@@ -50,10 +51,12 @@ pub record Countable (codes counts : List ℕ) : Type 0 where
   pub short : length counts < 2048
   pub all : (length counts ≡ 0 → ⊥) → length counts ≡ length codes
 
--- number k of a block is so many turns of the run at a line
-pub record Parted (codes counts : List ℕ) (left at k : ℕ) (r : Part) : Type 0 where
-  pub known : Known codes counts r.at left
-  pub none : r.turns ≡ 0 → (write : ℕ → ℕ → List ℕ) → write_block write (count_at left codes) codes at k ≡ []
-  pub once : r.turns ≡ 1 → (write : ℕ → ℕ → List ℕ) → write_block write (count_at left codes) codes at k ≡ write r.at r.one
-  pub twice : (r.turns ≡ 0 → ⊥) → (r.turns ≡ 1 → ⊥) → (write : ℕ → ℕ → List ℕ)
-      → write_block write (count_at left codes) codes at k ≡ write r.at r.one ++ write r.at r.two
+-- what number k of a block is: nothing, or turns of the run at a line
+abbrev pub Parted : List ℕ → List ℕ → ℕ → ℕ → ℕ → Part → Type 0
+Parted codes counts left at k Nothing = (write : ℕ → ℕ → List ℕ) → write_block write (count_at left codes) codes at k ≡ []
+Parted codes counts left at k (Once line number) =
+    Known codes counts line left
+    × ((write : ℕ → ℕ → List ℕ) → write_block write (count_at left codes) codes at k ≡ write line number)
+Parted codes counts left at k (Twice line one two) =
+    Known codes counts line left
+    × ((write : ℕ → ℕ → List ℕ) → write_block write (count_at left codes) codes at k ≡ write line one ++ write line two)

@@ -9,7 +9,7 @@ ghost use Rattle.unfold_laws.specs.WordCode.{packed};
 ghost use Rattle.unfold_laws.specs.Writing.{write_block, write_at};
 ghost use Rattle.unfold_count.specs.CountWords.{Held};
 ghost use Rattle.value_tables.specs.Lines.{table_codes};
-ghost use Rattle.unfold.specs.LineWords.{words_by, marks_by};
+ghost use Rattle.unfold.specs.LineWords.{words_by, marks_by, codes_in, words_in, marks_in};
 ghost use Rattle.unfold.specs.Laid.{Laid, Stretched, Known, Countable, Parted};
 ghost use Rattle.unfold.specs.Written.{table_at, Rows, Rowed, LineFits, Lined, AllFit, AllTold};
 ghost use Rattle.unfold.specs.PieceTable.{Wide, table_none};
@@ -22,7 +22,7 @@ use refusal::Fault;
 use spec_text::{CELLS, Workload};
 use unfold_bounds::{line_after, totals_refused};
 use unfold_count::{measure, run_at};
-use unfold_laws::{BRANCH, LOOP, PROGRAM, STATEMENT, UNFOLDINGS, WORD_LINES};
+use unfold_laws::{LineCode, UNFOLDINGS, WORD_LINES};
 use value_given::is_given;
 use value_lines::line_table;
 use value_tables::{LINE_WORDS, code_at, id_at, lines_in, mark_at};
@@ -47,6 +47,14 @@ pub struct LastTold {
     pub length: u64,
 }
 
+// What unfoldings are read off: a table of lines, the words for the runs at them, as far as they reach, and whether statements are told by their ids.
+#[derive(Clone, Copy)]
+struct Source<'a> {
+    lines: &'a [u64],
+    counts: &'a [u32],
+    ids: bool,
+}
+
 // What is laid of a stretch of statements: how many words, what is seen after them, and whether the run ends there, or the area, or a block is next.
 #[derive(Clone, Copy)]
 struct Stretch {
@@ -55,13 +63,12 @@ struct Stretch {
     ends: bool,
 }
 
-// A block's part in an unfolding: so many turns of the run at a line, the first by its number, the second by its.
+// What an unfolding of a block is: nothing, or one turn or two of the run at a line, each by its number.
 #[derive(Clone, Copy)]
-struct Part {
-    turns: u8,
-    at: usize,
-    one: u64,
-    two: u64,
+enum Part {
+    Nothing,
+    Once { line: usize, number: u64 },
+    Twice { line: usize, one: u64, two: u64 },
 }
 
 // What is written so far: how many unfoldings, and how many places they take.
@@ -72,36 +79,35 @@ struct Used {
 }
 
 // The word of a line with what is seen there: by its id, or by its number.
-fn place_word(lines: &[u64], ids: bool, at: usize, seen: u32) -> u64
-    requires { at < length (table_codes lines.now) }
-    ensures { result ≡ packed (get_or (words_by ids lines.now) at 0) seen }
+fn place_word(source: &Source, at: usize, seen: u32) -> u64
+    requires { at < length (codes_in source.now) }
+    ensures { result ≡ packed (get_or (words_in source.now) at 0) seen }
 {
-    if ids {
-        return id_at(lines, at) as u64 + seen as u64 * WORD_LINES;
+    if source.ids {
+        return id_at(source.lines, at) as u64 + seen as u64 * WORD_LINES;
     }
     at as u64 + seen as u64 * WORD_LINES
 }
 
 // The mark of a line; where ids are written, no line is marked.
-fn mark_by(lines: &[u64], ids: bool, at: usize) -> u32
-    ensures { result ≡ get_or (marks_by ids lines.now) at 0 }
+fn mark_by(source: &Source, at: usize) -> u32
+    ensures { result ≡ get_or (marks_in source.now) at 0 }
 {
-    if ids {
+    if source.ids {
         return 0;
     }
-    mark_at(lines, at)
+    mark_at(source.lines, at)
 }
 
 // Lays the words of the statements from a line on over an area, up to the first line that is none, or to the area's end; answers how many,
 // what is seen after them (each one's mark is), and whether the run ends there.
-fn write_stretch(lines: &[u64], ids: bool, seen: u32, at: usize, out: &mut [u64]) -> Stretch
-    ensures { Stretched (table_codes lines.now) (words_by ids lines.now) (marks_by ids lines.now) seen at
+fn write_stretch(source: &Source, seen: u32, at: usize, out: &mut [u64]) -> Stretch
+    ensures { Stretched (codes_in source.now) (words_in source.now) (marks_in source.now) seen at
         out.old result out.new }
 {
-    let n = lines_in(lines);
+    let n = lines_in(source.lines);
     let mut sees = seen;
-    let mut m: usize = 0;
-    while m < out.len() {
+    for m in 0..out.len() {
         let line = at + m;
         if n <= line {
             return Stretch {
@@ -110,58 +116,53 @@ fn write_stretch(lines: &[u64], ids: bool, seen: u32, at: usize, out: &mut [u64]
                 ends: true,
             };
         }
-        let code = code_at(lines, line);
-        if code != STATEMENT {
-            return Stretch {
-                many: m,
-                sees,
-                ends: code > BRANCH,
-            };
+        let code = code_at(source.lines, line);
+        match code {
+            LineCode::Statement => {}
+            _ => {
+                return Stretch {
+                    many: m,
+                    sees,
+                    ends: !code.begins_item(),
+                };
+            }
         }
-        out[m] = place_word(lines, ids, line, sees);
-        sees = sees | mark_by(lines, ids, line);
-        m += 1;
+        out[m] = place_word(source, line, sees);
+        sees |= mark_by(source, line);
     }
     Stretch {
-        many: m,
+        many: out.len(),
         sees,
         ends: true,
     }
 }
 
 // The line after the block at a place.
-fn block_end(lines: &[u64], counts: &[u32], at: usize, left: usize) -> usize
-    requires { (at < length (table_codes lines.now)) × (get_or (table_codes lines.now) at 0 ≡ 0 → ⊥)
-        × Known (table_codes lines.now) counts.now (at + 1) left }
-    ensures { result ≡ (item_at (count_at left (table_codes lines.now)) (table_codes lines.now) at).end }
+fn block_end(source: &Source, at: usize, left: usize) -> usize
+    requires { (at < length (codes_in source.now)) × (get_or (codes_in source.now) at 0 ≡ 0 → ⊥)
+        × Known (codes_in source.now) source.now.counts.now (at + 1) left }
+    ensures { result ≡ (item_at (count_at left (codes_in source.now)) (codes_in source.now) at).end }
 {
-    let n = lines_in(lines);
-    let body = run_at(lines, counts, at + 1, left);
+    let n = lines_in(source.lines);
+    let body = run_at(source.lines, source.counts, at + 1, left);
     let second = line_after(n, body.end);
-    if code_at(lines, at) == LOOP {
-        return second;
+    match code_at(source.lines, at) {
+        LineCode::Loop => second,
+        _ => {
+            let two = run_at(source.lines, source.counts, second, left);
+            line_after(n, two.end)
+        }
     }
-    let two = run_at(lines, counts, second, left);
-    line_after(n, two.end)
 }
 
 // Lays the words of unfolding number k of the run at a place over an area, as far as it reaches; answers how many found room.
 // The leftmost choice changes slowest: a block takes the quotient by what the run after it counts, that run the remainder.
-// What is seen inside a block is not seen after it.
+// What is seen inside a block is not seen after it. The loop stays a `while`, since a turn lays as many words as a stretch and a block have.
 #[cycle(write_block_write_run_write_turn)]
-fn write_run(
-    lines: &[u64],
-    counts: &[u32],
-    ids: bool,
-    seen: u32,
-    at: usize,
-    left: usize,
-    k: u64,
-    out: &mut [u64],
-) -> usize
-    requires { Known (table_codes lines.now) counts.now at left }
-    ensures { Laid (write_at left (table_codes lines.now) (words_by ids lines.now)
-        (marks_by ids lines.now) seen at k) out.old result out.new }
+fn write_run(source: &Source, seen: u32, at: usize, left: usize, k: u64, out: &mut [u64]) -> usize
+    requires { Known (codes_in source.now) source.now.counts.now at left }
+    ensures { Laid (write_at left (codes_in source.now) (words_in source.now)
+        (marks_in source.now) seen at k) out.old result out.new }
 {
     let mut m: usize = 0;
     let mut here = at;
@@ -169,27 +170,18 @@ fn write_run(
     let mut rest = left;
     let mut number = k;
     while m < out.len() {
-        let s = write_stretch(lines, ids, sees, here, &mut out[m..]);
+        let s = write_stretch(source, sees, here, &mut out[m..]);
         m += s.many;
         if s.ends {
             return m;
         }
         let line = here + s.many;
         rest = rest - s.many - 1;
-        here = block_end(lines, counts, line, rest);
-        let more = run_at(lines, counts, here, rest);
+        here = block_end(source, line, rest);
+        let more = run_at(source.lines, source.counts, here, rest);
         let n = more.count;
         sees = s.sees;
-        m += write_block(
-            lines,
-            counts,
-            ids,
-            sees,
-            line,
-            rest,
-            number / n,
-            &mut out[m..],
-        );
+        m += write_block(source, sees, line, rest, number / n, &mut out[m..]);
         number = number % n;
     }
     m
@@ -197,121 +189,84 @@ fn write_run(
 
 // What unfolding number k of the block at a place is: of a loop no turn, one turn of each, two turns of each; of a branch the first arm's, then the
 // second's.
-fn block_part(lines: &[u64], counts: &[u32], at: usize, left: usize, k: u64) -> Part
-    requires { (at < length (table_codes lines.now)) × Known (table_codes lines.now) counts.now (at + 1) left }
-    ensures { Parted (table_codes lines.now) counts.now left at k result }
+fn block_part(source: &Source, at: usize, left: usize, k: u64) -> Part
+    requires { (at < length (codes_in source.now)) × Known (codes_in source.now) source.now.counts.now (at + 1) left }
+    ensures { Parted (codes_in source.now) source.now.counts.now left at k result }
 {
     let first = at + 1;
-    let body = run_at(lines, counts, first, left);
+    let body = run_at(source.lines, source.counts, first, left);
     let n = body.count;
-    if code_at(lines, at) != LOOP {
-        if k < n {
-            return Part {
-                turns: 1,
-                at: first,
-                one: k,
-                two: 0,
-            };
+    match code_at(source.lines, at) {
+        LineCode::Loop => {
+            if k == 0 {
+                return Part::Nothing;
+            }
+            if k <= n {
+                return Part::Once {
+                    line: first,
+                    number: k - 1,
+                };
+            }
+            let j = k - 1 - n;
+            Part::Twice {
+                line: first,
+                one: j / n,
+                two: j % n,
+            }
         }
-        let second = line_after(lines_in(lines), body.end);
-        return Part {
-            turns: 1,
-            at: second,
-            one: k - n,
-            two: 0,
-        };
-    }
-    if k == 0 {
-        return Part {
-            turns: 0,
-            at: first,
-            one: 0,
-            two: 0,
-        };
-    }
-    if k <= n {
-        return Part {
-            turns: 1,
-            at: first,
-            one: k - 1,
-            two: 0,
-        };
-    }
-    let j = k - 1 - n;
-    Part {
-        turns: 2,
-        at: first,
-        one: j / n,
-        two: j % n,
+        _ => {
+            if k < n {
+                return Part::Once {
+                    line: first,
+                    number: k,
+                };
+            }
+            let second = line_after(lines_in(source.lines), body.end);
+            Part::Once {
+                line: second,
+                number: k - n,
+            }
+        }
     }
 }
 
 // Lays the words of unfolding number k of the block at a place in the same way, turn after turn.
 #[cycle(write_block_write_run_write_turn)]
-fn write_block(
-    lines: &[u64],
-    counts: &[u32],
-    ids: bool,
-    seen: u32,
-    at: usize,
-    left: usize,
-    k: u64,
-    out: &mut [u64],
-) -> usize
-    requires { (at < length (table_codes lines.now)) × Known (table_codes lines.now) counts.now (at + 1) left }
-    ensures { Laid (write_block (write_at left (table_codes lines.now) (words_by ids lines.now)
-        (marks_by ids lines.now) seen) (count_at left (table_codes lines.now)) (table_codes lines.now) at k)
+fn write_block(source: &Source, seen: u32, at: usize, left: usize, k: u64, out: &mut [u64]) -> usize
+    requires { (at < length (codes_in source.now)) × Known (codes_in source.now) source.now.counts.now (at + 1) left }
+    ensures { Laid (write_block (write_at left (codes_in source.now) (words_in source.now)
+        (marks_in source.now) seen) (count_at left (codes_in source.now)) (codes_in source.now) at k)
         out.old result out.new }
 {
-    let p = block_part(lines, counts, at, left, k);
-    if p.turns == 0 {
-        return 0;
+    match block_part(source, at, left, k) {
+        Part::Nothing => 0,
+        Part::Once { line, number } => write_turn(source, seen, line, left, number, out),
+        Part::Twice { line, one, two } => {
+            let m = write_turn(source, seen, line, left, one, out);
+            m + write_run(source, seen, line, left, two, &mut out[m..])
+        }
     }
-    let m = write_turn(lines, counts, ids, seen, p.at, left, p.one, out);
-    if p.turns == 1 {
-        return m;
-    }
-    m + write_run(lines, counts, ids, seen, p.at, left, p.two, &mut out[m..])
 }
 
 // Lays the words of unfolding number k of the run at a place in the same way; a run of statements alone is laid with no call.
 #[cycle(write_block_write_run_write_turn)]
-fn write_turn(
-    lines: &[u64],
-    counts: &[u32],
-    ids: bool,
-    seen: u32,
-    at: usize,
-    left: usize,
-    k: u64,
-    out: &mut [u64],
-) -> usize
-    requires { Known (table_codes lines.now) counts.now at left }
-    ensures { Laid (write_at left (table_codes lines.now) (words_by ids lines.now)
-        (marks_by ids lines.now) seen at k) out.old result out.new }
+fn write_turn(source: &Source, seen: u32, at: usize, left: usize, k: u64, out: &mut [u64]) -> usize
+    requires { Known (codes_in source.now) source.now.counts.now at left }
+    ensures { Laid (write_at left (codes_in source.now) (words_in source.now)
+        (marks_in source.now) seen at k) out.old result out.new }
 {
-    let s = write_stretch(lines, ids, seen, at, out);
+    let s = write_stretch(source, seen, at, out);
     let m = s.many;
     if s.ends {
         return m;
     }
-    m + write_run(
-        lines,
-        counts,
-        ids,
-        s.sees,
-        at + m,
-        left - m,
-        k,
-        &mut out[m..],
-    )
+    m + write_run(source, s.sees, at + m, left - m, k, &mut out[m..])
 }
 
 // Writes the unfoldings k to n - 1 of the run at a place one after the other, the rest of the area lent on each time, and tells each.
+// A recursion and no loop: the rest of the area is lent on (docs/RULES.md, L1). The cells are three arrays, as they are lent to `unfold_into`.
 fn write_rows(
-    lines: &[u64],
-    counts: &[u32],
-    ids: bool,
+    source: &Source,
     at: usize,
     left: usize,
     k: u64,
@@ -323,18 +278,18 @@ fn write_rows(
     lengths: &mut [u64],
     area: &mut [u64],
 ) -> Used
-    requires known { Known (table_codes lines.now) counts.now at left }
-    requires rows { Rows (tabulate (row number (table_codes lines.now) (words_by ids lines.now) (marks_by ids lines.now) at left) k (n - k))
+    requires known { Known (codes_in source.now) source.now.counts.now at left }
+    requires rows { Rows (tabulate (row number (codes_in source.now) (words_in source.now) (marks_in source.now) at left) k (n - k))
         (table_at t programs.old starts.old lengths.old) area.old }
-    ensures { Rowed (tabulate (row number (table_codes lines.now) (words_by ids lines.now)
-        (marks_by ids lines.now) at left) k (n - k))
+    ensures { Rowed (tabulate (row number (codes_in source.now) (words_in source.now)
+        (marks_in source.now) at left) k (n - k))
         (table_at t programs.old starts.old lengths.old) area.old
         (table_at result programs.new starts.new lengths.new) area.new }
 {
     if n <= k {
         return t;
     }
-    let m = write_run(lines, counts, ids, 0, at, left, k, area);
+    let m = write_run(source, 0, at, left, k, area);
     let j = t.count;
     programs[j] = number;
     starts[j] = t.used as u64;
@@ -344,9 +299,7 @@ fn write_rows(
         used: t.used + m,
     };
     write_rows(
-        lines,
-        counts,
-        ids,
+        source,
         at,
         left,
         k + 1,
@@ -362,9 +315,7 @@ fn write_rows(
 
 // Writes the unfoldings of the program after a `pr` line into the rest of the area; another line has none.
 fn write_line(
-    lines: &[u64],
-    counts: &[u32],
-    ids: bool,
+    source: &Source,
     i: usize,
     number: u8,
     t: Used,
@@ -373,24 +324,23 @@ fn write_line(
     lengths: &mut [u64],
     area: &mut [u64],
 ) -> Used
-    requires i_in_bounds { (i < length (table_codes lines.now)) × Held (table_codes lines.now) counts.now 0 }
-    requires line_fits { LineFits (line_pieces (table_codes lines.now) (words_by ids lines.now) (marks_by ids lines.now) i number)
+    requires i_in_bounds { (i < length (codes_in source.now)) × Held (codes_in source.now) source.now.counts.now 0 }
+    requires line_fits { LineFits (line_pieces (codes_in source.now) (words_in source.now) (marks_in source.now) i number)
         (table_at t programs.old starts.old lengths.old) area.old }
-    ensures { Lined (line_pieces (table_codes lines.now) (words_by ids lines.now)
-        (marks_by ids lines.now) i number)
+    ensures { Lined (line_pieces (codes_in source.now) (words_in source.now)
+        (marks_in source.now) i number)
         (table_at t programs.old starts.old lengths.old) area.old
         (table_at result programs.new starts.new lengths.new) area.new }
 {
-    if code_at(lines, i) != PROGRAM {
-        return t;
+    match code_at(source.lines, i) {
+        LineCode::Program => {}
+        _ => return t,
     }
-    let left = lines_in(lines) - (i + 1);
-    let c = run_at(lines, counts, i + 1, left);
+    let left = lines_in(source.lines) - (i + 1);
+    let c = run_at(source.lines, source.counts, i + 1, left);
     let used = t.used;
     write_rows(
-        lines,
-        counts,
-        ids,
+        source,
         i + 1,
         left,
         0,
@@ -409,40 +359,34 @@ fn next_program(lines: &[u64], i: usize, number: u8) -> u8
     requires { (i < length (table_codes lines.now)) × (number < 255) }
     ensures { result ≡ line_programs (table_codes lines.now) i number }
 {
-    if code_at(lines, i) == PROGRAM {
-        return number + 1;
+    match code_at(lines, i) {
+        LineCode::Program => number + 1,
+        _ => number,
     }
-    number
 }
 
 // Writes the unfoldings of all programs one after the other from the area's start, and tells each.
 fn write_all(
-    lines: &[u64],
-    counts: &[u32],
-    ids: bool,
+    source: &Source,
     programs: &mut [u8],
     starts: &mut [u64],
     lengths: &mut [u64],
     area: &mut [u64],
 ) -> Used
-    requires held { Held (table_codes lines.now) counts.now 0 }
-    requires all_fit { AllFit (pieces_before (table_codes lines.now) (words_by ids lines.now) (marks_by ids lines.now)
-        (length (table_codes lines.now))) area.old }
+    requires held { Held (codes_in source.now) source.now.counts.now 0 }
+    requires all_fit { AllFit (pieces_before (codes_in source.now) (words_in source.now) (marks_in source.now)
+        (length (codes_in source.now))) area.old }
     requires wide { Wide (table_none programs.old starts.old lengths.old) }
-    ensures { AllTold (pieces_before (table_codes lines.now) (words_by ids lines.now)
-        (marks_by ids lines.now) (length (table_codes lines.now)))
+    ensures { AllTold (pieces_before (codes_in source.now) (words_in source.now)
+        (marks_in source.now) (length (codes_in source.now)))
         (table_none programs.old starts.old lengths.old) area.old
         (table_at result programs.new starts.new lengths.new) area.new }
 {
     let mut t = Used { count: 0, used: 0 };
     let mut number: u8 = 0;
-    let mut i: usize = 0;
-    while i < lines_in(lines) {
-        t = write_line(
-            lines, counts, ids, i, number, t, programs, starts, lengths, area,
-        );
-        number = next_program(lines, i, number);
-        i += 1;
+    for i in 0..lines_in(source.lines) {
+        t = write_line(source, i, number, t, programs, starts, lengths, area);
+        number = next_program(source.lines, i, number);
     }
     t
 }
@@ -467,7 +411,12 @@ fn unfold_counted(
     if let Some(fault) = totals_refused(t, area.len() as u64) {
         return Err(fault);
     }
-    let all = write_all(lines, counts, ids, programs, starts, lengths, area);
+    let source = Source {
+        lines,
+        counts: &*counts,
+        ids,
+    };
+    let all = write_all(&source, programs, starts, lengths, area);
     Ok(all.count as u64)
 }
 

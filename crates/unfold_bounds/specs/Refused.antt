@@ -1,7 +1,8 @@
 -- S22, S20: the refusal of totals over an area with so much room, or none.
-use Rattle.std.specs.Prelude.{Bool, cond, ◌||◌, ◌≡◌, ℕ, ltb, Option, Some, None}
+use Rattle.std.specs.Prelude.{Bool, cond, ◌||◌, ◌≡◌, ℕ, ◌≤◌, ◌<◌, ltb, Option, Some, None}
 use Rattle.std.proofs.Math.Bool.{true, false}
-use Rattle.std.proofs.Math.Path.{refl, ap}
+use Rattle.std.proofs.Math.Path.{refl, sym, ap}
+use borrow.Author.Tests.{lt-ltb, le-ltb}
 use Rattle.refusal.specs.declared.Fault.{Fault}
 use Rattle.refusal.specs.declared.Fault.TheVariants.{Area, Unfoldings}
 use Rattle.unfold_laws.specs.declared.UnfoldingTotals.{UnfoldingTotals}
@@ -15,6 +16,30 @@ refusal_by many short = cond many (Some Unfoldings) (cond short (Some Area) None
 
 unfoldable pub refused_by : UnfoldingTotals → ℕ → Option Fault
 refused_by t room = cond (many_in t) (Some Unfoldings) (cond (ltb room t.statements) (Some Area) None)
+
+-- ---- the paths to a refusal
+
+module _ (t : UnfoldingTotals) (room : ℕ) where
+  pub many_nodes : 64 < t.count → Some Unfoldings ≡ refused_by t room
+  unfolding refused_by many_in
+  many_nodes h = sym (simp (lt-ltb 64 t.count h))
+
+  pub many_statements : 512 < t.statements → Some Unfoldings ≡ refused_by t room
+  unfolding refused_by many_in
+  many_statements h = sym (rw (lt-ltb 512 t.statements h) (go (ltb 64 t.count)))
+    where
+      go : (b : Bool) → refusal_by (b || true) (ltb room t.statements) ≡ Some Unfoldings
+      go true = refl
+      go false = refl
+
+  module _ (p : t.count ≤ 64) (q : t.statements ≤ 512) where
+    pub short_room : room < t.statements → Some Area ≡ refused_by t room
+    unfolding refused_by many_in
+    short_room s = sym (simp (le-ltb 64 t.count p, le-ltb 512 t.statements q, lt-ltb room t.statements s))
+
+    pub none_refused : t.statements ≤ room → None ≡ refused_by t room
+    unfolding refused_by many_in
+    none_refused s = sym (simp (le-ltb 64 t.count p, le-ltb 512 t.statements q, le-ltb room t.statements s))
 
 -- ---- what a refusal tells
 

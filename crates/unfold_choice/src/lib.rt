@@ -14,7 +14,7 @@ use refusal::Fault;
 use spec_text::Workload;
 use unfold_bounds::{line_after, totals_refused};
 use unfold_count::{count_all, count_place, count_run};
-use unfold_laws::{BRANCH, LOOP, PROGRAM, STATEMENT, STATEMENTS};
+use unfold_laws::{LineCode, STATEMENTS};
 use value_given::is_given;
 use value_lines::line_table;
 use value_tables::{LINE_WORDS, code_at, lines_in};
@@ -90,18 +90,20 @@ fn tell_run(lines: &[u64], at: usize, left: usize, k: u64, t: ChoiceTable) -> Ch
         return t;
     }
     let code = code_at(lines, at);
-    if code > BRANCH {
+    if !code.begins_item() {
         return t;
     }
     let rest = left - 1;
-    if code == STATEMENT {
-        return tell_run(lines, at + 1, rest, k, t);
+    match code {
+        LineCode::Statement => tell_run(lines, at + 1, rest, k, t),
+        _ => {
+            let x = count_place(lines, at, rest);
+            let more = count_run(lines, x.end, rest);
+            let n = more.count;
+            let c = tell_block(lines, at, rest, k / n, t);
+            tell_run(lines, x.end, rest, k % n, c)
+        }
     }
-    let x = count_place(lines, at, rest);
-    let more = count_run(lines, x.end, rest);
-    let n = more.count;
-    let c = tell_block(lines, at, rest, k / n, t);
-    tell_run(lines, x.end, rest, k % n, c)
 }
 
 // The same for the block at a place: of a loop no turn, one turn of each, two turns of each; of a branch the first arm's, then the second's.
@@ -114,26 +116,30 @@ fn tell_block(lines: &[u64], at: usize, left: usize, k: u64, t: ChoiceTable) -> 
     let first = at + 1;
     let body = count_run(lines, first, left);
     let n = body.count;
-    if code_at(lines, at) == LOOP {
-        if k == 0 {
-            return t.put(at, 0);
+    match code_at(lines, at) {
+        LineCode::Loop => {
+            if k == 0 {
+                return t.put(at, 0);
+            }
+            if k <= n {
+                let once = t.put(at, 1);
+                return tell_run(lines, first, left, k - 1, once);
+            }
+            let j = k - 1 - n;
+            let twice = t.put(at, 2);
+            let turn = tell_run(lines, first, left, j / n, twice);
+            tell_run(lines, first, left, j % n, turn)
         }
-        if k <= n {
-            let once = t.put(at, 1);
-            return tell_run(lines, first, left, k - 1, once);
+        _ => {
+            if k < n {
+                let one = t.put(at, 1);
+                return tell_run(lines, first, left, k, one);
+            }
+            let second = line_after(lines_in(lines), body.end);
+            let two = t.put(at, 2);
+            tell_run(lines, second, left, k - n, two)
         }
-        let j = k - 1 - n;
-        let twice = t.put(at, 2);
-        let turn = tell_run(lines, first, left, j / n, twice);
-        return tell_run(lines, first, left, j % n, turn);
     }
-    if k < n {
-        let one = t.put(at, 1);
-        return tell_run(lines, first, left, k, one);
-    }
-    let second = line_after(lines_in(lines), body.end);
-    let two = t.put(at, 2);
-    tell_run(lines, second, left, k - n, two)
 }
 
 // Finds a node: the unfoldings of program after program are passed, until those of a program reach it.
@@ -144,8 +150,9 @@ fn find_node(lines: &[u64], node: u64) -> Option<NodePlace>
     let mut program: u64 = 0;
     let mut number = node;
     for line in 0..n {
-        if code_at(lines, line) != PROGRAM {
-            continue;
+        match code_at(lines, line) {
+            LineCode::Program => {}
+            _ => continue,
         }
         let c = count_run(lines, line + 1, n - (line + 1));
         if number < c.count {

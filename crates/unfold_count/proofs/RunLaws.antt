@@ -6,7 +6,7 @@ use native.Mathlib.Nat.{mul-le-mul, mul-pos}
 use native.Mathlib.Numerals.{sub-one}
 use native.Mathlib.Omega.{arith}
 use lib.ListN.{length, get_or}
-use borrow.Author.Tests.{lt-ltb, le-ltb, lt-leb, le-leb}
+use borrow.Author.Tests.{lt-leb, le-leb}
 use Rattle.unfold_laws.specs.Cap.{cap, plus, times, cap_small, cap_large, cap_le}
 use Rattle.unfold_laws.specs.Codes.{codes_of, after, nothing_at, statement_at, loop_counted, branch_counted, next_counted, item_at, count_at}
 use Rattle.unfold_laws.specs.CodesLaws.{

@@ -1,7 +1,7 @@
 -- Words for runs: what a word says is what is counted, so a run is put together from the words behind it; and totals summed from the last line
 -- on.
 use mathlib.Core.Bool.{Bool, true, false, cond}
-use mathlib.Core.List.{List, map}
+use mathlib.Core.List.{List}
 use mathlib.Core.Path.{◌≡◌, refl, sym, ap, ap₂, ◌∙◌}
 use Prim.Native.Nat.{ℕ, zero, suc, ◌+◌, ◌-◌, ◌*◌, ◌/◌, ◌%◌, ◌≤◌, ◌<◌}
 use native.Mathlib.Decide.{dec_lt, ℕ_discrete}
@@ -10,17 +10,16 @@ use lib.Dec.{eqb, leb, ltb}
 use lib.ListN.{length, get_or, set, length-set}
 use lib.Seq.{ext_get_or, get_or-set_same, get_or-set_other}
 use borrow.Author.Tests.{ltb-true, ltb-false, leb-true, leb-false}
-use Rattle.spec_base.specs.Basic.{numbers}
 use Rattle.unfold_laws.specs.declared.Counted.{Counted}
 use Rattle.unfold_laws.specs.declared.UnfoldingTotals.{UnfoldingTotals}
 use Rattle.unfold_laws.specs.Cap.{cap, plus, times, cap_le}
 use Rattle.unfold_laws.specs.Codes.{after, nothing_at, next_counted, item_at, count_at}
 use Rattle.unfold_laws.specs.CodesLaws.{count_positive, count_past, count_stop, count_next}
-use Rattle.unfold_laws.specs.CountEnds.{count_from, Onward, after_onward, item_onward, count_onward, from_enough}
+use Rattle.unfold_laws.specs.CountEnds.{count_from, after_onward, item_onward, count_onward, from_enough}
 use Rattle.unfold_laws.specs.Pieces.{line_totals, totals_before}
 use Rattle.value_tables.specs.TableLaws.{told_length, told_at}
-use Rattle.unfold_count.specs.Counted.{Counting, RunCounted, Totalled, AllCounted}
-use Rattle.unfold_count.specs.CountWords.{count_word, counted_in, count_words, Held, Behind, Looked, Filled, Measured}
+use Rattle.unfold_count.specs.Counted.{Counting, RunCounted, Totalled}
+use Rattle.unfold_count.specs.CountWords.{count_word, counted_in, count_words, Held, Usable, Behind, Looked, Filled}
 use Rattle.unfold_count.proofs.RunLaws.{counted_run, run_next}
 use Rattle.unfold_count.proofs.AllLaws.{lines_all}
 
@@ -85,37 +84,54 @@ module _ (codes counts : List ℕ) (from at left : ℕ) (h : Held codes counts f
           ∙ counted_back c (count_small codes left at).0 (count_small codes left at).1)
       go (no p) = l.past (omega (arith, p))
 
+-- words that may be used at a place may be used further on
+module _ (codes counts : List ℕ) (at left : ℕ) (u : Usable codes counts at left) where
+  usable_on : (e : ℕ) → at ≤ e → Usable codes counts e left
+  usable_on e on =
+      record {
+        enough = λ less. omega (arith, u.enough (omega (arith, less)));
+        told = λ k far less. u.told k (omega arith) less;
+      }
+
+  -- the word at the place says what is counted there
+  pub usable_run : at < length counts → (r : Counted) → r ≡ counted_in (get_or counts at 0) → RunCounted left codes at r
+  usable_run less r e =
+      let same = from_enough codes left at (u.enough less) in
+      let c = count_at left codes at in
+      counted_self codes left at r
+      (e
+      ∙ ap counted_in (u.told at (omega arith) less ∙ ap count_word same)
+      ∙ counted_back c (count_small codes left at).0 (count_small codes left at).1)
+
+-- past the words any number of lines may be left
+pub usable_past : (codes counts : List ℕ) (at left : ℕ) → length counts ≤ at → Usable codes counts at left
+usable_past codes counts at left past =
+    record { enough = λ less. absurd (omega arith); told = λ e on less. absurd (omega arith) }
+
+pub behind_past : (codes counts : List ℕ) (at left : ℕ) → at < length codes → length counts ≤ at → Behind codes counts at left
+behind_past codes counts at left inside past =
+    record { inside = inside; usable = usable_past codes counts (at + 1) left (omega arith) }
+
 -- the places behind a line
 module _ (codes counts : List ℕ) (at left : ℕ) (b : Behind codes counts at left) where
-  pub behind_run : (e : ℕ) → at + 1 ≤ e → (r : Counted) → Looked left codes counts e r → RunCounted left codes e r
-  behind_run e on r l = looked_run codes counts (at + 1) e left b.held on (omega (arith, b.enough)) r l
-
-  pub behind_first : (r : Counted) → Looked left codes counts (at + 1) r → RunCounted left codes (at + 1) r
-  behind_first r l = behind_run (at + 1) (omega arith) r l
-
   pub behind_second : (body : Counted) → RunCounted left codes (at + 1) body → (other : ℕ) → other ≡ after (length codes) body.end
-      → (r : Counted) → Looked left codes counts other r → RunCounted left codes other r
-  behind_second body p other o r l =
+      → Usable codes counts other left
+  behind_second body p other o =
       let end = count_onward codes left (at + 1) in
       let same : body.end ≡ (count_at left codes (at + 1)).end = ap (λ (x : Counted). x.end) p.counting.same in
-      behind_run other (omega (arith, (after_onward codes (at + 1) _ end).on, ap (after (length codes)) same, o)) r l
+      usable_on codes counts (at + 1) left b.usable other (omega (arith, (after_onward codes (at + 1) _ end).on, ap (after (length codes)) same, o))
 
-  pub behind_left : left ≡ length codes - (at + 1)
-  behind_left = omega (arith, b.enough)
-
-  pub behind_onward : (x : Counted) → Counting (item_at (count_at left codes) codes at) x
-      → (more : Counted) → Looked left codes counts x.end more → RunCounted left codes x.end more
-  behind_onward x p more l =
+  pub behind_onward : (x : Counted) → Counting (item_at (count_at left codes) codes at) x → Usable codes counts x.end left
+  behind_onward x p =
       let end = item_onward codes at b.inside (count_at left codes) (count_onward codes left) in
       let same : x.end ≡ (item_at (count_at left codes) codes at).end = ap (λ (y : Counted). y.end) p.same in
-      behind_run x.end (omega (arith, end.on)) more l
+      usable_on codes counts (at + 1) left b.usable x.end (omega (arith, end.on))
 
   pub behind_next : (x : Counted) → Counting (item_at (count_at left codes) codes at) x → (more r : Counted) → get_or codes at 0 ≤ 2
-      → Looked left codes counts x.end more → r ≡ next_counted x more → RunCounted (left + 1) codes at r
-  behind_next x p more r few l e =
+      → RunCounted left codes x.end more → r ≡ next_counted x more → RunCounted (left + 1) codes at r
+  behind_next x p more r few q e =
       let sub : left + 1 - 1 ≡ left = omega arith in
-      run_next codes at (left + 1) x more r (λ z. omega arith) b.inside few (rw sub p)
-      (rw sub (behind_onward x p more l)) e
+      run_next codes at (left + 1) x more r (λ z. omega arith) b.inside few (rw sub p) (rw sub q) e
 
 -- ---- from the last line to the first
 
@@ -189,14 +205,15 @@ filling_start codes counts i e size short =
     }
 
 module _ (codes : List ℕ) (i : ℕ) (counts : List ℕ) (t : UnfoldingTotals) (g : Filling codes i counts t) where
-  module _ (some : 0 < i) (at left : ℕ) (p : at ≡ i - 1) (q : left ≡ length codes - i) where
+  module _ (at left : ℕ) (next : i ≡ at + 1) (q : length codes ≡ i + left) where
     pub filling_behind : Behind codes counts at left
     filling_behind =
-        let next : i ≡ at + 1 = omega arith in
         record {
           inside = omega (arith, g.inside);
-          enough = omega (arith, g.inside);
-          held = record { short = g.held.short; few = g.held.few; told = λ e on less. g.held.told e (omega arith) less };
+          usable = record {
+            enough = λ less. omega arith;
+            told = λ e on less. g.held.told e (omega arith) less;
+          };
         }
 
     module _ (c : Counted) (counted : RunCounted (left + 1) codes at c) where
@@ -218,7 +235,7 @@ module _ (codes : List ℕ) (i : ℕ) (counts : List ℕ) (t : UnfoldingTotals) 
           → Filling codes at (set counts at word) u
       unfolding totals_before
       filling_next u s word w =
-          let next : i ≡ suc at = omega arith in
+          let up : i ≡ suc at = omega arith in
           let moved = line_moves codes at (totals_before codes at) t in
           record {
             inside = omega (arith, g.inside);
@@ -230,8 +247,8 @@ module _ (codes : List ℕ) (i : ℕ) (counts : List ℕ) (t : UnfoldingTotals) 
             };
             few = s.few;
             short = s.short;
-            nodes = rw s.same (sym moved.0) ∙ sum_nodes next;
-            states = rw s.same (sym moved.1) ∙ sum_states next;
+            nodes = rw s.same (sym moved.0) ∙ sum_nodes up;
+            states = rw s.same (sym moved.1) ∙ sum_states up;
           }
         where
           told : (e : ℕ) → at ≤ e → e < length counts → Dec (e ≡ at) → get_or (set counts at word) e 0 ≡ count_word (count_from codes e)

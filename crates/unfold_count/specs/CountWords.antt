@@ -22,11 +22,15 @@ pub record Held (codes counts : List ℕ) (from : ℕ) : Type 0 where
   pub few : length counts ≤ length codes
   pub told : (at : ℕ) → from ≤ at → at < length counts → get_or counts at 0 ≡ count_word (count_from codes at)
 
--- at a line: the words from the next one on, and enough lines are left for the runs there
+-- from a place on, the words are those for the runs there, as far as they reach; and where one stands at the place, enough lines are left
+pub record Usable (codes counts : List ℕ) (at left : ℕ) : Type 0 where
+  pub enough : at < length counts → length codes ≤ at + left
+  pub told : (e : ℕ) → at ≤ e → e < length counts → get_or counts e 0 ≡ count_word (count_from codes e)
+
+-- at a line: so it is from the next one on
 pub record Behind (codes counts : List ℕ) (at left : ℕ) : Type 0 where
   pub inside : at < length codes
-  pub enough : length codes ≡ at + 1 + left
-  pub held : Held codes counts (at + 1)
+  pub usable : Usable codes counts (at + 1) left
 
 -- what is found at a place: what its word says, or, past the words, what is counted there
 pub record Looked (left : ℕ) (codes counts : List ℕ) (at : ℕ) (r : Counted) : Type 0 where

@@ -1,7 +1,7 @@
 -- A run has as many unfoldings as `count_run` says, with as many statements as `statements_run` says; number k is the one `choose` gives.
-use Rattle.std.specs.Prelude.{Bool, true, false, List, ◌++◌, map, ◌≡◌, refl, ℕ, zero, suc, ◌+◌, ◌*◌, ◌-◌, ◌/◌, ◌%◌, ◌<◌, ◌≤◌, length, eqb, leb, ltb}
+use Rattle.std.specs.Prelude.{Bool, true, false, List, ◌++◌, map, ◌≡◌, refl, ℕ, zero, suc, ◌+◌, ◌*◌, ◌-◌, ◌/◌, ◌%◌, ◌<◌, ◌≤◌, length, leb, ltb}
 use Rattle.std.proofs.Common.{append-nil, sym, ap, ◌∙◌, mul-pos, div-add-mod', mod-lt, div-lt_iff_lt-mul, arith, length-append, sub-one, ltb-true, ltb-false, lt-ltb, le-ltb, le-leb, leb-true, leb-false}
-use Rattle.std.proofs.Math.Option.{Option, some}
+use Rattle.std.proofs.Math.Option.{some}
 use Rattle.std.proofs.Math.ListN.{get_elem?}
 use Rattle.std.proofs.lemmas.List.{length-map}
 use Rattle.std.proofs.Math.Dec.{eqb-suc-zero}

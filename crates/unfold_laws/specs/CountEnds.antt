@@ -6,7 +6,7 @@ use Rattle.std.proofs.Common.{sym, ap, ap₂, ◌∙◌}
 use Prim.Native.Nat.{ℕ, zero, suc, ◌+◌, ◌-◌, ◌<◌, ◌≤◌}
 use native.Mathlib.Omega.{arith}
 use Rattle.std.proofs.Math.Dec.{leb, ltb}
-use borrow.Author.Tests.{ltb-true, ltb-false, leb-true, leb-false, eqb-true, eqb-false}
+use borrow.Author.Tests.{ltb-true, ltb-false, leb-true, leb-false}
 use Rattle.unfold_laws.specs.declared.Counted.{Counted}
 use Rattle.unfold_laws.specs.Codes.{
   after,
@@ -18,7 +18,7 @@ use Rattle.unfold_laws.specs.Codes.{
   item_at,
   count_at,
 }
-use Rattle.unfold_laws.specs.CodesLaws.{count_past, count_stop, count_next, item_statement, item_loop, item_branch}
+use Rattle.unfold_laws.specs.CodesLaws.{count_past, count_stop, count_next}
 
 -- a place from this one on that is no further than the lines reach, where this one is not
 pub record Onward (codes : List ℕ) (at end : ℕ) : Type 0 where

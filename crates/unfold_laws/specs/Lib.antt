@@ -3,6 +3,7 @@ pub mod Pairs
 pub mod ChoosingLaws
 pub mod Cap
 pub mod Codes
+pub mod LineCodes
 pub mod CodesLaws
 pub mod CountEnds
 pub mod Writing

@@ -1,7 +1,7 @@
 -- The pieces of all lines are the nodes, the totals their number and that of their statements.
 use Rattle.std.specs.Prelude.{Bool, true, false, cond, ◌≡◌, get_or, drop, eqb, ltb}
 use mathlib.Core.List.{List, [], ◌∷◌, ◌++◌, map, append_assoc, append-nil}
-use Rattle.std.proofs.Math.Option.{none, some}
+use Rattle.std.proofs.Math.Option.{some}
 use Rattle.std.proofs.Math.Path.{refl, sym, ap}
 use Rattle.std.proofs.Common.{◌∙◌, zero-add, add-one, length-drop, eq-eqb, ne_eqb, eqb-true, ltb-true, lt-ltb}
 use Prim.Native.Nat.{ℕ, zero, suc, ◌+◌, ◌-◌, ◌<◌, ◌≤◌}

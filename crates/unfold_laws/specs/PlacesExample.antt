@@ -2,7 +2,6 @@
 use mathlib.Core.List.{List, [], ◌∷◌, flat_map}
 use Rattle.std.specs.Prelude.{◌≡◌, refl, ℕ}
 use Rattle.spec_text.specs.declared.Line.{Line}
-use Rattle.spec_text.specs.declared.LineKind.{LineKind}
 use Rattle.spec_text.specs.declared.LineKind.TheVariants.{Pr, St}
 use Rattle.spec_text.specs.declared.StatementKind.TheVariants.{Ps}
 use Rattle.spec_text.specs.Reading.{sort, is_program, is_statement, is_statement_of, before_statement}

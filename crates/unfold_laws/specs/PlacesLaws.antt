@@ -1,19 +1,18 @@
 -- The two kinds of words that are written: statement ids with nothing seen, and line numbers with what is seen.
-use Rattle.std.specs.Prelude.{Bool, true, false, cond, List, [], ◌∷◌, ◌++◌, map, ◌≡◌, refl, ℕ, zero, suc, ◌+◌, ◌*◌, ◌<◌, ◌≤◌, length, get_or, drop}
+use Rattle.std.specs.Prelude.{Bool, true, false, cond, List, [], ◌∷◌, ◌++◌, map, ◌≡◌, refl, ℕ, zero, suc, ◌<◌, ◌≤◌, length, get_or}
 use Rattle.std.proofs.Math.Option.{Option, none, some}
 use Rattle.std.proofs.Common.{sym, ap, ap₂, ◌∙◌, arith, take_at, drop_at}
 use Rattle.std.specs.Int.Bits.{bit_or, or_zero_l}
 use Rattle.std.proofs.Math.ListN.{get_elem?}
 use Rattle.law_base.specs.ListLaws.{get_elem?_lt}
 use Rattle.spec_text.specs.declared.Line.{Line}
-use Rattle.spec_text.specs.declared.LineKind.{LineKind}
-use Rattle.spec_text.specs.declared.LineKind.TheVariants.{Rl, Fk, Pr, St, Lo, Br, El, En, Li}
+use Rattle.spec_text.specs.declared.LineKind.TheVariants.{St}
 use Rattle.spec_text.specs.declared.StatementKind.{StatementKind}
 use Rattle.spec_graph.specs.Program.{Statement, statement_of}
 use Rattle.spec_graph.specs.Unfolding.{Around, Occurrence, Node}
 use Rattle.spec_graph.specs.Edge.{leads}
 use Rattle.unfold_laws.specs.WordCode.{packed, line_in, seen_in, unpacked}
-use Rattle.unfold_laws.specs.Codes.{code_of, ids_of, mark_in, bit_in, marks_of}
+use Rattle.unfold_laws.specs.Codes.{ids_of, mark_in, bit_in, marks_of}
 use Rattle.unfold_laws.specs.Seen.{mark_of, seen_at, statement_in, statement_on, NodeWords, WordsFor}
 use Rattle.unfold_laws.specs.PlaceWords.{shown, PlaceWords}
 use Rattle.unfold_laws.specs.PlaceWordsLaws.{words_length}

@@ -1,5 +1,8 @@
-// The types, codes and constants of unfoldings; their laws are in specs/.
+// The types and constants of unfoldings; their laws are in specs/.
 #![tactic(auto)]
+
+ghost use Rattle.std.specs.Prelude.{◌≤◌, ◌↔◌, IsTrue};
+ghost use Rattle.unfold_laws.specs.LineCodes.{code_number};
 
 // A run or a block of lines: its unfoldings, the statements in them, and the line after it.
 #[derive(Clone, Copy)]
@@ -23,16 +26,34 @@ pub struct UnfoldingTotals {
     pub statements: u64,
 }
 
-// The codes of lines: a statement, `lo`, `br`, `pr`, and every other kind.
-pub const STATEMENT: u8 = 0;
+// What a line is to an unfolding.
+#[derive(Clone, Copy, Debug, PartialEq, Eq)]
+pub enum LineCode {
+    Statement,
+    // `lo`
+    Loop,
+    // `br`
+    Branch,
+    // `pr`
+    Program,
+    // every other kind
+    Other,
+}
 
-pub const LOOP: u8 = 1;
-
-pub const BRANCH: u8 = 2;
-
-pub const PROGRAM: u8 = 3;
-
-pub const NO_ITEM: u8 = 4;
+impl LineCode {
+    // Whether a statement or a block begins at the line: a run of lines ends before one where none does.
+    pub fn begins_item(self) -> bool
+        ensures { IsTrue result ↔ code_number self ≤ 2 }
+    {
+        match self {
+            LineCode::Statement => true,
+            LineCode::Loop => true,
+            LineCode::Branch => true,
+            LineCode::Program => false,
+            LineCode::Other => false,
+        }
+    }
+}
 
 // The word of a place is the number of its line, which is below this, and this times what is seen there.
 pub const WORD_LINES: u64 = 2048;

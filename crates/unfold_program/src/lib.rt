@@ -10,7 +10,7 @@ ghost use Rattle.unfold_program.specs.ProgramSteps.{ProgramLine, ProgramOver};
 use refusal::Fault;
 use spec_text::Workload;
 use unfold_count::count_run;
-use unfold_laws::PROGRAM;
+use unfold_laws::LineCode;
 use value_given::is_given;
 use value_lines::line_table;
 use value_tables::{LINE_WORDS, code_at, lines_in};
@@ -28,10 +28,10 @@ fn programs_past(lines: &[u64], i: usize, before: u64) -> u64
     requires { (i < length (table_codes lines.now)) × (before ≤ i) }
     ensures { result ≡ line_programs (table_codes lines.now) i before }
 {
-    if code_at(lines, i) == PROGRAM {
-        return before + 1;
+    match code_at(lines, i) {
+        LineCode::Program => before + 1,
+        _ => before,
     }
-    before
 }
 
 // The number of the `pr` line of program k, where there is one.

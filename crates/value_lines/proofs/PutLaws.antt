@@ -1,7 +1,7 @@
 -- A line's words from their parts, and the table of lines filled line by line.
 use mathlib.Core.List.{List, [], ◌∷◌, ◌++◌}
 use mathlib.Core.Path.{◌≡◌, refl, sym, ap, ap₂, ◌∙◌}
-use Prim.Native.Nat.{ℕ, ◌+◌, ◌*◌, ◌≤◌, ◌<◌}
+use Prim.Native.Nat.{ℕ, min, ◌+◌, ◌*◌, ◌<◌}
 use native.Mathlib.Decide.{dec_lt}
 use native.Mathlib.Numerals.{add-one}
 use native.Mathlib.Omega.{arith}
@@ -58,15 +58,16 @@ line_next lines area i d inside cells most after put h zeros =
     )
 
 -- all lines, where their count or the cells end
-module _ (w : Workload) (words : List ℕ) (i : ℕ) (cells : length words ≡ 12928) (h : take (i * 8) words ≡ line_table (take i w.lines)) where
-  pub lines_stored : i ≤ w.count → w.count ≤ i → take (w.count * 8) words ≡ line_table (lines_of w)
+module _ (w : Workload) (words : List ℕ) (n : ℕ) (most : length w.lines ≡ 1616) (fits : n ≡ min w.count 1616) (cells : length words ≡ 12928)
+    (h : take (n * 8) words ≡ line_table (take n w.lines)) (zeros : Zeros (n * 8) words) where
+  pub all_stored : (take (w.count * 8) words ≡ line_table (lines_of w)) × (length words ≡ 12928) × Zeros (w.count * 8) words
   unfolding lines_of
-  lines_stored p q = let d : w.count ≡ i = omega arith in rw d h
-
-  pub cells_stored : length w.lines ≡ 1616 → i < w.count → 1616 ≤ i → take (w.count * 8) words ≡ line_table (lines_of w)
-  unfolding lines_of
-  cells_stored most p q =
-      take_all (w.count * 8) words (omega arith)
-      ∙ sym (take_all (i * 8) words (omega arith))
-      ∙ h
-      ∙ ap line_table (take_all i w.lines (omega arith) ∙ sym (take_all w.count w.lines (omega arith)))
+  all_stored = (stored (dec_lt 1616 w.count), cells, λ k far. zeros k (omega arith))
+    where
+      stored : Dec (1616 < w.count) → take (w.count * 8) words ≡ line_table (lines_of w)
+      stored (no few) = let d : w.count ≡ n = omega (arith, few) in rw d h
+      stored (yes more) =
+          take_all (w.count * 8) words (omega arith)
+          ∙ sym (take_all (n * 8) words (omega arith))
+          ∙ h
+          ∙ ap line_table (take_all n w.lines (omega arith) ∙ sym (take_all w.count w.lines (omega arith)))

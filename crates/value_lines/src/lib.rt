@@ -44,13 +44,11 @@ fn mark_by(n: u64, id: u8) -> u32
 }
 
 // A set of a line, empty where its kind lacks it.
+#[tactic(auto, unfolding(value_tables::specs::Lines::set_in))]
 fn set_in(facts: u64, fact: u64, set: u64) -> u64
     ensures { result ≡ set_in facts fact set }
 {
-    if facts & fact == 0 {
-        return 0;
-    }
-    set
+    if facts & fact == 0 { 0 } else { set }
 }
 
 // Puts the words of a line into a table of lines, as line number i, where the table has room for it.
@@ -82,14 +80,9 @@ pub fn line_table(w: Workload) -> [u64; LINE_TABLE]
     ensures { (take (w.count * 8) result ≡ line_table (lines_of w)) × (length result ≡ 12928) × Zeros (w.count * 8) result }
 {
     let mut words = [0u64; LINE_TABLE];
-    let mut i: usize = 0;
-    while i < w.count {
-        if CELLS <= i {
-            return words;
-        }
-        let l = w.lines[i];
-        put_line(&mut words, i, l);
-        i += 1;
+    let lines = &w.lines[..w.count.min(CELLS)];
+    for (i, l) in lines.iter().enumerate() {
+        put_line(&mut words, i, *l);
     }
     words
 }

@@ -1,6 +1,6 @@
 -- What words tell line by line: how many lines, and at each line what its words say. Over the words of lines these are the lines' codes, ids and
 -- marks; and whatever the words are, the codes are those of some lines.
-use Rattle.std.specs.Prelude.{Bool, true, false, cond, ◌&&◌, List, [], ◌∷◌, map, ◌≡◌, refl, ℕ, zero, suc, ◌+◌, ◌*◌, ◌/◌, ◌%◌, ◌^◌, ◌≤◌, ◌<◌, eqb, ltb, length}
+use Rattle.std.specs.Prelude.{Bool, true, false, cond, ◌&&◌, List, [], ◌∷◌, map, ◌≡◌, refl, ℕ, zero, suc, ◌+◌, ◌*◌, ◌%◌, ◌^◌, ◌≤◌, ◌<◌, eqb, ltb, length}
 use Rattle.std.proofs.Math.Option.{Option, none, some}
 use Rattle.std.proofs.Math.Path.{sym, ap}
 use Rattle.std.proofs.Common.{◌∙◌, zero-add, arith, ltb-true}
@@ -18,19 +18,7 @@ use Rattle.spec_text.specs.declared.StatementKind.{StatementKind}
 use Rattle.spec_text.specs.declared.StatementKind.TheVariants.{Is, Ps}
 use Rattle.spec_graph.specs.Edge.{shields}
 use Rattle.unfold_laws.specs.Codes.{code_of, codes_of, bit_in, mark_in, marks_of}
-use Rattle.value_tables.specs.Lines.{
-  pr_number,
-  lo_number,
-  br_number,
-  line_number,
-  code_by,
-  line_words,
-  line_table,
-  lines_in,
-  table_codes,
-  table_ids,
-  table_marks,
-}
+use Rattle.value_tables.specs.Lines.{pr_number, lo_number, br_number, code_by, line_words, line_table, lines_in, table_codes, table_ids, table_marks}
 use Rattle.value_tables.specs.LineLaws.{code_told, mark_told, line_table_length, cell_at, number_at}
 
 -- what a function makes of the numbers below n

@@ -2,7 +2,10 @@
 #![tactic(auto)]
 
 ghost use Rattle.std.specs.Prelude.{◌≡◌, length, get_or};
+ghost use Rattle.unfold_laws.specs.LineCodes.{code_number};
 ghost use Rattle.value_tables.specs.Lines.{code_by, table_codes, table_ids, table_marks};
+
+use unfold_laws::LineCode;
 
 // The number of a line's kind: 0 to 7 for the kinds of statement (`kind_number`), then `pr`, `li`, `lo`, `br`, and one for every other.
 pub const PR: u64 = 8;
@@ -37,57 +40,60 @@ pub const MARK: usize = 7;
 pub const LINE_TABLE: usize = 12928;
 
 // The code of a line with this number.
-fn code_by(n: u64) -> u8
-    ensures { result ≡ code_by n }
+fn code_by(n: u64) -> LineCode
+    ensures { code_number result ≡ code_by n }
 {
     if n < PR {
-        return unfold_laws::STATEMENT;
+        return LineCode::Statement;
     }
     if n == PR {
-        return unfold_laws::PROGRAM;
+        return LineCode::Program;
     }
     if n == LO {
-        return unfold_laws::LOOP;
+        return LineCode::Loop;
     }
     if n == BR {
-        return unfold_laws::BRANCH;
+        return LineCode::Branch;
     }
-    unfold_laws::NO_ITEM
+    LineCode::Other
 }
 
 // How many lines words tell.
+#[tactic(auto, using(crate::specs::TableLaws::codes_many))]
 pub fn lines_in(lines: &[u64]) -> usize
     ensures { result ≡ length (table_codes lines.now) }
 {
-    let words = lines.len();
-    words / LINE_WORDS
+    lines.len() / LINE_WORDS
 }
 
-// The code of a line; past the lines 0.
-pub fn code_at(lines: &[u64], at: usize) -> u8
-    ensures { result ≡ get_or (table_codes lines.now) at 0 }
+// The code of a line; past the lines a statement's.
+#[tactic(auto, using(crate::specs::TableLaws::codes_many))]
+pub fn code_at(lines: &[u64], at: usize) -> LineCode
+    ensures { code_number result ≡ get_or (table_codes lines.now) at 0 }
 {
-    if lines.len() / LINE_WORDS <= at {
-        return 0;
+    if lines_in(lines) <= at {
+        return LineCode::Statement;
     }
     code_by(lines[at * LINE_WORDS])
 }
 
 // The id of a line; past the lines 0.
+#[tactic(auto, using(crate::specs::TableLaws::codes_many))]
 pub fn id_at(lines: &[u64], at: usize) -> u16
     ensures { result ≡ get_or (table_ids lines.now) at 0 }
 {
-    if lines.len() / LINE_WORDS <= at {
+    if lines_in(lines) <= at {
         return 0;
     }
     (lines[at * LINE_WORDS + ID] % 65536) as u16
 }
 
 // The mark of a line; past the lines 0.
+#[tactic(auto, using(crate::specs::TableLaws::codes_many))]
 pub fn mark_at(lines: &[u64], at: usize) -> u32
     ensures { result ≡ get_or (table_marks lines.now) at 0 }
 {
-    if lines.len() / LINE_WORDS <= at {
+    if lines_in(lines) <= at {
         return 0;
     }
     (lines[at * LINE_WORDS + MARK] % 4294967296) as u32

@@ -16,12 +16,14 @@ use Rattle.unfold.proofs.StretchLaws.{
 use Rattle.value_tables.specs.TableLaws.{codes_many}
 use Rattle.unfold.proofs.+write_block_write_run_write_turn.Goals as goal
 
-pub write_block-returns-then-p-eq0 : goal.write_block-returns-then-p-eq0
-write_block-returns-then-p-eq0 t c = lays_nothing _ _ (c.block_part-p.ensures.none c.if-p-eq0.true _)
+pub write_block-returns-in-Nothing : goal.write_block-returns-in-Nothing
+write_block-returns-in-Nothing t c = lays_nothing _ _ (c.in-Nothing.ensures _)
 
-pub write_block-returns : goal.write_block-returns
-write_block-returns t c =
-    lays_both _ _ _ _ _ _ _ _ (c.block_part-p.ensures.twice c.if-p-eq0.false c.if-p-eq1.false _) c.write_turn-m.ensures c.write_run.ensures
+pub write_block-returns-in-Once : goal.write_block-returns-in-Once
+write_block-returns-in-Once t c = rw (c.in-Once.ensures.1 _) c.write_turn.ensures
+
+pub write_block-returns-in-Twice : goal.write_block-returns-in-Twice
+write_block-returns-in-Twice t c = lays_both _ _ _ _ _ _ _ _ (c.in-Twice.ensures.1 _) c.write_turn-m.ensures c.write_run.ensures
 
 pub write_run-loop-m-init : goal.write_run-loop-m-init
 write_run-loop-m-init t c = (omega arith, omega arith, running_start _ _ _ _ _ _ _ _ _ c.requires)
@@ -32,7 +34,7 @@ write_run-returns-then-s t c =
 
 pub write_run-overflow_add-line : goal.write_run-overflow_add-line
 write_run-overflow_add-line t c =
-    record { fits = omega (arith, codes_many c.args.lines.now, c.write_stretch-s.ensures.laid.reach, c.loop-m.invariant.1) }
+    record { fits = omega (arith, codes_many c.args.source.now.lines.now, c.write_stretch-s.ensures.laid.reach, c.loop-m.invariant.1) }
 
 pub write_run-nonzero_div-number : goal.write_run-nonzero_div-number
 write_run-nonzero_div-number t c =
@@ -56,7 +58,7 @@ write_run-loop-m-preserved t c =
       omega (arith, c.loop-m.invariant.0),
       omega (
         arith,
-        codes_many c.args.lines.now,
+        codes_many c.args.source.now.lines.now,
         block_ends _ _ _ _ _ _ _ _ _ _ _ _ c.loop-m.invariant.2 _ _ c.write_stretch-s.ensures c.if-s.false _ c.block_end-here.ensures,
       ),
       running_next _ _ _ _ _ _ _ _ _ _ _ _ c.loop-m.invariant.2 _ _ c.write_stretch-s.ensures c.if-s.false _ _
@@ -67,7 +69,7 @@ pub write_run-returns : goal.write_run-returns
 write_run-returns t c = running_end _ _ _ _ _ _ _ _ _ _ _ _ c.loop-m.invariant.2 c.loop-m-test.false
 
 pub write_turn-overflow_add-at : goal.write_turn-overflow_add-at
-write_turn-overflow_add-at t c = record { fits = omega (arith, codes_many c.args.lines.now, c.write_stretch-s.ensures.laid.reach) }
+write_turn-overflow_add-at t c = record { fits = omega (arith, codes_many c.args.source.now.lines.now, c.write_stretch-s.ensures.laid.reach) }
 
 pub write_turn-returns : goal.write_turn-returns
 write_turn-returns t c = turn_on _ _ _ _ _ _ _ _ _ c.requires _ _ c.write_stretch-s.ensures _ _ c.write_run.ensures

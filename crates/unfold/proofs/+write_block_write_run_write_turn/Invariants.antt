@@ -2,8 +2,7 @@
 -- two more for a block.
 use Prim.Native.Nat.{◌+◌, ◌≤◌, ◌<◌}
 use Rattle.unfold_laws.specs.Writing.{write_at}
-use Rattle.value_tables.specs.Lines.{table_codes}
-use Rattle.unfold.specs.LineWords.{words_by, marks_by}
+use Rattle.unfold.specs.LineWords.{codes_in, words_in, marks_in}
 use Rattle.unfold.proofs.StretchLaws.{Running}
 use Rattle.unfold.proofs.+write_block_write_run_write_turn.Given as goal
 
@@ -20,8 +19,8 @@ abbrev pub invariant-write_run-loop-m : goal.invariant-write_run-loop-m
 invariant-write_run-loop-m l =
     (l.rest ≤ l.left)
     × (l.here < 18446744073709551616)
-    × Running (table_codes l.lines) (words_by l.ids l.lines) (marks_by l.ids l.lines) l.counts
-    (write_at l.left (table_codes l.lines) (words_by l.ids l.lines) (marks_by l.ids l.lines) l.seen l.at l.k) l.fn.out l.out l.m l.here l.sees l.rest l.number
+    × Running (codes_in l.source) (words_in l.source) (marks_in l.source) l.source.counts.now
+    (write_at l.left (codes_in l.source) (words_in l.source) (marks_in l.source) l.seen l.at l.k) l.fn.out l.out l.m l.here l.sees l.rest l.number
 
 abbrev pub decreases-write_run-loop-m : goal.decreases-write_run-loop-m
 decreases-write_run-loop-m l = l.rest

@@ -7,14 +7,13 @@ use Rattle.value_tables.specs.TableLaws.{codes_many}
 use Rattle.unfold.proofs.WordsLaws.{id_word, line_word}
 use Rattle.unfold.proofs.place_word.Goals as goal
 
-pub returns-then-ids : goal.returns-then-ids
-returns-then-ids c =
-    let c3 = c in
-    ap (λ (x : ℕ). packed x c3.args.seen) (c.id_at.ensures ∙ id_word _ _ _ c.if-ids.true)
+pub returns-then-source : goal.returns-then-source
+returns-then-source c =
+    ap (λ (x : ℕ). packed x c.args.seen) (c.id_at.ensures ∙ id_word _ _ _ c.if-source.true)
 
 pub overflow_add-result-2 : goal.overflow_add-result-2
-overflow_add-result-2 c = search (rules, codes_many c.args.lines.now, c.requires)
+overflow_add-result-2 c = search (rules, codes_many c.args.source.now.lines.now, c.requires)
 
 pub returns : goal.returns
 returns c =
-    ap (λ (x : ℕ). packed x c.args.seen) (line_word _ _ _ c.if-ids.false c.requires)
+    ap (λ (x : ℕ). packed x c.args.seen) (line_word _ _ _ c.if-source.false c.requires)

@@ -10,32 +10,24 @@ loop-i-init c = going_start _ _ _ _ _
 
 pub write_line-t-requires : goal.write_line-t-requires
 write_line-t-requires c =
-    let c4 = c in
-    let c6 = c4 in
-    let c13 = c6 in
-    let inside = less_lines _ _ _ c4.lines_in.ensures c4.loop-i-test.true in
-    record { i_in_bounds = (inside, c.requires.held); line_fits = going_fits _ _ _ _ c.requires.wide refl refl _ c.requires.all_fit _ _ _ _ c.loop-i.invariant inside }
+    let inside = less_lines _ _ _ c.lines_in-i-end.ensures c.loop-i-test.true in
+    record {
+      i_in_bounds = (inside, c.requires.held);
+      line_fits = going_fits _ _ _ _ c.requires.wide refl refl _ c.requires.all_fit _ _ _ _ c.loop-i.invariant inside;
+    }
 
 pub next_program-number-requires : goal.next_program-number-requires
-next_program-number-requires c =
-    let c13 = c in
-    let c15 = c13 in
-    let c22 = c15 in (
-      less_lines _ _ _ c13.lines_in.ensures c13.loop-i-test.true,
-      program_small _ _ _ _ c22.requires.wide refl refl _ c22.requires.all_fit _ _ _ _ c15.loop-i.invariant,
-    )
+next_program-number-requires c = (
+  less_lines _ _ _ c.lines_in-i-end.ensures c.loop-i-test.true,
+  program_small _ _ _ _ c.requires.wide refl refl _ c.requires.all_fit _ _ _ _ c.loop-i.invariant,
+)
 
 pub loop-i-preserved : goal.loop-i-preserved
 loop-i-preserved c =
-    let c9 = c in
-    let c14 = c9 in
-    let c16 = c14 in
-    let c23 = c16 in
-    going_next _ _ _ _ c23.requires.wide refl refl _ c23.requires.all_fit _ _ _ _ c16.loop-i.invariant
-    (less_lines _ _ _ c14.lines_in.ensures c14.loop-i-test.true) _ _ _ c9.write_line-t.ensures c.next_program-number.ensures
+    going_next _ _ _ _ c.requires.wide refl refl _ c.requires.all_fit _ _ _ _ c.loop-i.invariant
+    (less_lines _ _ _ c.lines_in-i-end.ensures c.loop-i-test.true) _ _ _ c.write_line-t.ensures c.next_program-number.ensures
 
 pub returns : goal.returns
 returns c =
-    let c2 = c in
-    let c9 = c2 in
-    going_end _ _ _ _ c9.requires.wide refl refl _ c9.requires.all_fit _ _ _ _ c2.loop-i.invariant (omega (arith, c.lines_in.ensures, c.loop-i-test.false))
+    going_end _ _ _ _ c.requires.wide refl refl _ c.requires.all_fit _ _ _ _ c.loop-i.invariant
+    (omega (arith, c.lines_in-i-end.ensures, c.loop-i-test.false))

@@ -1,47 +1,40 @@
 -- Before each turn the m lines passed are statements and their words are laid (`Stretching`); a statement more is one word more (stretch-next). It
 -- ends at the first line that is none (stretched-past, stretched-at) or where the area does (stretched-full).
 use native.Mathlib.Omega.{arith}
-use mathlib.Core.Path.{sym, ◌∙◌}
-use lib.ListN.{length-set}
+use mathlib.Core.Path.{◌≡◌, sym}
+use lib.ListN.{length}
 use Rattle.value_tables.specs.TableLaws.{codes_many}
-use Rattle.unfold.proofs.StretchLaws.{stretch_none, stretch_next, stretched_full, stretched_past, stretched_at}
+use Rattle.unfold_laws.specs.LineCodes.{other_code}
+use Rattle.unfold_laws.specs.declared.LineCode.TheVariants.{Statement}
+use Rattle.unfold.proofs.StretchLaws.{stretch_none, stretch_next, stretched_full, stretched_past, stretched_at, ends_told}
 use Rattle.unfold.proofs.write_stretch.Goals as goal
 
 pub loop-m-init : goal.loop-m-init
 loop-m-init c = stretch_none _ _ _ _ _ _
 
 pub overflow_add-line : goal.overflow_add-line
-overflow_add-line c = omega (arith, codes_many c.args.lines.now, c.loop-m.invariant.reach)
+overflow_add-line c = omega (arith, codes_many c.args.source.now.lines.now, c.loop-m.invariant.reach)
 
 pub returns-then-n-line : goal.returns-then-n-line
 returns-then-n-line c = stretched_past _ _ _ _ _ _ _ _ _ c.loop-m.invariant (omega
     (arith, c.lines_in-n.ensures, c.if-n-line.true))
 
-pub returns-then-code-ne-STATEMENT : goal.returns-then-code-ne-STATEMENT
-returns-then-code-ne-STATEMENT c =
-    let c2 = c in
-    let c4 = c2 in
-    stretched_at _ _ _ _ _ _ _ _ _ c4.loop-m.invariant (omega (arith, c4.lines_in-n.ensures, c2.if-n-line.false)) _ c.code_at-code.ensures
-    c.if-code-ne-STATEMENT.true
+pub returns-in_default : goal.returns-in_default
+returns-in_default c =
+    let ends = ends_told _ _ c.begins_item.ensures.0 c.begins_item.ensures.1 in
+    let code = c.code_at-code.ensures in
+    stretched_at _ _ _ _ _ _ _ _ _ c.loop-m.invariant (omega (arith, c.lines_in-n.ensures, c.if-n-line.false))
+    (λ z. other_code Statement c.in_default.not-Statement code z) _ (λ stop. omega (arith, code, ends.0 stop)) (λ go. omega (arith, code, ends.1 go))
 
 pub place_word-requires : goal.place_word-requires
 place_word-requires c = omega (arith, c.lines_in-n.ensures, c.if-n-line.false)
 
-pub loop-m-smaller : goal.loop-m-smaller
-loop-m-smaller c = omega (
-  arith,
-  length-set c.loop-m.out
-      c.loop-m.m c.place_word.result,
-  c.loop-m-test.true,
-)
-
 pub loop-m-preserved : goal.loop-m-preserved
 loop-m-preserved c =
-    let c2 = c in
-    let c4 = c2 in
-    let c6 = c4 in
-    stretch_next _ _ _ _ _ _ _ _ _ c6.loop-m.invariant (omega (arith, c6.lines_in-n.ensures, c4.if-n-line.false))
-    (sym c2.code_at-code.ensures ∙ c2.if-code-ne-STATEMENT.false) c4.loop-m-test.true _ _ c.place_word.ensures c.mark_by-sees.ensures
+    stretch_next _ _ _ _ _ _ _ _ _ c.loop-m.invariant (omega (arith, c.lines_in-n.ensures, c.if-n-line.false))
+    (sym c.in-Statement.ensures) (omega (arith, c.loop-m.auto.out, c.loop-m-test.true)) _ _ c.place_word.ensures c.mark_by-sees.ensures
 
 pub returns : goal.returns
-returns c = stretched_full _ _ _ _ _ _ _ _ _ c.loop-m.invariant c.loop-m-test.false
+returns c =
+    let all : length c.loop-m.out ≡ c.loop-m.m = omega (arith, c.loop-m.auto.out, c.loop-m-test.false, c.loop-m.auto.m-end) in
+    rw all (stretched_full _ _ _ _ _ _ _ _ _ c.loop-m.invariant (omega arith))

@@ -5,22 +5,24 @@ use Rattle.unfold_laws.specs.Pieces.{programs_before}
 use Rattle.unfold_program.specs.ProgramLaws.{programs_few}
 use Rattle.value_tables.specs.Lines.{table_codes}
 use native.Mathlib.Omega.{arith}
-use mathlib.Core.Path.{refl, sym, ◌∙◌}
+use mathlib.Core.Path.{refl, sym}
+use Rattle.unfold_laws.specs.LineCodes.{other_code}
+use Rattle.unfold_laws.specs.declared.LineCode.TheVariants.{Program}
 use Rattle.unfold_choice.proofs.find_node.Goals as goal
 
 pub loop-line-init : goal.loop-line-init
 unfolding programs_before
 loop-line-init c = (refl, find_start _ _)
 
-pub loop-line-preserved-then-code_at-ne-PROGRAM : goal.loop-line-preserved-then-code_at-ne-PROGRAM
-loop-line-preserved-then-code_at-ne-PROGRAM c =
+pub loop-line-preserved-in_default : goal.loop-line-preserved-in_default
+loop-line-preserved-in_default c =
     let inv = c.loop-line.invariant in
-    (find_skip _ _ _ inv.0 (λ z. c.if-code_at-ne-PROGRAM.true (c.code_at.ensures ∙ z)), inv.1)
+    (find_skip _ _ _ inv.0 (λ z. other_code Program c.in_default.not-Program c.code_at.ensures z), inv.1)
 
 pub returns-then-number-c : goal.returns-then-number-c
 returns-then-number-c c =
     let inv = c.loop-line.invariant in
-    find_here _ _ _ _ _ inv.0 inv.1 (omega (arith, c.lines_in-n.ensures)) (sym c.code_at.ensures ∙ c.if-code_at-ne-PROGRAM.false) _
+    find_here _ _ _ _ _ inv.0 inv.1 (omega (arith, c.lines_in-n.ensures)) (sym c.in-Program.ensures) _
     (rw c.lines_in-n.ensures at c.count_run-c.ensures) c.if-number-c.true
 
 pub overflow_add-program : goal.overflow_add-program
@@ -29,7 +31,7 @@ overflow_add-program c = omega (arith, c.loop-line.invariant.0, programs_few (ta
 pub loop-line-preserved : goal.loop-line-preserved
 loop-line-preserved c =
     let inv = c.loop-line.invariant in
-    find_next _ _ _ _ _ inv.0 inv.1 (omega (arith, c.lines_in-n.ensures)) (sym c.code_at.ensures ∙ c.if-code_at-ne-PROGRAM.false) _
+    find_next _ _ _ _ _ inv.0 inv.1 (omega (arith, c.lines_in-n.ensures)) (sym c.in-Program.ensures) _
     (rw c.lines_in-n.ensures at c.count_run-c.ensures) c.if-number-c.false
 
 pub returns : goal.returns

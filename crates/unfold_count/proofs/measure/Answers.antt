@@ -1,7 +1,6 @@
 -- Where the words are not one to each line, or the lines too many, they stay and all is counted; else all are filled.
 use mathlib.Core.Path.{refl, sym, ◌∙◌}
 use native.Mathlib.Omega.{arith}
-use borrow.Author.Rules.{rules}
 use Rattle.unfold_count.proofs.measure.Goals as goal
 
 pub returns-then-counts-n : goal.returns-then-counts-n
@@ -22,16 +21,12 @@ returns-then-n c =
 
 pub fill-requires : goal.fill-requires
 fill-requires c =
-    let c3 = c in
-    (c.if-counts-n.false ∙ c3.lines_in-n.ensures, omega (arith, c.if-n.false, c.if-counts-n.false))
+    (c.if-counts-n.false ∙ c.lines_in-n.ensures, omega (arith, c.if-n.false, c.if-counts-n.false))
 
 pub returns : goal.returns
 returns c =
-    let c4 = c in
-    let c5 = c4 in
-    let c6 = c5 in
     record {
       totals = c.fill.ensures.totals;
       words = λ e s. c.fill.ensures.words;
-      kept = λ h. absurd (h (c5.if-counts-n.false ∙ c6.lines_in-n.ensures) (omega (arith, c4.if-n.false, c6.lines_in-n.ensures)));
+      kept = λ h. absurd (h (c.if-counts-n.false ∙ c.lines_in-n.ensures) (omega (arith, c.if-n.false, c.lines_in-n.ensures)));
     }

@@ -1,7 +1,5 @@
 -- A number past the kinds of statement has no mark (mark-none). A kind that does not shield has no bit (bit-unshielding); of the others the
 -- shift makes 2 to the id below 32 (bit-small), and past that there is none (bit-large).
-use native.Mathlib.Omega.{arith}
-use borrow.Author.Rules.{rules}
 use Rattle.value_lines.proofs.MarkLaws.{mark_none, mark_some, shield_clear, shield_set, bit_unshielding, bit_large, bit_small, bit_shifted}
 use Rattle.value_lines.proofs.mark_by.Goals as goal
 
@@ -10,18 +8,13 @@ returns-then-n-ge-PR c = mark_none _ _ c.if-n-ge-PR.true
 
 pub returns-then-kind_facts-eq0 : goal.returns-then-kind_facts-eq0
 returns-then-kind_facts-eq0 c =
-    let facts = c in
-    let kind = facts in
-    mark_some _ _ _ kind.if-n-ge-PR.false
-    (bit_unshielding _ _ (shield_clear _ _ _ kind.kind_of.ensures facts.kind_facts.ensures c.if-kind_facts-eq0.true))
+    mark_some _ _ _ c.if-n-ge-PR.false
+    (bit_unshielding _ _ (shield_clear _ _ _ c.kind_of.ensures c.kind_facts.ensures c.if-kind_facts-eq0.true))
 
 pub returns-then-id-lt32 : goal.returns-then-id-lt32
 returns-then-id-lt32 c =
-    let shields = c in
-    let facts = shields in
-    let kind = facts in
-    mark_some _ _ _ kind.if-n-ge-PR.false
-    (bit_small _ _ _ (shield_set _ _ _ kind.kind_of.ensures facts.kind_facts.ensures shields.if-kind_facts-eq0.false) c.if-id-lt32.true
+    mark_some _ _ _ c.if-n-ge-PR.false
+    (bit_small _ _ _ (shield_set _ _ _ c.kind_of.ensures c.kind_facts.ensures c.if-kind_facts-eq0.false) c.if-id-lt32.true
     (bit_shifted _ c.if-id-lt32.true))
 
 pub returns : goal.returns

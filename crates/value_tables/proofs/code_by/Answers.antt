@@ -1,5 +1,5 @@
 -- Each test is one that `code_by` asks, in its order.
-use mathlib.Core.Path.{refl, sym}
+use mathlib.Core.Path.{sym}
 use borrow.Author.Tests.{lt-ltb, le-ltb, eq-eqb, ne_eqb}
 use Rattle.value_tables.specs.Lines.{code_by}
 use Rattle.value_tables.proofs.code_by.Goals as goal
