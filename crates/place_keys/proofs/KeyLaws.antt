@@ -98,3 +98,11 @@ pub keys_packed : (lines : List ℕ) (first child seen marks near far : ℕ) →
     → far ≡ keys_from (length lines / 8 - first) lines first child marks 0 → near + far * 4294967296 ≡ place_keys lines first child seen marks
 unfolding place_keys
 keys_packed lines first child seen marks near far a b = rw (a, b) refl
+
+-- what a line gives by each of its tests: a line that is no `li`, a link of another child, with a parent that is not seen, or by a key past 31 leaves
+-- the word; any other sets its key's bit
+pub ruleset line_steps = (no_link, no_child, not_seen, no_key, one_key)
+
+-- what the lines from one on add: each line keeps this, a `pr` or the end adds nothing more, a line of another child adds nothing, and the halves
+-- stand side by side, since keys are below 32
+pub ruleset key_steps = (other_child, keys_next, keys_stop, keys_end, key_small, keys_packed)

@@ -10,6 +10,7 @@ use word_list::{has_bit, word_at};
 
 // A line's part in the keys of a child: a `li` line of this child adds its key where its parent is in the word: of what is seen, or of what is
 // marked.
+#[tactic(auto, using(crate::proofs::KeyLaws::line_steps))]
 fn key_at(lines: &[u64], i: usize, child: u64, parents: u64, word: u64) -> u64
     requires { i < length lines.now / 8 }
     ensures { result ≡ key_at lines.now i child parents word }
@@ -34,6 +35,7 @@ fn key_at(lines: &[u64], i: usize, child: u64, parents: u64, word: u64) -> u64
 // The keys that shield a place, as the word of a row, from the links of its program, which stand from line `first` up to the next `pr`. An edge that
 // leaves the place is shielded by a parent that is seen there, one that enters it by a parent anywhere: by any that is marked. Most links are of
 // other children: these are passed by first.
+#[tactic(auto, using(crate::proofs::KeyLaws::key_steps))]
 pub fn keys_from(lines: &[u64], first: usize, child: u64, seen: u64, marks: u64) -> u64
     ensures { result ≡ place_keys lines.now first child seen marks }
 {

@@ -35,3 +35,6 @@ module _ (lines : List ℕ) where
   pub links_end : (n i marks : ℕ) → n ≤ i → record { first = i; marks = marks } ≡ links_from (n - i) lines i marks
   unfolding links_from
   links_end n i marks h = let s : n - i ≡ 0 = omega arith in rw s refl
+
+-- what the lines from one on give: one that is no `pr` and no `li` adds its marks, and at one of these or at the end the links begin
+pub ruleset link_steps = (links_next, links_program, links_link, links_end)

@@ -15,7 +15,7 @@ pub struct Links {
 }
 
 // The links of the program whose lines begin at `first`: its statements and flow stand before them, and they stand before the next `pr`.
-#[tactic(auto, using(crate::proofs::LinkLaws::links_next))]
+#[tactic(auto, using(crate::proofs::LinkLaws::link_steps), unfolding(crate::specs::LineLinks::links_in))]
 pub fn links_from(lines: &[u64], first: usize) -> Links
     ensures { result ≡ links_in lines.now first }
 {

@@ -58,3 +58,6 @@ begun_next lines i b r e h = h ∙ rw (e, add-one)
 pub begun_all : (lines : List ℕ) (i : ℕ) (b : Begun) → i ≤ length lines / 8 → length lines / 8 ≤ i → b ≡ begun_before lines i → b ≡ begun_in lines
 unfolding begun_in
 begun_all lines i b p q e = let d : length lines / 8 ≡ i = omega arith in rw d e
+
+-- what a line begins: one that is no `pr` nothing, a `pr` one more, past the 16 cells with no cell of its own
+pub ruleset steps = (begun_none, begun_one, begun_past, begun_fits, begun_next, begun_all)

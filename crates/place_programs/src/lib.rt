@@ -15,6 +15,7 @@ pub struct Begun {
 }
 
 // The programs of the lines: a `pr` line begins one more, whose lines begin after it.
+#[tactic(auto, using(crate::proofs::BegunLaws::steps), unfolding(crate::specs::LinePrograms::begun_before, crate::specs::LinePrograms::begun_with))]
 pub fn programs_in(lines: &[u64]) -> Begun
     ensures { result ≡ begun_in lines.now }
 {

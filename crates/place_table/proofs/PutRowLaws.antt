@@ -93,10 +93,6 @@ module _ (lines : List ℕ) (links : Links) (node : ℕ) (words : List ℕ) (sta
         s ∙ rw (e, w, add-one) (put_more before (start * 8) (node_rows lines links node words start i)
         (row_words lines links node i (get_or words (start + i) 0)) ((start + i) * 8) (omega arith) (omega arith))
 
-    pub rows_end : (i : ℕ) (table : List ℕ) → i ≤ n → n ≤ i → table ≡ put_at before (start * 8) (node_rows lines links node words start i)
-        → table ≡ put_at before (start * 8) (node_rows lines links node words start n)
-    rows_end i table p q e = let d : n ≡ i = omega arith in rw d e
-
 -- ---- the rows of all nodes
 
 -- the places of fewer nodes are no more
@@ -117,9 +113,6 @@ total_none lengths = refl
 pub total_next : (lengths : List ℕ) (j at places : ℕ) → at ≡ total_of lengths j → places ≡ get_or lengths j 0 → at + places ≡ total_of lengths (j + 1)
 unfolding total_of
 total_next lengths j at places a p = rw (a, p, add-one) refl
-
-pub total_end : (lengths : List ℕ) (n j at : ℕ) → j ≤ n → n ≤ j → at ≡ total_of lengths j → at ≡ total_of lengths n
-total_end lengths n j at p q e = let d : n ≡ j = omega arith in rw d e
 
 module _ (lines firsts programs lengths words : List ℕ) where
   abbrev rows : ℕ → List ℕ
@@ -172,7 +165,3 @@ module _ (lines firsts programs lengths words : List ℕ) where
         s ∙ rw (e, g, f, p, q, a, add-one) (put_more before 0 (rows j)
         (node_rows lines (links_in lines (get_or firsts (get_or programs j 0) 0)) j words (total_of lengths j) (get_or lengths j 0))
         (total_of lengths j * 8) (omega arith) (omega arith))
-
-    pub all_end : (j at : ℕ) (table : List ℕ) → j ≤ n → n ≤ j → at ≡ total_of lengths j → table ≡ put_at before 0 (rows j)
-        → (table ≡ put_at before 0 (rows n)) × (at ≡ total_of lengths n)
-    all_end j at table p q a e = let d : n ≡ j = omega arith in rw d (e, a)

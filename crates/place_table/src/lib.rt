@@ -48,6 +48,7 @@ struct Node<'a> {
 }
 
 // The row of a node's place from its word, into the table at a place.
+#[tactic(auto, using(crate::proofs::PutRowLaws::row_words_lem, word_rows::specs::Put::row_put_lem))]
 fn put_place(node: Node, place: u64, word: u64, table: &mut [u64], at: usize)
     requires { at + 8 ≤ length table.old }
     ensures { table.new ≡ put_at table.old at (row_words node.entry.lines.now node.entry.links node.entry.number place word) }
@@ -76,6 +77,7 @@ fn put_place(node: Node, place: u64, word: u64, table: &mut [u64], at: usize)
 }
 
 // The rows of a node, whose places' words stand from `start` on, into the table after those of the nodes before.
+#[tactic(auto, using(crate::proofs::PutRowLaws::rows_room, crate::proofs::PutRowLaws::rows_next))]
 fn put_places(node: Node, words: &[u64], start: usize, n: usize, table: &mut [u64]) -> usize
     requires { (start + n) * 8 ≤ length table.old }
     ensures { (table.new ≡ put_at table.old (start * 8)
@@ -89,6 +91,7 @@ fn put_places(node: Node, words: &[u64], start: usize, n: usize, table: &mut [u6
 }
 
 // The rows of all nodes from the table's start on; answers how many.
+#[tactic(auto, using(crate::proofs::PutRowLaws::total_next, crate::proofs::PutRowLaws::all_room, crate::proofs::PutRowLaws::all_next))]
 fn put_nodes(lines: &[u64], firsts: &[u64], nodes: Nodes, table: &mut [u64]) -> usize
     requires { total_of nodes.lengths.now nodes.count * 8 ≤ length table.old }
     ensures { (table.new ≡ put_at table.old 0 (all_rows lines.now firsts.now nodes.entry.programs.now

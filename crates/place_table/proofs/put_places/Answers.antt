@@ -1,21 +1,7 @@
--- After i places their rows stand from the node's first one on; each turn puts the row of the next place after them (rows_next), up to the last
--- (rows_end).
-use Rattle.place_table.proofs.PutRowLaws.{rows_start, rows_room, rows_next, rows_end}
-use native.Mathlib.Omega.{arith}
-use mathlib.Core.Path.{refl}
+-- After i places their rows stand from the node's first one on; each turn puts the row of the next place after them (rows_next): the lemmas are
+-- named on the function.
+use Rattle.place_table.proofs.PutRowLaws.{rows_start}
 use Rattle.place_table.proofs.put_places.Goals as goal
 
 pub loop-i-init : goal.loop-i-init
 loop-i-init c = rows_start _ _ _ _ _ _ _ c.requires
-
-pub put_place-requires : goal.put_place-requires
-put_place-requires c =
-    rows_room _ _ _ _ _ _ _ c.requires _ _ c.loop-i-test.true c.loop-i.invariant
-
-pub loop-i-preserved : goal.loop-i-preserved
-loop-i-preserved c =
-    rows_next _ _ _ _ _ _ _ c.requires _ _ c.loop-i-test.true c.loop-i.invariant _ c.word_at-word.ensures _ c.put_place.ensures
-
-pub returns : goal.returns
-returns c =
-    (rows_end _ _ _ _ _ _ _ c.requires _ _ (omega arith) c.loop-i-test.false c.loop-i.invariant, refl)
