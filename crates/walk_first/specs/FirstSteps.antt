@@ -146,12 +146,21 @@ pub record TakenAs (table backs : List ℕ) (p : Prepared) (r : ℕ) (going : Go
   pub entered : node ≡ (taken table backs p r going x).into
   pub phase : next ≡ going_on table going x (taken table backs p r going x)
 
+-- how many steps are shown, where a walk is found
+abbrev pub shown_steps : Optional ℕ → Option ℕ
+shown_steps None = none
+shown_steps (Some steps) = some steps
+
 -- tables with edges between nodes of the word alone are searched: nothing is written where there is no walk, else the walk
 pub data Searched (table forwards backs : List ℕ) (nodes : ℕ) (before : List ℕ) : Option ℕ → Option ℕ → List ℕ → Type 0 where
   nothing : 64 ≤ return_in forwards backs → Searched table forwards backs nodes before none none before
   walked : return_in forwards backs < 64
       → Searched table forwards backs nodes before (some (return_in forwards backs + 2)) none
       (put_steps before 0 (walk_of table forwards backs nodes (return_in forwards backs)))
+
+-- the same by what is found
+abbrev pub SearchedFor : (table forwards backs : List ℕ) (nodes : ℕ) (before : List ℕ) → Optional ℕ → List ℕ → Type 0
+SearchedFor table forwards backs nodes before found after = Searched table forwards backs nodes before (shown_steps found) none after
 
 -- ---- what is promised
 
@@ -171,8 +180,7 @@ refusal_in (Ok found) = none
 -- N3: how many steps are shown, where a walk is shown
 abbrev pub steps_in : Result (Optional ℕ) Fault → Option ℕ
 steps_in (Err fault) = none
-steps_in (Ok None) = none
-steps_in (Ok (Some steps)) = some steps
+steps_in (Ok found) = shown_steps found
 
 -- what is answered, the refusal and the steps, and what the area holds afterwards. S20: under 65 steps it is too short, and stays as it was. Else
 -- it stays as it was where no graph whose edges the tables hold has a dangerous closed walk among the nodes of the word; or (Req 01) the walk that

@@ -14,7 +14,7 @@ ghost use Rattle.walk_nodes.specs.Nodes.{rows_in};
 ghost use Rattle.walk_reach.specs.Layers.{joined_rows};
 ghost use Rattle.walk_lead.specs.Leads.{lead_rows};
 ghost use Rattle.walk_first.specs.FirstSteps.{opens_at, sought, Unasked, steps_from, chosen_word, chosen_words, put_words, put_steps};
-ghost use Rattle.walk_first.specs.FirstSteps.{refusal_in, steps_in, TakenAs, Searched, WalkAnswered};
+ghost use Rattle.walk_first.specs.FirstSteps.{refusal_in, steps_in, TakenAs, SearchedFor, WalkAnswered};
 
 use edge_word::{NODES, PAIRS, PLACES};
 use pick_laws::{Going, STEP_WORDS};
@@ -169,15 +169,14 @@ fn search_rows(
     nodes: u64,
     wide: &mut [u64; PAIRS],
     out: &mut [u64],
-) -> Result<Option<usize>, Fault>
+) -> Option<usize>
     requires { (260 ≤ length out.old) × (rows.now ≡ joined_rows forwards.now) × (leads.now ≡ lead_rows forwards.now backs.now) }
-    ensures searched { Searched table.now forwards.now backs.now nodes out.old (steps_in result) (refusal_in result)
-        out.new }
+    ensures searched { SearchedFor table.now forwards.now backs.now nodes out.old result out.new }
     ensures lent { Lent wide.old wide.new }
 {
     let d = shortest_return(rows, leads);
     if NODES <= d {
-        return Ok(None);
+        return None;
     }
     let steps = d + 2;
     let later = first_start(rows, leads, steps);
@@ -198,7 +197,7 @@ fn search_rows(
         nodes,
     };
     put_walk(&s, steps, &mut needs[..n], &mut limits[..n], out);
-    Ok(Some(steps))
+    Some(steps)
 }
 
 // The same with the rows worked out, as many as the table of forward edges has.
@@ -209,10 +208,9 @@ fn search(
     nodes: u64,
     wide: &mut [u64; PAIRS],
     out: &mut [u64],
-) -> Result<Option<usize>, Fault>
+) -> Option<usize>
     requires { 260 ≤ length out.old }
-    ensures searched { Searched table.now forwards.now backs.now nodes out.old (steps_in result) (refusal_in result)
-        out.new }
+    ensures searched { SearchedFor table.now forwards.now backs.now nodes out.old result out.new }
     ensures lent { Lent wide.old wide.new }
 {
     let n = rows_in(forwards);
@@ -270,9 +268,9 @@ pub fn find_walk(
         return Err(Fault::Area);
     }
     if nodes == EVERY_NODE {
-        return search(table, forwards, backs, nodes, wide, out);
+        return Ok(search(table, forwards, backs, nodes, wide, out));
     }
     let f = chosen_words(forwards, nodes);
     let b = chosen_words(backs, nodes);
-    search(table, &f, &b, nodes, wide, out)
+    Ok(search(table, &f, &b, nodes, wide, out))
 }
