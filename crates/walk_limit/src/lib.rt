@@ -45,7 +45,8 @@ fn limit_at(ways: &[u64], wide: &[u64], r: usize, going: Going, y: usize) -> u64
     }
 }
 
-// The same where y is one of the nodes; no step into another counts.
+// The same where y is one of the nodes; no step into another counts. (A struct of what is asked, as in walk_need, would be made for one call and be
+// no shorter.)
 fn limit_among(ways: &[u64], wide: &[u64], nodes: u64, r: usize, going: Going, y: usize) -> u64
     requires { y < 64 }
     ensures { result ≡ limit_among ways.now wide.now nodes r going y }

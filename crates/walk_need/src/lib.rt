@@ -144,7 +144,7 @@ impl<'a> Asked<'a> {
 }
 
 // Writes how far a forward step into each node must open, for as many nodes as there is room for, 64 at most, where r steps are left after it; only
-// steps into the nodes of the word count.
+// steps into the nodes of the word count. What is asked stands one by one here, as the promise names it.
 pub fn needs_in(
     backs: &[u64],
     ways: &[u64],

@@ -17,11 +17,14 @@ loop-v-init c = search_start _ _
 
 pub returns-then-wraps_at : goal.returns-then-wraps_at
 returns-then-wraps_at c =
+    let here = c.worked.ensures in
     wrap_sought _ _ _ _ _ c.capped-end.ensures c.rows_in-n.ensures.0 c.layers_at-reach.ensures
-    (search_stop _ _ _ c.loop-v.invariant (omega arith) (sym (rw (c.worked.ensures.0, c.worked.ensures.1) at c.wraps_at.ensures) ∙ c.if-wraps_at.true))
+    (search_stop _ _ _ c.loop-v.invariant (omega arith) (sym (rw (here.0, here.1) at c.wraps_at.ensures) ∙ c.if-wraps_at.true))
 
 pub loop-v-preserved : goal.loop-v-preserved
-loop-v-preserved c = search_turn _ _ _ c.loop-v.invariant (omega arith) (sym (rw (c.worked.ensures.0, c.worked.ensures.1) at c.wraps_at.ensures) ∙ c.if-wraps_at.false)
+loop-v-preserved c =
+    let here = c.worked.ensures in
+    search_turn _ _ _ c.loop-v.invariant (omega arith) (sym (rw (here.0, here.1) at c.wraps_at.ensures) ∙ c.if-wraps_at.false)
 
 pub returns : goal.returns
 returns c =
