@@ -5,6 +5,7 @@
 ghost use Rattle.std.specs.Prelude.{◌≤◌, length, IfSome};
 
 use check::same;
+use refusal::Fault;
 use spec_text::{CELLS, Line, LineKind, Workload};
 use std::env::{Env, FillError};
 use std::fs::File;
@@ -96,23 +97,23 @@ fn show_part(out: Stdout, whole: Workload, group: u16, parsed: Parsed) {
         print_refused(out, number);
         return;
     }
-    let part = value_part::part_of(whole, group);
-    let refusal = part.number;
-    if refusal != 0 {
-        print_refused(out, refusal);
-        return;
+    match value_part::part_of(whole, group) {
+        Ok(part) => print_same(out, same_value(part, parsed.work)),
+        Err(_) => print_refused(out, Fault::NotGiven.number()),
     }
-    print_same(out, same_value(part.work, parsed.work));
 }
 
 // ---- values near the whole that no text gives
 
 // What is answered for a value that no text gives, and whether the value is handed back.
 fn show_near(out: Stdout, near: Workload) {
-    let part = value_part::part_of(near, 65535);
+    let (number, work) = match value_part::part_of(near, 65535) {
+        Ok(part) => (0, part),
+        Err(back) => (Fault::NotGiven.number(), back.0),
+    };
     print(out, b": ");
-    print_number(out, part.number as u64);
-    print_same(out, same_value(part.work, near));
+    print_number(out, u64::from(number));
+    print_same(out, same_value(work, near));
 }
 
 // A value with another line in a cell, of this kind and with these reads, and another count of lines.
