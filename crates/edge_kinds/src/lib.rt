@@ -39,7 +39,7 @@ pub fn kind_has(k: StatementKind, fact: u64) -> bool
     kind_facts(k) & fact != 0
 }
 
-// The number of a kind in a row, 0 to 7.
+// The number of a kind in a row, 0 to 7. Two functions and no From: both types are another crate's.
 pub fn kind_number(k: StatementKind) -> u64
     ensures { result ≡ kind_number k }
 {

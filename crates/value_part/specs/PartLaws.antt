@@ -1,5 +1,5 @@
 -- The steps of the code make the part.
-use Rattle.std.specs.Prelude.{Bool, false, cond, ◌⊎◌, ◌≡◌, refl, ℕ, ◌+◌, ◌≤◌, ◌<◌, eqb, get_or, set}
+use Rattle.std.specs.Prelude.{Result, Bool, false, cond, ◌⊎◌, ◌≡◌, refl, ℕ, ◌+◌, ◌≤◌, ◌<◌, eqb, get_or, set}
 use Rattle.std.proofs.Math.Bool.{true}
 use mathlib.Core.List.{List, [], ◌∷◌, ◌++◌, append_assoc, append-nil}
 use Rattle.std.proofs.Common.{inl, inr, ◌∙◌, add-one, arith, length-append, drop-cons, get_or-take, length-take-le}
@@ -22,7 +22,7 @@ use Rattle.spec_part.specs.Group.{chosen_from, until_program, program_lines, joi
 use Rattle.line_kinds.specs.Kinds.{line_facts, has_id}
 use Rattle.value_unused.specs.Unused.{unused_cells}
 use Rattle.value_part.specs.declared.Gone.{Gone}
-use Rattle.value_part.specs.declared.Part.{Part}
+use Rattle.value_part.specs.declared.NotGiven.{NotGiven}
 use Rattle.value_part.specs.Parted.{Parted}
 use Rattle.value_part.specs.Parted.Parted.{refused, part}
 use Rattle.value_part.specs.PartSteps.{numbered_as, gone_on, kept_lines, Going}
@@ -226,7 +226,7 @@ module _ {group : ℕ} {w : Workload} (g : Given w) where
 -- ---- the answer
 
 -- one result is settled
-pub parted_one : {w : Workload} {group : ℕ} {r s : Part} → Parted w group r → Parted w group s → r ≡ s
+pub parted_one : {w : Workload} {group : ℕ} {r s : Result Workload NotGiven} → Parted w group r → Parted w group s → r ≡ s
 parted_one (refused no_text) (refused other) = refl
 parted_one (refused no_text) (part g) = absurd (no_text g)
 parted_one (part g) (refused no_text) = absurd (no_text g)

@@ -10,12 +10,9 @@ ghost use Rattle.value_part.specs.PartSteps.{numbered_as, gone_on};
 
 use spec_text::{Line, LineKind, Workload};
 
-// What a value and a group give: number 0 and the part's value, or 21 and the value itself, which no text gives.
+// A value that no text gives, handed back as it is.
 #[derive(Clone, Copy)]
-pub struct Part {
-    pub work: Workload,
-    pub number: u8,
-}
+pub struct NotGiven(pub Workload);
 
 // How far the lines of the whole have been gone through: how many programs were passed, how many of them were chosen, and whether the lines at
 // hand are kept.
@@ -30,8 +27,7 @@ struct Gone {
 fn is_program(l: Line) -> bool
     ensures { result ≡ is_program l }
 {
-    let kind = l.kind;
-    line_kinds::line_facts(kind) == line_kinds::ID
+    line_kinds::line_facts(l.kind) == line_kinds::ID
 }
 
 // A program's `pr` with this number; any other line as it is.
@@ -81,42 +77,30 @@ fn kept_lines(w: Workload, group: u16) -> Workload
     requires { Given w }
     ensures { result ≡ part_of group w }
 {
-    let count = w.count;
     let mut part = value_unused::unused_cells(0);
     let mut at = Gone {
         passed: 0,
         chosen: 0,
         keeping: true,
     };
-    let mut i: usize = 0;
-    while i < count {
-        let l = w.lines[i];
-        i += 1;
+    for l in &w.lines[..w.count] {
         let number = at.chosen;
-        at = go_on(group, at, l);
+        at = go_on(group, at, *l);
         if !at.keeping {
             continue;
         }
-        let n = part.count;
-        let kept = numbered(number, l);
-        part.lines[n] = kept;
-        part.count = n + 1;
+        part.lines[part.count] = numbered(number, *l);
+        part.count += 1;
     }
     part
 }
 
-// The part of a value that a group of its programs makes: bit k of the group chooses program k.
-pub fn part_of(w: Workload, group: u16) -> Part
+// The part of a value that a group of its programs makes: bit k of the group chooses program k. A value that no text gives is handed back.
+pub fn part_of(w: Workload, group: u16) -> Result<Workload, NotGiven>
     ensures { Parted w group result }
 {
     if !value_given::is_given(w) {
-        return Part {
-            work: w,
-            number: 21,
-        };
+        return Err(NotGiven(w));
     }
-    Part {
-        work: kept_lines(w, group),
-        number: 0,
-    }
+    Ok(kept_lines(w, group))
 }

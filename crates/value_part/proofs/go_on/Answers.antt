@@ -1,8 +1,6 @@
 -- Each return is one of the three cases: a line that is no `pr` (on-own), the `pr` of a program that is not chosen (on-other), and of one that is
 -- (on-chosen).
 use mathlib.Core.Path.{sym, ◌∙◌}
-use borrow.Author.Rules.{rules}
-use borrow.Author.Tests.{not-true, not-false}
 use Rattle.value_part.specs.PartLaws.{on_own, on_chosen, on_other}
 use Rattle.value_part.proofs.go_on.Goals as goal
 

@@ -1,5 +1,4 @@
 -- The kind's facts are an id alone exactly where the kind is `pr` (only-id).
-use borrow.Author.Rules.{rules}
 use Rattle.spec_text.specs.Reading.{is_program}
 use Rattle.value_part.specs.PartLaws.{only_id}
 use Rattle.value_part.proofs.is_program.Goals as goal

@@ -1,7 +1,5 @@
 -- Where the line is no `pr` it is handed back; else the line that is made is the definition's.
 use mathlib.Core.Path.{sym, ◌∙◌}
-use borrow.Author.Rules.{rules}
-use borrow.Author.Tests.{not-true, not-false}
 use Rattle.spec_text.specs.Text.{line_with}
 use Rattle.value_part.specs.PartSteps.{numbered_as}
 use Rattle.value_part.proofs.numbered.Goals as goal

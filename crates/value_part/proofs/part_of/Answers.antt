@@ -1,6 +1,4 @@
 -- What decides S21 decides which of the two answers it is.
-use borrow.Author.Rules.{rules}
-use borrow.Author.Tests.{not-true, not-false}
 use Rattle.value_part.specs.Parted.Parted.{refused, part}
 use Rattle.value_part.proofs.part_of.Goals as goal
 
