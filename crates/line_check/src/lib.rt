@@ -34,6 +34,7 @@ fn in_body(words: &[u64; line_state::WORDS]) -> bool
 }
 
 // The innermost open block is of this part.
+#[tactic(auto, unfolding(line_state::specs::StateWords::state_in))]
 fn innermost(words: &[u64; line_state::WORDS], part: u64) -> bool
     ensures { result ≡ innermost_of (state_in words.now).stack part }
 {

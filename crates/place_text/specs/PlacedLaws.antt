@@ -1,19 +1,19 @@
 -- From what the parts promise to what is promised of a text's rows; and what the rows are good for.
-use Rattle.std.specs.Prelude.{true, ◌⊎◌, take, Result, Ok, Err}
+use Rattle.std.specs.Prelude.{◌⊎◌, take, Result, Ok, Err}
 use Rattle.std.proofs.Math.Bool.{false}
 use Rattle.std.proofs.lemmas.Bool.{false≢true}
 use mathlib.Core.List.{List, ◌++◌}
-use Rattle.std.proofs.Math.Option.{Option, none, some}
-use Rattle.std.proofs.Math.Path.{◌≡◌, refl, ap, ap₂}
-use Rattle.std.proofs.Common.{sym, subst, ◌∙◌, inl, inr}
+use Rattle.std.proofs.Math.Option.{Option, some}
+use Rattle.std.proofs.Math.Path.{◌≡◌, refl, ap}
+use Rattle.std.proofs.Common.{sym, ◌∙◌, inl}
 use Prim.Native.Nat.{ℕ, ◌*◌, ◌≤◌}
 use native.Mathlib.Omega.{arith}
 use Rattle.std.proofs.Math.ListN.{length, drop}
 use Rattle.std.proofs.Math.Seq.{take_at}
 use Rattle.spec_text.specs.declared.Line.{Line}
 use Rattle.spec_text.specs.Reading.{read}
-use Rattle.spec_text.specs.Reading.Outcome.{refused, accepted}
-use Rattle.spec_text.specs.Value.{Given, lines_of, value_of}
+use Rattle.spec_text.specs.Reading.Outcome.{accepted}
+use Rattle.spec_text.specs.Value.{lines_of, value_of}
 use Rattle.law_text.specs.ValueLaws.{lines_of_value, value_given, given_fits}
 use Rattle.spec_graph.specs.Program.{programs_of}
 use Rattle.spec_graph.specs.Unfolding.{nodes_of}

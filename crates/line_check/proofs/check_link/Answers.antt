@@ -1,7 +1,6 @@
 -- The words are the counts of the state, and `link_fits` is the test of links: so `first_fault` is given the tests that `check_as` lists for a link.
 use Rattle.line_state.specs.StateSteps.{room_of, ordered_of, named_as, sets_fit_as, is_link_of}
 use Rattle.line_state.specs.StateWords.{state_in}
-use borrow.Author.Rules.{rules}
 use Rattle.line_check.proofs.check_link.Goals as goal
 
 pub returns : goal.returns

@@ -2,7 +2,6 @@
 -- far are relations.
 use Rattle.line_state.specs.StateSteps.{room_of, ordered_of, named_as, sets_fit_as, is_link_of}
 use Rattle.line_state.specs.StateWords.{state_in}
-use borrow.Author.Rules.{rules}
 use Rattle.line_check.proofs.check_relation.Goals as goal
 
 pub returns : goal.returns

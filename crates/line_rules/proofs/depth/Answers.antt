@@ -2,7 +2,6 @@
 use mathlib.Core.Path.{refl}
 use Rattle.line_rules.specs.WordsHoldLaws.{words_depth}
 use Rattle.line_state.specs.StateWords.{state_in}
-use borrow.Author.Rules.{rules}
 use Rattle.line_rules.proofs.depth.Goals as goal
 
 pub returns : goal.returns

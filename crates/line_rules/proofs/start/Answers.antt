@@ -1,6 +1,5 @@
 -- `line_state::start` sets what is looked at before the first line, and such a state holds no line (words-start).
 use Rattle.line_rules.specs.WordsHoldLaws.{words_start}
-use borrow.Author.Rules.{rules}
 use native.Mathlib.Omega.{arith}
 use Rattle.line_rules.proofs.start.Goals as goal
 

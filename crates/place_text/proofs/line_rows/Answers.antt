@@ -1,7 +1,6 @@
 -- The first words of the lines are lent on.
 use mathlib.Core.Path.{sym}
 use lib.Seq.{length-take-le}
-use borrow.Author.Rules.{rules}
 use Rattle.place_text.proofs.line_rows.Goals as goal
 
 pub slice_bounds-fill_lines-end : goal.slice_bounds-fill_lines-end

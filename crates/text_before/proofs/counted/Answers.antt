@@ -2,7 +2,6 @@
 use mathlib.Core.Path.{refl}
 use Rattle.line_state.specs.StateWords.{state_in}
 use Rattle.text_before.specs.TakenLaws.{held_counts}
-use borrow.Author.Rules.{rules}
 use Rattle.text_before.proofs.counted.Goals as goal
 
 pub returns : goal.returns

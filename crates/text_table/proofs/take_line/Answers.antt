@@ -1,5 +1,4 @@
 -- `take_tested` tests the line and takes it into the state; where it passed it is put into the table.
-use mathlib.Core.Path.{refl}
 use Rattle.std.proofs.lemmas.Result.{err_from_is_err_and}
 use Rattle.refusal.specs.NumberLaws.{number_some}
 use Rattle.text_table.proofs.take_line.Goals as goal

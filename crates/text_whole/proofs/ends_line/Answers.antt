@@ -1,8 +1,7 @@
 -- No byte ends no line (endsLine-none); else the last byte decides (endsLine-last).
 use Rattle.text_whole.specs.WholeLaws.{ends_line_none, ends_line_last}
-use mathlib.Core.Path.{◌≡◌, refl, sym, ap, ◌∙◌}
+use mathlib.Core.Path.{sym}
 use native.Mathlib.Omega.{arith}
-use borrow.Author.Rules.{rules}
 use Rattle.text_whole.proofs.ends_line.Goals as goal
 
 pub returns-then-n-eq0 : goal.returns-then-n-eq0

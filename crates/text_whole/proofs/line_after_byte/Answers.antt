@@ -2,7 +2,6 @@
 use borrow.Author.Tests.{eq-eqb, ne_eqb}
 use Rattle.text_whole.specs.Whole.{line_after_byte}
 use native.Mathlib.Numerals.{add-one}
-use borrow.Author.Rules.{rules}
 use Rattle.text_whole.proofs.line_after_byte.Goals as goal
 
 pub returns-then-b-eq10 : goal.returns-then-b-eq10

@@ -4,7 +4,6 @@ use lib.Count.{leading_le}
 use Rattle.value_length.specs.LineSizeLaws.{hexadecimal_zero, hexadecimal_many}
 use native.Mathlib.Omega.{arith}
 use mathlib.Core.Path.{sym}
-use lib.ListN.{set}
 use Rattle.value_length.proofs.hexadecimal_digits.Goals as goal
 
 pub returns-then-set-eq0 : goal.returns-then-set-eq0

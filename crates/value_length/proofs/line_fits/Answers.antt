@@ -1,9 +1,6 @@
 -- Each value is held to whether the kind has its field, by the facts that `line_facts` gives, and so a line fits (facts-fit).
 use Rattle.value_length.specs.LineSizeLaws.{facts_fit}
 use native.Mathlib.Omega.{arith}
-use borrow.Author.Rules.{rules}
-use Rattle.value_length.proofs.value_fits.Reads as value-fits-reads
-use Rattle.line_kinds.proofs.line_facts.Reads as line-facts-reads
 use Rattle.value_length.proofs.line_fits.Goals as goal
 
 pub returns : goal.returns

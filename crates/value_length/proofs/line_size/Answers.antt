@@ -1,12 +1,10 @@
 -- A line that does not fit has no size (size-unfit); one that fits has the digits of its six values and 9 bytes more: the word, six spaces, the
 -- line end (size_fits).
-use borrow.Author.Tests.{not-true, not-false}
 use Rattle.value_length.specs.Size.{size_said}
 use Rattle.value_length.specs.LineSizeLaws.{size_fits, size_unfit}
 use native.Mathlib.Omega.{arith}
 use mathlib.Core.Option.{some}
 use mathlib.Core.Path.{sym, ap, ◌∙◌}
-use borrow.Author.Rules.{rules}
 use Rattle.value_length.proofs.line_size.Goals as goal
 
 pub returns-then-not-line_fits : goal.returns-then-not-line_fits
