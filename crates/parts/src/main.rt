@@ -10,35 +10,6 @@ use std::io::{Stdout, Write};
 use text_read::read_text;
 use value_part::{NotGiven, part_of};
 
-// ---- two values
-
-// A number for each kind of line: those of statements, then the others.
-fn kind_number(kind: LineKind) -> u64 {
-    match kind {
-        LineKind::St(k) => edge_kinds::kind_number(k),
-        LineKind::Rl => 8,
-        LineKind::Fk => 9,
-        LineKind::Pr => 10,
-        LineKind::Lo => 11,
-        LineKind::Br => 12,
-        LineKind::El => 13,
-        LineKind::En => 14,
-        LineKind::Li => 15,
-    }
-}
-
-// All seven values of two lines are the same. A derived `==` would stand in spec_text, whose types the laws speak of.
-fn same_line(a: &Line, b: &Line) -> bool {
-    kind_number(a.kind) == kind_number(b.kind)
-        && (a.id, a.rel, a.to) == (b.id, b.rel, b.to)
-        && (a.reads, a.writes, a.tests) == (b.reads, b.writes, b.tests)
-}
-
-// Two values count as many lines, and all their cells are the same, those after the last line too.
-fn same_value(a: &Workload, b: &Workload) -> bool {
-    a.count == b.count && a.lines.iter().zip(&b.lines).all(|(x, y)| same_line(x, y))
-}
-
 // ---- what is printed
 
 fn print_same(out: Stdout, yes: bool) {
@@ -59,7 +30,7 @@ fn show_part(out: Stdout, whole: Workload, group: u16, parsed: Result<Workload, 
         }
     };
     match part_of(whole, group) {
-        Ok(part) => print_same(out, same_value(&part, &w)),
+        Ok(part) => print_same(out, part == w),
         Err(_) => print_refused(out, Fault::NotGiven.number()),
     }
 }
@@ -73,7 +44,7 @@ fn show_near(mut out: Stdout, near: Workload) {
         Err(NotGiven(back)) => (Fault::NotGiven.number(), back),
     };
     let _ = write!(out, ": {number}");
-    print_same(out, same_value(&back, &near));
+    print_same(out, back == near);
 }
 
 // A value with another line in a cell, of this kind and with these reads, and another count of lines.

@@ -2,7 +2,7 @@
 #![tactic(auto)]
 
 // The eight kinds of statement; Kl is Req 03's.
-#[derive(Clone, Copy)]
+#[derive(Clone, Copy, PartialEq, Eq)]
 pub enum StatementKind {
     Is,
     Ks,
@@ -15,7 +15,7 @@ pub enum StatementKind {
 }
 
 // The kinds of line; St is a statement of one of the eight kinds.
-#[derive(Clone, Copy)]
+#[derive(Clone, Copy, PartialEq, Eq)]
 pub enum LineKind {
     Rl,
     Fk,
@@ -29,7 +29,7 @@ pub enum LineKind {
 }
 
 // A line: its kind and its six other values; a field that the kind does not have holds 0.
-#[derive(Clone, Copy)]
+#[derive(Clone, Copy, PartialEq, Eq)]
 pub struct Line {
     pub kind: LineKind,
     pub id: u8,
@@ -46,7 +46,7 @@ pub const TEXT_BYTES: usize = 32768;
 pub const CELLS: usize = 1616;
 
 // A workload: its lines after the names line. Cells past `count` hold `unused_line` of specs/Text: kind En and six zeros.
-#[derive(Clone, Copy)]
+#[derive(Clone, Copy, PartialEq, Eq)]
 pub struct Workload {
     pub count: usize,
     pub lines: [Line; CELLS],
