@@ -31,22 +31,21 @@ abbrev pub nothing_to : ℕ → EdgeStep
 nothing_to x = record { slot = x; found = None }
 
 -- the edge in slot x with these bytes for its flow and its letter, where there is a letter
-unfoldable pub step_in : ℕ → ℕ → ℕ → Row → Row → EdgeStep
-step_in x flow letter p q =
-    cond (eqb letter 0) (nothing_to (x + 1))
-    (record {
-      slot = x;
-      found = Some (record {
-        node = p.node;
-        leaves = p.place;
-        into = q.node;
-        enters = q.place;
-        sharing = ones_in 64 (shared_by letter p q);
-        lowest = count_trailing_zeros 64 (shared_by letter p q);
-        flow = flow;
-        letter = letter;
-      });
-    })
+unfoldable pub step_in : ℕ → ℕ → Option ℕ → Row → Row → EdgeStep
+step_in x flow None p q = nothing_to (x + 1)
+step_in x flow (Some letter) p q = record {
+  slot = x;
+  found = Some (record {
+    node = p.node;
+    leaves = p.place;
+    into = q.node;
+    enters = q.place;
+    sharing = ones_in 64 (shared_by letter p q);
+    lowest = count_trailing_zeros 64 (shared_by letter p q);
+    flow = flow;
+    letter = letter;
+  });
+}
 
 -- the edge in slot x of two rows: the forward edge in an even slot, the back edge in an odd one
 unfoldable pub step_at : ℕ → Row → Row → EdgeStep

@@ -1,5 +1,5 @@
 -- Laws of the search for an edge.
-use Rattle.std.specs.Prelude.{◌≡◌, Bool, None, Some, length}
+use Rattle.std.specs.Prelude.{◌≡◌, Bool, Option, None, Some, length}
 use Rattle.std.proofs.Math.Path.{refl, sym, ap, ap₂, subst}
 use Rattle.std.proofs.Common.{◌∙◌, add-zero, zero-add, add-suc, suc-add, add-one, eq-eqb, ne_eqb}
 use Rattle.std.proofs.Math.Bool.{true, false, cond}
@@ -32,18 +32,18 @@ use Rattle.edge_count.specs.Flattened.{numbers_from_append, slot_edges, edges_fl
 
 -- ---- the edge in a slot of two rows
 
-module _ (x : ℕ) (p q : Row) {letter : ℕ} {r : EdgeStep} where
+module _ (x : ℕ) (p q : Row) {letter : Option ℕ} {r : EdgeStep} where
   pub step_even : x % 2 ≡ 0 → letter ≡ letter_between G.Flow.forward p q → r ≡ step_in x 0x66 letter p q → r ≡ step_at x p q
   unfolding step_at
   step_even even e g =
-      g ∙ ap (λ (l : ℕ). step_in x 0x66 l p q) e
+      g ∙ ap (λ (l : Option ℕ). step_in x 0x66 l p q) e
       ∙ sym (ap (λ (c : Bool). cond c (step_in x 0x66 (letter_between G.Flow.forward p q) p q) (step_in x 0x62 (letter_between G.Flow.back p q) p q))
       (eq-eqb (x % 2) 0 even))
 
   pub step_odd : (x % 2 ≡ 0 → ⊥) → letter ≡ letter_between G.Flow.back p q → r ≡ step_in x 0x62 letter p q → r ≡ step_at x p q
   unfolding step_at
   step_odd odd e g =
-      g ∙ ap (λ (l : ℕ). step_in x 0x62 l p q) e
+      g ∙ ap (λ (l : Option ℕ). step_in x 0x62 l p q) e
       ∙ sym (ap (λ (c : Bool). cond c (step_in x 0x66 (letter_between G.Flow.forward p q) p q) (step_in x 0x62 (letter_between G.Flow.back p q) p q))
       (ne_eqb (x % 2) 0 odd))
 
@@ -51,7 +51,6 @@ module _ (x : ℕ) (p q : Row) {letter : ℕ} {r : EdgeStep} where
 
 -- a step with a letter from what the letter's sets share
 pub step_made : (x flow letter : ℕ) (p q : Row) (m : ℕ)
-    → (letter ≡ 0 → ⊥)
     → m ≡ shared_by letter p q
     → m < 2 ^ 64
     → ◌≡◌ {A = EdgeStep}
@@ -68,27 +67,25 @@ pub step_made : (x flow letter : ℕ) (p q : Row) (m : ℕ)
         letter = letter;
       });
     })
-    (step_in x flow letter p q)
+    (step_in x flow (Some letter) p q)
 unfolding step_in
-step_made x flow letter p q m there e small =
-    simp (ne_eqb letter 0 there)
-    (λ i. record {
-      slot = x;
-      found = Some (record {
-        node = p.node;
-        leaves = p.place;
-        into = q.node;
-        enters = q.place;
-        sharing = (sym (ones_in_ones 64 m small) ∙ ap (ones_in 64) e) i;
-        lowest = count_trailing_zeros 64 (e i);
-        flow = flow;
-        letter = letter;
-      });
-    })
+step_made x flow letter p q m e small = λ i. record {
+  slot = x;
+  found = Some (record {
+    node = p.node;
+    leaves = p.place;
+    into = q.node;
+    enters = q.place;
+    sharing = (sym (ones_in_ones 64 m small) ∙ ap (ones_in 64) e) i;
+    lowest = count_trailing_zeros 64 (e i);
+    flow = flow;
+    letter = letter;
+  });
+}
 
 -- the step with a letter of its own
 step_letter : (x : ℕ) (flow : G.Flow) (p q : Row) (l : E.Letter) → row_letter flow p q ≡ l
-    → step_in x (flow_byte flow) (byte_of l) p q ≡ record { slot = x; found = Some (coded (row_edge flow p q)) }
+    → step_in x (flow_byte flow) (Some (byte_of l)) p q ≡ record { slot = x; found = Some (coded (row_edge flow p q)) }
 unfolding step_in letter_from coded row_edge
 step_letter x flow p q E.Letter.A e = rw e
 step_letter x flow p q E.Letter.B e = rw e
@@ -97,7 +94,7 @@ step_letter x flow p q E.Letter.D e = rw e
 step_letter x flow p q E.Letter.E e = rw e
 
 -- the letter between two rows is that of the edge, where one stands
-pub letter_of_lem : (flow : G.Flow) (p q : Row) → letter_between flow p q ≡ cond (row_stands flow p q) (byte_of (row_letter flow p q)) 0
+pub letter_of_lem : (flow : G.Flow) (p q : Row) → letter_between flow p q ≡ cond (row_stands flow p q) (Some (byte_of (row_letter flow p q))) None
 unfolding letter_between row_forward row_back row_letter
 letter_of_lem G.Flow.forward p q = refl
 letter_of_lem G.Flow.back p q = refl
@@ -257,7 +254,7 @@ module _ (table : List ℕ) where
         where
           go : (b : Bool) → stands_at table x ≡ b
               → Looked table x
-              (step_in x (flow_byte flow) (cond b (byte_of (row_letter flow (left_row table x) (right_row table x))) 0)
+              (step_in x (flow_byte flow) (cond b (Some (byte_of (row_letter flow (left_row table x) (right_row table x)))) None)
               (left_row table x) (right_row table x))
           go true t =
               let is = step_letter x flow (left_row table x) (right_row table x) _ refl in
@@ -269,7 +266,7 @@ module _ (table : List ℕ) where
               passed (x + 1) (omega arith) (let i = within left in omega arith)
               (λ z l m. let e : z ≡ x = omega arith in ap (stands_at table) e ∙ t)
 
-      module _ (r : EdgeStep) (p q : Row) (letter : ℕ) (right : x % 1024 / 2 < length table / 8)
+      module _ (r : EdgeStep) (p q : Row) (letter : Option ℕ) (right : x % 1024 / 2 < length table / 8)
           (first : p ≡ row_at table (x / 1024)) (second : q ≡ row_at table (x % 1024 / 2)) where
         slot_step : (flow : G.Flow) → row_stands flow (left_row table x) (right_row table x) ≡ stands_at table x
             → coded (row_edge flow (left_row table x) (right_row table x)) ≡ edge_at table x
@@ -277,7 +274,7 @@ module _ (table : List ℕ) where
             → r ≡ step_in x (flow_byte flow) letter p q
             → Looked table x r
         slot_step flow s f e g =
-            rw (g ∙ ap (λ (l : ℕ). step_in x (flow_byte flow) l p q) e
+            rw (g ∙ ap (λ (l : Option ℕ). step_in x (flow_byte flow) l p q) e
             ∙ ap₂ (λ (a b : Row). step_in x (flow_byte flow) (letter_between flow a b) a b) first second) (slot_looked flow s f)
 
         inside : x % 1024 < row_count table * 2

@@ -39,13 +39,13 @@ fn nothing_to(slot: usize) -> EdgeStep
 }
 
 // The edge between two rows with this flow and letter, in its slot; with no letter, the next slot.
-fn step_with(slot: usize, flow: u8, letter: u8, p: Row, q: Row) -> EdgeStep
+fn step_with(slot: usize, flow: u8, letter: Option<u8>, p: Row, q: Row) -> EdgeStep
     requires { slot < 524288 }
     ensures { result ≡ step_in slot flow letter p q }
 {
-    if letter == 0 {
+    let Some(letter) = letter else {
         return nothing_to(slot + 1);
-    }
+    };
     let m = shared_by(letter, p, q);
     let edge = Edge {
         node: p.node,
@@ -68,9 +68,7 @@ fn pair_at(slot: usize, p: Row, q: Row) -> EdgeStep
     requires { slot < 524288 }
     ensures { result ≡ step_at slot p q }
 {
-    let k = p.kind;
-    let l = q.kind;
-    let code = pair_code(k, l);
+    let code = pair_code(p.kind, q.kind);
     if slot % 2 == 0 {
         let letter = forward_letter(code, p, q);
         return step_with(slot, b'f', letter, p, q);

@@ -1,11 +1,10 @@
 -- Laws of cursors: what stands between two rows, and which slots a step passes over.
-use Rattle.std.specs.Prelude.{◌≡◌, Bool, true, false, cond, not, ◌&&◌, ◌||◌, List, None, Some, map, ℕ, ◌+◌, ◌-◌, ◌*◌, ◌/◌, ◌%◌, ◌^◌, ◌≤◌, ◌<◌, eqb, length}
+use Rattle.std.specs.Prelude.{◌≡◌, Bool, true, false, cond, not, ◌&&◌, ◌||◌, List, Option, None, Some, map, ℕ, ◌+◌, ◌-◌, ◌*◌, ◌/◌, ◌%◌, ◌^◌, ◌≤◌, ◌<◌, eqb, length}
 use Rattle.std.proofs.Math.Path.{refl, sym, ap, ap₂, subst}
 use Rattle.std.proofs.lemmas.Option.{none-some, same_Some}
-use Rattle.std.proofs.Common.{◌∙◌, mod-eq_of_lt, add-one, eq-eqb, ne_eqb}
+use Rattle.std.proofs.Common.{◌∙◌, mod-eq_of_lt, add-one}
 use Rattle.std.proofs.Math.Option.{some}
 use Rattle.std.proofs.Math.Nat.{add-zero}
-use Rattle.std.proofs.Math.Decide.{ℕ_discrete}
 use native.Mathlib.Omega.{arith}
 use Rattle.std.specs.Int.Count.{ones, ones_in}
 use Rattle.std.proofs.Math.ListN.{get_elem?}
@@ -34,7 +33,7 @@ use Rattle.place_next.specs.Chains.{chain_of, on_chain}
 use Rattle.place_next.specs.ChainLaws.{on_low, on_high, on_same, on_relation}
 use Rattle.place_link.specs.Links.{kind_word, next_in, first_in, LinkedTold}
 use Rattle.edge_put.specs.Cursors.{words_in, row_in, row_start, past_all, first_row, next_row, at_pair, nothing_at, edge_by, back_shared, back_is}
-use Rattle.edge_put.specs.Cursors.{row_after, slot_of, Inside, LinksIn, LookedAt, Begun}
+use Rattle.edge_put.specs.Cursors.{row_after, back_slot, slot_of, Inside, LinksIn, LookedAt, Begun}
 use Rattle.edge_put.specs.Cursors.{Pending, Standing, BackNext, Open, Paired, Found, Stepped, Passed}
 
 -- a row is told by its words
@@ -69,28 +68,26 @@ edge_letter flow p q l m e is small = go l e is
     go E.Letter.E e is = rw (e, counted, is) refl
 
 -- a letter is that of an edge which stands
-module _ (flow : G.Flow) (p q : Row) {letter : ℕ} (is : letter ≡ letter_between flow p q) where
-  stands_with : (letter ≡ 0 → ⊥) → row_stands flow p q ≡ true
-  stands_with there = go (row_stands flow p q) refl
+module _ (flow : G.Flow) (p q : Row) {letter : Option ℕ} (is : letter ≡ letter_between flow p q) where
+  stands_with : (l : ℕ) → letter ≡ Some l → row_stands flow p q ≡ true
+  stands_with l there = go (row_stands flow p q) refl
     where
       go : (b : Bool) → row_stands flow p q ≡ b → b ≡ true
       go true e = refl
       go false e =
-          absurd (there (is ∙ letter_of_lem flow p q ∙ ap (λ (c : Bool). cond c (byte_of (row_letter flow p q)) 0) e))
+          absurd (none-some l (sym (is ∙ letter_of_lem flow p q ∙ ap (λ (c : Bool). cond c (Some (byte_of (row_letter flow p q))) None) e) ∙ there))
 
-  letter_with : (letter ≡ 0 → ⊥) → letter ≡ byte_of (row_letter flow p q)
-  letter_with there = is ∙ letter_of_lem flow p q ∙ ap (λ (c : Bool). cond c (byte_of (row_letter flow p q)) 0) (stands_with there)
+  letter_with : (l : ℕ) → letter ≡ Some l → l ≡ byte_of (row_letter flow p q)
+  letter_with l there =
+      same_Some l (byte_of (row_letter flow p q))
+      (sym there ∙ is ∙ letter_of_lem flow p q ∙ ap (λ (c : Bool). cond c (Some (byte_of (row_letter flow p q))) None) (stands_with l there))
 
-  stands_without : letter ≡ 0 → row_stands flow p q ≡ false
+  stands_without : letter ≡ None → row_stands flow p q ≡ false
   stands_without none = go (row_stands flow p q) (row_letter flow p q) (sym none ∙ is ∙ letter_of_lem flow p q)
     where
-      go : (b : Bool) (l : E.Letter) → 0 ≡ cond b (byte_of l) 0 → b ≡ false
+      go : (b : Bool) (l : E.Letter) → None ≡ cond b (Some (byte_of l)) None → b ≡ false
       go false l e = refl
-      go true E.Letter.A e = absurd (omega arith)
-      go true E.Letter.B e = absurd (omega arith)
-      go true E.Letter.C e = absurd (omega arith)
-      go true E.Letter.D e = absurd (omega arith)
-      go true E.Letter.E e = absurd (omega arith)
+      go true l e = absurd (none-some (byte_of l) e)
 
 -- the set of a letter's byte
 shared_letter : (l : E.Letter) (p q : Row) → shared_by (byte_of l) p q ≡ row_shared l p q
@@ -111,16 +108,16 @@ shared_back p q = go (row_holds E.Letter.E p q)
     go false = refl
 
 -- an edge made of its letter and what the letter's sets share
-edge_made : (flow : G.Flow) (p q : Row) {letter : ℕ} (m : ℕ) → letter ≡ letter_between flow p q → (letter ≡ 0 → ⊥)
-    → m ≡ row_shared (row_letter flow p q) p q → m < 2 ^ 64 → edge_by (flow_byte flow) letter m p q ≡ coded (row_edge flow p q)
-edge_made flow p q m is there e small =
-    ap (λ (l : ℕ). edge_by (flow_byte flow) l m p q) (letter_with flow p q is there)
+edge_made : (flow : G.Flow) (p q : Row) {letter : Option ℕ} (l m : ℕ) → letter ≡ letter_between flow p q → letter ≡ Some l
+    → m ≡ row_shared (row_letter flow p q) p q → m < 2 ^ 64 → edge_by (flow_byte flow) l m p q ≡ coded (row_edge flow p q)
+edge_made flow p q l m is there e small =
+    ap (λ (x : ℕ). edge_by (flow_byte flow) x m p q) (letter_with flow p q is l there)
     ∙ edge_letter flow p q (row_letter flow p q) m refl e small
 
 -- a kind that is not loose has no back edge that leaves it
-pub back_none : (p q : Row) → loosens p.kind ≡ false → 0 ≡ back_is p q
+pub back_none : (p q : Row) → loosens p.kind ≡ false → None ≡ back_is p q
 back_none p q firm =
-    sym (letter_of_lem G.Flow.back p q ∙ ap (λ (b : Bool). cond b (byte_of (row_letter G.Flow.back p q)) 0) (back_loose_lem p q firm))
+    sym (letter_of_lem G.Flow.back p q ∙ ap (λ (b : Bool). cond b (Some (byte_of (row_letter G.Flow.back p q))) None) (back_loose_lem p q firm))
 
 -- where no letter holds, neither does a back edge's
 back_forward : (p q : Row) → row_forward p q ≡ false → row_back p q ≡ false
@@ -257,11 +254,11 @@ module _ (table : List ℕ) where
 
 module _ (table : List ℕ) where
   -- the slot of a cursor with no back edge to come, and of one with
-  slot_open : (c : Cursor) → c.back ≡ 0 → slot_of c ≡ c.i * 1024 + c.j * 2 + 0
-  slot_open c e = ap (λ (b : Bool). c.i * 1024 + c.j * 2 + cond b 0 1) (eq-eqb c.back 0 e)
+  slot_open : (c : Cursor) → c.back ≡ None → slot_of c ≡ c.i * 1024 + c.j * 2 + 0
+  slot_open c e = ap (λ (b : Option ℕ). c.i * 1024 + c.j * 2 + back_slot b) e
 
-  slot_back : (c : Cursor) → (c.back ≡ 0 → ⊥) → slot_of c ≡ c.i * 1024 + c.j * 2 + 1
-  slot_back c e = ap (λ (b : Bool). c.i * 1024 + c.j * 2 + cond b 0 1) (ne_eqb c.back 0 e)
+  slot_back : (c : Cursor) (letter : ℕ) → c.back ≡ Some letter → slot_of c ≡ c.i * 1024 + c.j * 2 + 1
+  slot_back c letter e = ap (λ (b : Option ℕ). c.i * 1024 + c.j * 2 + back_slot b) e
 
   pub rows_most : {n : ℕ} → n ≡ row_count table → n ≤ 512
   rows_most e = let h = rows_small table in omega arith
@@ -282,7 +279,7 @@ module _ (table : List ℕ) where
     row = λ _. words_back (row_at table i);
     links = links;
     chain = λ z _. chain z;
-    pending = λ e. absurd (e refl);
+    pending = λ b e. absurd (none-some b e);
   }
 
   -- past all rows
@@ -294,7 +291,7 @@ module _ (table : List ℕ) where
     row = λ l. absurd (omega arith);
     links = λ t. absurd (true_false t refl);
     chain = λ t. absurd (true_false t refl);
-    pending = λ e. absurd (e refl);
+    pending = λ b e. absurd (none-some b e);
   }
 
   pub start_made : (n : ℕ) (linked : Bool) (i j : ℕ) (p : Row) {kind : ℕ} → p ≡ row_at table i → kind ≡ kind_number p.kind
@@ -303,7 +300,7 @@ module _ (table : List ℕ) where
         n = n;
         i = i;
         j = j;
-        back = 0;
+        back = None;
         linked = linked;
         w = record {
           node = p.node;
@@ -337,26 +334,26 @@ module _ (table : List ℕ) where
         go false h = omega arith
 
   -- another pair of the same row
-  stands_pair : (c : Cursor) (j back : ℕ) → Standing table c → c.i < c.n → j ≤ c.n
+  stands_pair : (c : Cursor) (j : ℕ) (back : Option ℕ) → Standing table c → c.i < c.n → j ≤ c.n
       → (c.linked ≡ true → j < c.n → chain_of table j ≡ chain_of table c.i)
-      → ((back ≡ 0 → ⊥) → (j < c.n) × (back ≡ back_is (row_in c.w) (row_at table j)))
+      → ((letter : ℕ) → back ≡ Some letter → (j < c.n) × (back ≡ back_is (row_in c.w) (row_at table j)))
       → Standing table (at_pair c j back)
   stands_pair c j back s left h on told = record {
     rows = s.rows;
-    few = go (ℕ_discrete back 0);
+    few = go back refl;
     inside = h;
     row = s.row;
     links = s.links;
     chain = λ z _. on z;
-    pending = λ e. record { left = left; right = (told e).0; letter = (told e).1 };
+    pending = λ b e. record { left = left; right = (told b e).0; letter = (told b e).1 };
   }
     where
       most : c.n ≤ 512
       most = rows_most s.rows
 
-      go : Dec (back ≡ 0) → slot_of (at_pair c j back) ≤ c.n * 1024
-      go (yes e) = let m = most in let x = slot_open (at_pair c j back) e in omega arith
-      go (no e) = let m = most in let x = slot_back (at_pair c j back) e in let l = (told e).0 in omega arith
+      go : (o : Option ℕ) → back ≡ o → slot_of (at_pair c j back) ≤ c.n * 1024
+      go None e = let m = most in let x = slot_open (at_pair c j back) e in omega arith
+      go (Some b) e = let m = most in let x = slot_back (at_pair c j back) b e in let l = (told b e).0 in omega arith
 
   -- no edge to rows of other relations
   over_others : (n : ℕ) (linked : Bool) (i from to : ℕ) → n ≡ row_count table → i < n → LookedAt table n linked i from to
@@ -380,13 +377,13 @@ module _ (table : List ℕ) where
       looked_next table c.n c.linked c.i s.rows s.links c.j right (λ z. s.chain z left right)
 
   -- and the cursor at it
-  stands_next : (c : Cursor) → Standing table c → c.i < c.n → c.j < c.n → Standing table (at_pair c (next_row table c.linked c.j) 0)
+  stands_next : (c : Cursor) → Standing table c → c.i < c.n → c.j < c.n → Standing table (at_pair c (next_row table c.linked c.j) None)
   stands_next c s left right =
       let looked = on_next c s left right in
-      stands_pair c (next_row table c.linked c.j) 0 s left looked.high looked.chain (λ z. absurd (z refl))
+      stands_pair c (next_row table c.linked c.j) None s left looked.high looked.chain (λ b z. absurd (none-some b z))
 
   below_next_row : (c : Cursor) → Standing table c → c.i < c.n → c.j < c.n
-      → edges_below table (slot_of (at_pair c (next_row table c.linked c.j) 0)) ≡ edges_below table (c.i * 1024 + (c.j + 1) * 2 + 0)
+      → edges_below table (slot_of (at_pair c (next_row table c.linked c.j) None)) ≡ edges_below table (c.i * 1024 + (c.j + 1) * 2 + 0)
   below_next_row c s left right =
       over_others c.n c.linked c.i (c.j + 1) (next_row table c.linked c.j) s.rows left (on_next c s left right)
 
@@ -394,12 +391,12 @@ module _ (table : List ℕ) where
   inside_table n j rows l = record { few = let h = rows_most rows in omega arith; whole = rows_whole rows l }
 
   -- the back edge that comes next
-  module _ (c : Cursor) (next : BackNext table c) where
+  module _ (c : Cursor) (letter : ℕ) (next : BackNext table c letter) where
     abbrev s : Standing table c
     s = next.stands
 
     abbrev pend : Pending table c
-    pend = s.pending next.there
+    pend = s.pending letter next.there
 
     pub back_inside : Inside table c.j
     back_inside = inside_table c.n c.j s.rows pend.right
@@ -407,15 +404,15 @@ module _ (table : List ℕ) where
     pub passed_back : (p q : Row) (m : ℕ) (e : Edge) (onto : ℕ) (d : Cursor)
         → p ≡ row_in c.w
         → q ≡ row_at table c.j
-        → m ≡ back_shared c.back p q
+        → m ≡ back_shared letter p q
         → m < 2 ^ 64
-        → e ≡ edge_by 0x62 c.back m p q
+        → e ≡ edge_by 0x62 letter m p q
         → onto ≡ next_row table c.linked c.j
-        → d ≡ at_pair c onto 0
+        → d ≡ at_pair c onto None
         → Passed table c (record { edge = Some e; cursor = d })
     passed_back p q m e onto d left right is small made next_is d_is = rw (d_is, next_is) (record {
       stands = stands_next c s pend.left pend.right;
-      found = λ x t. subst (λ (y : Edge). Found table c y (at_pair c (next_row table c.linked c.j) 0)) (same_Some e x t) told;
+      found = λ x t. subst (λ (y : Edge). Found table c y (at_pair c (next_row table c.linked c.j) None)) (same_Some e x t) told;
       ended = λ t. absurd (none-some e (sym t));
     })
       where
@@ -425,33 +422,33 @@ module _ (table : List ℕ) where
         q₀ : Row
         q₀ = row_at table c.j
 
-        letter : c.back ≡ letter_between G.Flow.back p₀ q₀
-        letter = pend.letter ∙ ap (λ (p : Row). back_is p q₀) (s.row pend.left)
+        letter₀ : c.back ≡ letter_between G.Flow.back p₀ q₀
+        letter₀ = pend.letter ∙ ap (λ (p : Row). back_is p q₀) (s.row pend.left)
 
         stands : row_stands G.Flow.back p₀ q₀ ≡ true
-        stands = stands_with G.Flow.back p₀ q₀ letter next.there
+        stands = stands_with G.Flow.back p₀ q₀ letter₀ letter next.there
 
         shared : m ≡ row_shared (row_letter G.Flow.back p₀ q₀) p₀ q₀
         shared =
-            is ∙ ap₂ (λ (p q : Row). back_shared c.back p q) (left ∙ s.row pend.left) right
-            ∙ ap (λ (l : ℕ). back_shared l p₀ q₀) (letter_with G.Flow.back p₀ q₀ letter next.there) ∙ shared_back p₀ q₀
+            is ∙ ap₂ (λ (p q : Row). back_shared letter p q) (left ∙ s.row pend.left) right
+            ∙ ap (λ (l : ℕ). back_shared l p₀ q₀) (letter_with G.Flow.back p₀ q₀ letter₀ letter next.there) ∙ shared_back p₀ q₀
 
         edge_is : get_elem? (map coded (table_edges table)) (edges_below table (slot_of c)) ≡ some e
         edge_is =
-            ap (λ (x : ℕ). get_elem? (map coded (table_edges table)) (edges_below table x)) (slot_back c next.there)
+            ap (λ (x : ℕ). get_elem? (map coded (table_edges table)) (edges_below table x)) (slot_back c letter next.there)
             ∙ slot_told table c.n c.i c.j s.rows pend.left pend.right G.Flow.back stands
-            ∙ ap some (sym (made ∙ ap₂ (λ (p q : Row). edge_by 0x62 c.back m p q) (left ∙ s.row pend.left) right
-            ∙ edge_made G.Flow.back p₀ q₀ m letter next.there shared small))
+            ∙ ap some (sym (made ∙ ap₂ (λ (p q : Row). edge_by 0x62 letter m p q) (left ∙ s.row pend.left) right
+            ∙ edge_made G.Flow.back p₀ q₀ letter m letter₀ next.there shared small))
 
-        after_is : edges_below table (slot_of (at_pair c (next_row table c.linked c.j) 0)) ≡ edges_below table (slot_of c) + 1
+        after_is : edges_below table (slot_of (at_pair c (next_row table c.linked c.j) None)) ≡ edges_below table (slot_of c) + 1
         after_is =
             let two : c.i * 1024 + (c.j + 1) * 2 + 0 ≡ c.i * 1024 + c.j * 2 + 1 + 1 = omega arith in
             below_next_row c s pend.left pend.right ∙ ap (edges_below table) two
             ∙ below_next table (c.i * 1024 + c.j * 2 + 1)
             (slot_stands table c.n c.i c.j s.rows pend.left pend.right G.Flow.back ∙ stands)
-            ∙ ap (λ (x : ℕ). edges_below table x + 1) (sym (slot_back c next.there))
+            ∙ ap (λ (x : ℕ). edges_below table x + 1) (sym (slot_back c letter next.there))
 
-        told : Found table c e (at_pair c (next_row table c.linked c.j) 0)
+        told : Found table c e (at_pair c (next_row table c.linked c.j) None)
         told = record { edge = edge_is; after = after_is }
 
   -- two rows
@@ -486,21 +483,21 @@ module _ (table : List ℕ) where
     two_on = omega arith
 
     -- past the back slot, where no back edge stands
-    past_back : row_stands G.Flow.back p₀ q₀ ≡ false → edges_below table (slot_of (at_pair c after 0)) ≡ edges_below table (spot + 1)
+    past_back : row_stands G.Flow.back p₀ q₀ ≡ false → edges_below table (slot_of (at_pair c after None)) ≡ edges_below table (spot + 1)
     past_back e =
         below_next_row c st pair.ready.left pair.right ∙ ap (edges_below table) (sym two_on)
         ∙ below_not table (spot + 1) (slot_of_lem G.Flow.back ∙ e)
 
-    stands_on : Standing table (at_pair c after 0)
+    stands_on : Standing table (at_pair c after None)
     stands_on = stands_next c st pair.ready.left pair.right
 
-    module _ (p q : Row) (letter : ℕ) (left : p ≡ row_in c.w) (right : q ≡ row_at table c.j)
+    module _ (p q : Row) (letter : Option ℕ) (left : p ≡ row_in c.w) (right : q ≡ row_at table c.j)
         (told : letter ≡ letter_between G.Flow.forward p q) where
       told₀ : letter ≡ letter_between G.Flow.forward p₀ q₀
       told₀ = told ∙ ap₂ (letter_between G.Flow.forward) (left ∙ st.row pair.ready.left) right
 
       -- with no forward edge there is none
-      pub stepped_none : (onto : ℕ) (d : Cursor) (r : Step) → letter ≡ 0 → onto ≡ after → d ≡ at_pair c onto 0 → r ≡ nothing_at d → Stepped table c r
+      pub stepped_none : (onto : ℕ) (d : Cursor) (r : Step) → letter ≡ None → onto ≡ after → d ≡ at_pair c onto None → r ≡ nothing_at d → Stepped table c r
       stepped_none onto d r none onto_is d_is e = rw (e, d_is, onto_is) (record {
         stands = stands_on;
         found = λ x t. absurd (none-some x t);
@@ -514,74 +511,65 @@ module _ (table : List ℕ) where
           forward : row_stands G.Flow.forward p₀ q₀ ≡ false
           forward = stands_without G.Flow.forward p₀ q₀ told₀ none
 
-          same : edges_below table (slot_of (at_pair c after 0)) ≡ edges_below table (slot_of c)
+          same : edges_below table (slot_of (at_pair c after None)) ≡ edges_below table (slot_of c)
           same =
               past_back (back_forward p₀ q₀ forward)
               ∙ ap (λ (x : ℕ). edges_below table (x + 1)) (sym (add-zero spot))
               ∙ below_not table (spot + 0) (slot_of_lem G.Flow.forward ∙ forward) ∙ ap (edges_below table) (sym spot_is)
 
       -- the forward edge, and after it the back edge, if one stands
-      pub stepped_forward : (m back next : ℕ) (e : Edge) (d : Cursor)
-          → (letter ≡ 0 → ⊥)
-          → m ≡ shared_by letter p q
+      pub stepped_forward : (l m : ℕ) (back : Option ℕ) (next : ℕ) (e : Edge) (d : Cursor)
+          → letter ≡ Some l
+          → m ≡ shared_by l p q
           → m < 2 ^ 64
-          → e ≡ edge_by 0x66 letter m p q
+          → e ≡ edge_by 0x66 l m p q
           → back ≡ back_is p q
           → next ≡ row_after table c.linked c.j back
           → d ≡ at_pair c next back
           → Stepped table c (record { edge = Some e; cursor = d })
-      stepped_forward m back next e d there is small made back_is_lem next_is d_is = rw (d_is, next_is) (record {
-        stands = go_stands (ℕ_discrete back 0);
+      stepped_forward l m back next e d there is small made back_is_lem next_is d_is = rw (d_is, next_is) (record {
+        stands = go_stands back refl;
         found = λ x t.
             subst (λ (y : Edge). Found table c y (at_pair c (row_after table c.linked c.j back) back)) (same_Some e x t)
-            (record { edge = edge_is; after = go (ℕ_discrete back 0) });
+            (record { edge = edge_is; after = go back refl });
         skipped = λ t. absurd (none-some e (sym t));
       })
         where
           stands : row_stands G.Flow.forward p₀ q₀ ≡ true
-          stands = stands_with G.Flow.forward p₀ q₀ told₀ there
+          stands = stands_with G.Flow.forward p₀ q₀ told₀ l there
 
           back₀ : back ≡ back_is p₀ q₀
           back₀ = back_is_lem ∙ ap₂ back_is (left ∙ st.row pair.ready.left) right
 
           shared : m ≡ row_shared (row_letter G.Flow.forward p₀ q₀) p₀ q₀
           shared =
-              is ∙ ap₂ (λ (p q : Row). shared_by letter p q) (left ∙ st.row pair.ready.left) right
-              ∙ ap (λ (l : ℕ). shared_by l p₀ q₀) (letter_with G.Flow.forward p₀ q₀ told₀ there)
+              is ∙ ap₂ (λ (p q : Row). shared_by l p q) (left ∙ st.row pair.ready.left) right
+              ∙ ap (λ (x : ℕ). shared_by x p₀ q₀) (letter_with G.Flow.forward p₀ q₀ told₀ l there)
               ∙ shared_letter (row_letter G.Flow.forward p₀ q₀) p₀ q₀
 
           edge_is : get_elem? (map coded (table_edges table)) (edges_below table (slot_of c)) ≡ some e
           edge_is =
               ap (λ (x : ℕ). get_elem? (map coded (table_edges table)) (edges_below table x)) spot_is
               ∙ slot_told table c.n c.i c.j st.rows pair.ready.left pair.right G.Flow.forward stands
-              ∙ ap some (sym (made ∙ ap₂ (λ (p q : Row). edge_by 0x66 letter m p q) (left ∙ st.row pair.ready.left) right
-              ∙ edge_made G.Flow.forward p₀ q₀ m told₀ there shared small))
+              ∙ ap some (sym (made ∙ ap₂ (λ (p q : Row). edge_by 0x66 l m p q) (left ∙ st.row pair.ready.left) right
+              ∙ edge_made G.Flow.forward p₀ q₀ l m told₀ there shared small))
 
           one_more : edges_below table (spot + 1) ≡ edges_below table (slot_of c) + 1
           one_more =
               ap (λ (x : ℕ). edges_below table (x + 1)) (sym (add-zero spot))
               ∙ below_next table (spot + 0) (slot_of_lem G.Flow.forward ∙ stands) ∙ ap (λ (x : ℕ). edges_below table x + 1) (sym spot_is)
 
-          after_none : back ≡ 0 → row_after table c.linked c.j back ≡ after
-          after_none z = ap (λ (b : Bool). cond b after c.j) (eq-eqb back 0 z)
+          go : (o : Option ℕ) → back ≡ o → edges_below table (slot_of (at_pair c (row_after table c.linked c.j back) back)) ≡ edges_below table (slot_of c) + 1
+          go None z =
+              ap (λ (o : Option ℕ). edges_below table (slot_of (at_pair c (row_after table c.linked c.j o) o))) z ∙ past_back (stands_without G.Flow.back p₀ q₀ back₀ z) ∙ one_more
+          go (Some b) z = ap (λ (o : Option ℕ). edges_below table (slot_of (at_pair c (row_after table c.linked c.j o) o))) z ∙ one_more
 
-          after_some : (back ≡ 0 → ⊥) → row_after table c.linked c.j back ≡ c.j
-          after_some z = ap (λ (b : Bool). cond b after c.j) (ne_eqb back 0 z)
-
-          go : Dec (back ≡ 0) → edges_below table (slot_of (at_pair c (row_after table c.linked c.j back) back)) ≡ edges_below table (slot_of c) + 1
-          go (yes z) =
-              ap₂ (λ (j b : ℕ). edges_below table (slot_of (at_pair c j b))) (after_none z) z
-              ∙ past_back (stands_without G.Flow.back p₀ q₀ back₀ z) ∙ one_more
-          go (no z) =
-              ap (λ (j : ℕ). edges_below table (slot_of (at_pair c j back))) (after_some z)
-              ∙ ap (edges_below table) (slot_back (at_pair c c.j back) z) ∙ one_more
-
-          go_stands : Dec (back ≡ 0) → Standing table (at_pair c (row_after table c.linked c.j back) back)
-          go_stands (yes z) = rw (after_none z, z) stands_on
-          go_stands (no z) =
-              rw (after_some z)
-              (stands_pair c c.j back st pair.ready.left st.inside (λ z l. st.chain z pair.ready.left l) (λ y.
-              (pair.right, back_is_lem ∙ ap₂ back_is left right)))
+          go_stands : (o : Option ℕ) → back ≡ o → Standing table (at_pair c (row_after table c.linked c.j back) back)
+          go_stands None z = subst (λ (o : Option ℕ). Standing table (at_pair c (row_after table c.linked c.j o) o)) (sym z) stands_on
+          go_stands (Some b) z =
+              subst (λ (o : Option ℕ). Standing table (at_pair c (row_after table c.linked c.j o) o)) (sym z)
+              (stands_pair c c.j (Some b) st pair.ready.left st.inside (λ t l. st.chain t pair.ready.left l) (λ x y.
+              (pair.right, sym z ∙ back_is_lem ∙ ap₂ back_is left right)))
 
   -- past the last row
   module _ (c : Cursor) (ready : Open table c) (past : c.n ≤ c.j) where
@@ -643,7 +631,7 @@ module _ (table : List ℕ) where
   -- so far no edge from c on
   pub record Onward (c d : Cursor) : Type 0 where
     pub stands : Standing table d
-    pub none : d.back ≡ 0
+    pub none : d.back ≡ None
     pub below : edges_below table (slot_of d) ≡ edges_below table (slot_of c)
 
   pub onward_step : (c d : Cursor) (r : Step) → Onward c d → Stepped table d r → r.edge ≡ None → Onward c r.cursor

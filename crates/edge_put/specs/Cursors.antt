@@ -1,5 +1,5 @@
 -- The edges of a table one after the other: where the next is looked for, and what a step tells.
-use Rattle.std.specs.Prelude.{◌≡◌, Bool, true, false, cond, List, None, Some, map, ℕ, ◌+◌, ◌*◌, ◌%◌, ◌≤◌, ◌<◌, eqb, length}
+use Rattle.std.specs.Prelude.{◌≡◌, Bool, true, false, cond, List, Option, None, Some, map, ℕ, ◌+◌, ◌*◌, ◌≤◌, ◌<◌, eqb, length}
 use Rattle.std.proofs.Math.Option.{some}
 use Rattle.std.specs.Int.Bits.{bit_and}
 use Rattle.std.specs.Int.Count.{ones, count_trailing_zeros}
@@ -45,7 +45,7 @@ row_in w = record {
 
 -- row i left, of which row j may be entered first
 unfoldable pub row_start : List ℕ → ℕ → Bool → ℕ → ℕ → Cursor
-row_start table n linked i j = record { n = n; i = i; j = j; back = 0; linked = linked; w = words_in (row_at table i) }
+row_start table n linked i j = record { n = n; i = i; j = j; back = None; linked = linked; w = words_in (row_at table i) }
 
 -- all rows left
 abbrev pub past_all : ℕ → Cursor
@@ -53,7 +53,7 @@ past_all n = record {
   n = n;
   i = n;
   j = 0;
-  back = 0;
+  back = None;
   linked = false;
   w = record { node = 0; place = 0; kind = 0; relation = 0; reads = 0; writes = 0; tests = 0; keys = 0 };
 }
@@ -66,14 +66,14 @@ unfoldable pub next_row : List ℕ → Bool → ℕ → ℕ
 next_row table linked j = cond linked (next_in (kind_word table j)) (j + 1)
 
 -- the same row left, another row that may be entered
-abbrev pub at_pair : Cursor → ℕ → ℕ → Cursor
+abbrev pub at_pair : Cursor → ℕ → Option ℕ → Cursor
 at_pair c j back = record { n = c.n; i = c.i; j = j; back = back; linked = c.linked; w = c.w }
 
 -- no edge so far
 abbrev pub nothing_at : Cursor → Step
 nothing_at cursor = record { edge = None; cursor = cursor }
 
--- an edge with this flow and the letter in this word between two rows, whose sets share m
+-- an edge with this flow and letter between two rows, whose sets share m
 abbrev pub edge_by : ℕ → ℕ → ℕ → Row → Row → Edge
 edge_by flow letter m p q = record {
   node = p.node;
@@ -83,24 +83,30 @@ edge_by flow letter m p q = record {
   sharing = ones m;
   lowest = count_trailing_zeros 64 m;
   flow = flow;
-  letter = letter % 256;
+  letter = letter;
 }
 
 -- what the two sets of D share, or those of E
 abbrev pub back_shared : ℕ → Row → Row → ℕ
 back_shared letter p q = cond (eqb letter 0x44) (bit_and p.reads q.writes) (bit_and p.tests q.writes)
 
--- the letter of the back edge between two rows, 0 where none stands
-abbrev pub back_is : Row → Row → ℕ
+-- the letter of the back edge between two rows, if one stands
+abbrev pub back_is : Row → Row → Option ℕ
 back_is p q = letter_between G.Flow.back p q
 
 -- the row to look at next
-abbrev pub row_after : List ℕ → Bool → ℕ → ℕ → ℕ
-row_after table linked j back = cond (eqb back 0) (next_row table linked j) j
+abbrev pub row_after : List ℕ → Bool → ℕ → Option ℕ → ℕ
+row_after table linked j None = next_row table linked j
+row_after table linked j (Some letter) = j
+
+-- a pair's slot: the second where its back edge comes next
+abbrev pub back_slot : Option ℕ → ℕ
+back_slot None = 0
+back_slot (Some letter) = 1
 
 -- the slot that is looked at next
 abbrev pub slot_of : Cursor → ℕ
-slot_of c = c.i * 1024 + c.j * 2 + cond (eqb c.back 0) 0 1
+slot_of c = c.i * 1024 + c.j * 2 + back_slot c.back
 
 -- ---- rows looked at
 
@@ -135,15 +141,15 @@ pub record Standing (table : List ℕ) (c : Cursor) : Type 0 where
   pub row : c.i < c.n → row_in c.w ≡ row_at table c.i
   pub links : LinksIn table c.linked
   pub chain : c.linked ≡ true → c.i < c.n → c.j < c.n → chain_of table c.j ≡ chain_of table c.i
-  pub pending : (c.back ≡ 0 → ⊥) → Pending table c
+  pub pending : (letter : ℕ) → c.back ≡ Some letter → Pending table c
 
-pub record BackNext (table : List ℕ) (c : Cursor) : Type 0 where
+pub record BackNext (table : List ℕ) (c : Cursor) (letter : ℕ) : Type 0 where
   pub stands : Standing table c
-  pub there : c.back ≡ 0 → ⊥
+  pub there : c.back ≡ Some letter
 
 pub record Open (table : List ℕ) (c : Cursor) : Type 0 where
   pub stands : Standing table c
-  pub none : c.back ≡ 0
+  pub none : c.back ≡ None
   pub left : c.i < c.n
 
 -- at a pair of rows
@@ -160,7 +166,7 @@ pub record Found (table : List ℕ) (c : Cursor) (is : Edge) (d : Cursor) : Type
 
 -- no edge stands up to a later slot
 pub record Skipped (table : List ℕ) (c d : Cursor) : Type 0 where
-  pub none : d.back ≡ 0
+  pub none : d.back ≡ None
   pub later : c.i * 1024 + c.j < d.i * 1024 + d.j
   pub below : edges_below table (slot_of d) ≡ edges_below table (slot_of c)
 

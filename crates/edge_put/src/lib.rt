@@ -34,14 +34,14 @@ struct Words {
 }
 
 // A place in the order of a table's edges: row i of n with its words, and the rows from j on are still to be looked at as those that an edge from
-// it enters. Where `back` is not 0 it is the letter of the back edge to row j, which comes next. Where the rows are linked those of other chains are
+// it enters. `back` is the letter of the back edge to row j, where one comes next. Where the rows are linked those of other chains are
 // passed over.
 #[derive(Clone, Copy)]
 struct Cursor {
     n: usize,
     i: usize,
     j: usize,
-    back: u64,
+    back: Option<u8>,
     linked: bool,
     w: Words,
 }
@@ -101,7 +101,7 @@ fn row_start(table: &[u64], n: usize, linked: bool, i: usize, j: usize) -> Curso
         n,
         i,
         j,
-        back: 0,
+        back: None,
         linked,
         w,
     }
@@ -125,7 +125,7 @@ fn past_all(n: usize) -> Cursor
         n,
         i: n,
         j: 0,
-        back: 0,
+        back: None,
         linked: false,
         w,
     }
@@ -154,7 +154,7 @@ fn row_next(table: &[u64], linked: bool, j: usize) -> usize
 }
 
 // The same row left, another row that may be entered.
-fn at_pair(c: Cursor, j: usize, back: u64) -> Cursor
+fn at_pair(c: Cursor, j: usize, back: Option<u8>) -> Cursor
     ensures { result ≡ at_pair c j back }
 {
     let mut next = c;
@@ -170,8 +170,8 @@ fn nothing_at(cursor: Cursor) -> Step
     Step { edge: None, cursor }
 }
 
-// The edge between two rows with this flow and the letter in this word, whose sets share m.
-fn edge_by(flow: u8, letter: u64, m: u64, p: Row, q: Row) -> Edge
+// The edge between two rows with this flow and letter, whose sets share m.
+fn edge_by(flow: u8, letter: u8, m: u64, p: Row, q: Row) -> Edge
     ensures { result ≡ edge_by flow letter m p q }
 {
     Edge {
@@ -182,60 +182,59 @@ fn edge_by(flow: u8, letter: u64, m: u64, p: Row, q: Row) -> Edge
         sharing: u64::count_ones(m),
         lowest: u64::trailing_zeros(m),
         flow,
-        letter: (letter % 256) as u8,
+        letter,
     }
 }
 
 // What the two sets of a back edge's letter share: a back edge has no other letter than D or E.
-fn back_shared(letter: u64, p: Row, q: Row) -> u64
+fn back_shared(letter: u8, p: Row, q: Row) -> u64
     ensures { result ≡ back_shared letter p q }
 {
-    if letter == 0x44 {
+    if letter == b'D' {
         return p.reads & q.writes;
     }
     p.tests & q.writes
 }
 
-// The back edge that comes next.
-fn back_step(table: &[u64], c: Cursor) -> Step
-    requires { BackNext table.now c }
+// The back edge with this letter, which comes next.
+fn back_step(table: &[u64], c: Cursor, letter: u8) -> Step
+    requires { BackNext table.now c letter }
     ensures { Passed table.now c result }
 {
     let w = c.w;
     let p = row_in(w);
     let j = c.j;
-    let letter = c.back;
     let q = row_whole(table, j);
     let m = back_shared(letter, p, q);
     let edge = edge_by(b'b', letter, m, p, q);
-    let cursor = at_pair(c, row_next(table, c.linked, j), 0);
+    let cursor = at_pair(c, row_next(table, c.linked, j), None);
     Step {
         edge: Some(edge),
         cursor,
     }
 }
 
-// The letter of the back edge between two rows; only a loose kind has back edges that leave it.
-fn back_told(code: u32, p: Row, q: Row) -> u64
+// The letter of the back edge between two rows, if one stands; only a loose kind has back edges that leave it.
+fn back_told(code: u32, p: Row, q: Row) -> Option<u8>
     requires { code ≡ code_of p.kind q.kind }
     ensures { result ≡ back_is p q }
 {
     let k = p.kind;
     if kind_has(k, LOOSE) {
-        return back_letter(code, p, q) as u64;
+        return back_letter(code, p, q);
     }
-    0
+    None
 }
 
 // The row to look at next: the same where a back edge comes next.
-fn row_after(table: &[u64], linked: bool, j: usize, back: u64) -> usize
+fn row_after(table: &[u64], linked: bool, j: usize, back: Option<u8>) -> usize
     requires { Inside table.now j }
     ensures { result ≡ row_after table.now linked j back }
 {
-    if back == 0 {
-        return row_next(table, linked, j);
+    match back {
+        Some(_) => j,
+        None => row_next(table, linked, j),
     }
-    j
 }
 
 // The edge between two rows. Where no forward edge stands, no back edge does.
@@ -250,12 +249,12 @@ fn pair_step(table: &[u64], c: Cursor) -> Step
     let k = p.kind;
     let l = q.kind;
     let code = pair_code(k, l);
-    let letter = forward_letter(code, p, q);
-    if letter == 0 {
-        return nothing_at(at_pair(c, row_next(table, c.linked, j), 0));
-    }
+    let told = forward_letter(code, p, q);
+    let Some(letter) = told else {
+        return nothing_at(at_pair(c, row_next(table, c.linked, j), None));
+    };
     let m = shared_by(letter, p, q);
-    let edge = edge_by(b'f', letter as u64, m, p, q);
+    let edge = edge_by(b'f', letter, m, p, q);
     let back = back_told(code, p, q);
     let cursor = at_pair(c, row_after(table, c.linked, j, back), back);
     Step {
@@ -286,8 +285,8 @@ fn next_edge(table: &[u64], c: Cursor) -> Step
     requires { Standing table.now c }
     ensures { Passed table.now c result }
 {
-    if c.back != 0 {
-        return back_step(table, c);
+    if let Some(letter) = c.back {
+        return back_step(table, c, letter);
     }
     let mut d = c;
     while d.i < d.n {

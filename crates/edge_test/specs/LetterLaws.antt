@@ -1,6 +1,6 @@
 -- Where there is a letter an edge stands; the letter of a forward edge is the first that holds; by the code of their kinds the letters that hold
 -- between two rows are told.
-use Rattle.std.specs.Prelude.{Bool, true, false, cond, not, ◌||◌, ◌≡◌, refl, ℕ, eqb}
+use Rattle.std.specs.Prelude.{Bool, true, false, cond, not, ◌||◌, Option, None, Some, is_some, ◌≡◌, refl, ℕ, eqb}
 use Rattle.std.proofs.Math.Path.{ap, fun_ext}
 use Rattle.std.proofs.Common.{◌∙◌, eq-eqb}
 use Rattle.spec_base.specs.Basic.{meets}
@@ -14,26 +14,22 @@ use Rattle.place_row.specs.declared.Row.{Row}
 use Rattle.place_row.specs.RowTable.{row_holds, row_shared, forward_by, back_by, stands_by, letter_by, row_forward, row_back}
 use Rattle.edge_test.specs.Letters.{byte_of, byte_by, letter_between, first_by, told_between, forward_in, back_in, letter_in}
 
--- no letter's byte is 0
-some_byte : (l : Letter) (stands : Bool) → not (eqb (cond stands (byte_of l) 0) 0) ≡ stands
+-- a letter is there where it stands
+some_byte : (l : Letter) (stands : Bool) → is_some (cond stands (Some (byte_of l)) None) ≡ stands
 some_byte l false = refl
-some_byte A true = refl
-some_byte B true = refl
-some_byte C true = refl
-some_byte D true = refl
-some_byte E true = refl
+some_byte l true = refl
 
-letter_stands : (flow : Flow) (code : ℕ) (p q : Row) {r : ℕ} → r ≡ letter_in flow code p q → not (eqb r 0) ≡ stands_by flow (told_between code p q) p q
+letter_stands : (flow : Flow) (code : ℕ) (p q : Row) {r : Option ℕ} → r ≡ letter_in flow code p q → is_some r ≡ stands_by flow (told_between code p q) p q
 unfolding letter_in
 letter_stands flow code p q e =
-    ap (λ (x : ℕ). not (eqb x 0)) e ∙ some_byte (letter_by flow (told_between code p q)) (stands_by flow (told_between code p q) p q)
+    ap is_some e ∙ some_byte (letter_by flow (told_between code p q)) (stands_by flow (told_between code p q) p q)
 
 -- an edge is told where a letter is
-pub forward_letter : (code : ℕ) (p q : Row) {r : ℕ} → r ≡ letter_in Flow.forward code p q → not (eqb r 0) ≡ forward_in code p q
+pub forward_letter : (code : ℕ) (p q : Row) {r : Option ℕ} → r ≡ letter_in Flow.forward code p q → is_some r ≡ forward_in code p q
 unfolding forward_in
 forward_letter = letter_stands Flow.forward
 
-pub back_letter : (code : ℕ) (p q : Row) {r : ℕ} → r ≡ letter_in Flow.back code p q → not (eqb r 0) ≡ back_in code p q
+pub back_letter : (code : ℕ) (p q : Row) {r : Option ℕ} → r ≡ letter_in Flow.back code p q → is_some r ≡ back_in code p q
 unfolding back_in
 back_letter = letter_stands Flow.back
 
@@ -44,8 +40,8 @@ forward_first code p q one =
     let holds = told_between code p q in
     simp (eq-eqb p.relation q.relation one) (go (holds A) (holds B) (holds C) (holds D) (holds E))
   where
-    go : (a b c d e : Bool) → cond a 0x41 (cond b 0x42 (cond c 0x43 (cond d 0x44 (cond e 0x45 0))))
-        ≡ cond (a || b || c || d || e) (byte_of (cond a A (cond b B (cond c C (cond d D E))))) 0
+    go : (a b c d e : Bool) → cond a (Some 0x41) (cond b (Some 0x42) (cond c (Some 0x43) (cond d (Some 0x44) (cond e (Some 0x45) None))))
+        ≡ cond (a || b || c || d || e) (Some (byte_of (cond a A (cond b B (cond c C (cond d D E)))))) None
     go true b c d e = refl
     go false true c d e = refl
     go false false true d e = refl

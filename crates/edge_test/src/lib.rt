@@ -25,64 +25,63 @@ fn letter_holds(code: u32, certain: u32, hangs: u32, a: u64, b: u64) -> bool
     false
 }
 
-// The first letter that holds between two rows; 0 where none does. Between many kinds no letter is possible.
-fn first_letter(code: u32, p: Row, q: Row) -> u8
+// The byte of the first letter that holds between two rows, if one does. Between many kinds no letter is possible.
+fn first_letter(code: u32, p: Row, q: Row) -> Option<u8>
     ensures { result ≡ first_by (told_between code p q) }
 {
     if letter_holds(code, A, A_HANGS, p.writes, q.writes) {
-        return b'A';
+        return Some(b'A');
     }
     if code == 0 {
-        return 0;
+        return None;
     }
     if letter_holds(code, B, B_HANGS, p.writes, q.reads) {
-        return b'B';
+        return Some(b'B');
     }
     if letter_holds(code, C, C_HANGS, p.writes, q.tests) {
-        return b'C';
+        return Some(b'C');
     }
     if letter_holds(code, D, D_HANGS, p.reads, q.writes) {
-        return b'D';
+        return Some(b'D');
     }
     if letter_holds(code, E, E_HANGS, p.tests, q.writes) {
-        return b'E';
+        return Some(b'E');
     }
-    0
+    None
 }
 
-// The letter of the forward edge between two rows: the first that holds; 0 where no edge stands. Most pairs of rows differ in their relation.
-pub fn forward_letter(code: u32, p: Row, q: Row) -> u8
+// The letter of the forward edge between two rows, if one stands: the first that holds. Most pairs of rows differ in their relation.
+pub fn forward_letter(code: u32, p: Row, q: Row) -> Option<u8>
     ensures { result ≡ letter_in G.Flow.forward code p q }
 {
     if p.relation != q.relation {
-        return 0;
+        return None;
     }
     first_letter(code, p, q)
 }
 
-// The letter of the back edge between two rows: E whatever the keys say, else D for a select that no key shields; 0 where no edge stands. The
-// first row's keys are asked as those of the place left, the second's as those of the place entered.
-pub fn back_letter(code: u32, p: Row, q: Row) -> u8
+// The letter of the back edge between two rows, if one stands: E whatever the keys say, else D for a select that no key shields. The first row's keys are asked as those of the place left, the second's as those of the place entered.
+pub fn back_letter(code: u32, p: Row, q: Row) -> Option<u8>
     ensures { result ≡ letter_in G.Flow.back code p q }
 {
     if p.relation != q.relation {
-        return 0;
+        return None;
     }
     let free = p.keys & q.keys / FAR == 0;
     let phantom = letter_holds(code, E, E_HANGS, p.tests, q.writes);
     // E stands whatever the keys say.
     if phantom {
-        return b'E';
+        return Some(b'E');
     }
     let k = p.kind;
     if kind_has(k, SELECT) {
         if letter_holds(code, D, D_HANGS, p.reads, q.writes) {
             if free {
-                return b'D';
+                return Some(b'D');
             }
         }
     }
-    0
+    None
 }
 
 // Whether a forward edge stands: the rows are of one relation and some letter holds. Where one is certain, no set is asked.
@@ -95,12 +94,12 @@ pub fn forward_stands(code: u32, p: Row, q: Row) -> bool
     if code & CERTAIN != 0 {
         return true;
     }
-    first_letter(code, p, q) != 0
+    first_letter(code, p, q).is_some()
 }
 
 // Whether a back edge stands: E holds, or D for a select that no key shields.
 pub fn back_stands(code: u32, p: Row, q: Row) -> bool
     ensures { result ≡ back_in code p q }
 {
-    back_letter(code, p, q) != 0
+    back_letter(code, p, q).is_some()
 }

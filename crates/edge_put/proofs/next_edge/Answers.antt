@@ -6,16 +6,16 @@ use Rattle.edge_put.specs.CursorLaws.{onward_step, onward_found, onward_end, onw
 use Rattle.edge_put.proofs.next_edge.Goals as goal
 
 pub back_step-requires : goal.back_step-requires
-back_step-requires c = record { stands = c.requires; there = c.if-c-ne0.true }
+back_step-requires c = record { stands = c.requires; there = c.in-Some.is }
 
 pub loop-d-init : goal.loop-d-init
-loop-d-init c = record { stands = c.requires; none = c.if-c-ne0.false; below = refl }
+loop-d-init c = record { stands = c.requires; none = c.in_default.is; below = refl }
 
 pub look_on-step-requires : goal.look_on-step-requires
 look_on-step-requires c = let o = c.loop-d.invariant in record { stands = o.stands; none = o.none; left = c.loop-d-test.true }
 
-pub returns-in-Some : goal.returns-in-Some
-returns-in-Some c = onward_found _ _ _ _ c.loop-d.invariant c.look_on-step.ensures _ c.in-Some.is
+pub returns-in-Some-edge : goal.returns-in-Some-edge
+returns-in-Some-edge c = onward_found _ _ _ _ c.loop-d.invariant c.look_on-step.ensures _ c.in-Some-edge.is
 
 pub loop-d-smaller : goal.loop-d-smaller
 loop-d-smaller c =

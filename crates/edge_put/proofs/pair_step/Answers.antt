@@ -11,13 +11,13 @@ row_whole-q-requires c = pair_inside _ _ c.requires
 pub row_next-requires : goal.row_next-requires
 row_next-requires c = pair_inside _ _ c.requires
 
-pub returns-then-letter-eq0 : goal.returns-then-letter-eq0
-returns-then-letter-eq0 c =
-    let told = c.forward_letter-letter.ensures ∙ letter_told _ _
+pub returns-in_default : goal.returns-in_default
+returns-in_default c =
+    let told = c.forward_letter-told.ensures ∙ letter_told _ _
     c.pair_code-code.ensures G.Flow.forward in
     stepped_none _ _ c.requires _ _ _
     c.row_in-p.ensures
-    c.row_whole-q.ensures told _ _ _ c.if-letter-eq0.true
+    c.row_whole-q.ensures told _ _ _ c.in_default.is
     c.row_next.ensures c.at_pair.ensures c.nothing_at.ensures
 
 pub back_told-back-requires : goal.back_told-back-requires
@@ -28,11 +28,11 @@ row_after-requires c = pair_inside _ _ c.requires
 
 pub returns : goal.returns
 returns c =
-    let told = c.forward_letter-letter.ensures ∙ letter_told _ _
+    let told = c.forward_letter-told.ensures ∙ letter_told _ _
     c.pair_code-code.ensures G.Flow.forward in
     stepped_forward _ _ c.requires _ _ _
     c.row_in-p.ensures
-    c.row_whole-q.ensures told _ _ _ _ _
-    c.if-letter-eq0.false
+    c.row_whole-q.ensures told _ _ _ _ _ _
+    c.in-Some.is
     c.shared_by-m.ensures c.shared_by-m.type_inv
     c.edge_by-edge.ensures c.back_told-back.ensures c.row_after.ensures c.at_pair-cursor.ensures

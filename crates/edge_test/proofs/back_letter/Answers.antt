@@ -1,5 +1,6 @@
 -- Rows of two relations have no edge; else E gives a back edge whatever the keys say, and where E fails a select has one by D where the keys do
 -- not meet: `letter_in` with the answers known.
+use Rattle.std.specs.Prelude.{None, Some}
 use borrow.Author.Tests.{eq-eqb, ne_eqb}
 use mathlib.Core.Bool.{Bool, true, false, cond, not, ◌&&◌}
 use mathlib.Core.Path.{◌≡◌, sym, ◌∙◌}
@@ -26,7 +27,7 @@ returns-then-phantom c = simp (sym c.letter_holds-phantom.ensures ∙ c.if-phant
 -- the rows are of one relation and E fails: D decides
 rest : (code : ℕ) (p q : Row) → p.relation ≡ q.relation → told_between code p q E ≡ false
     → letter_in Flow.back code p q
-    ≡ cond (selects p.kind && told_between code p q D && not (meets p.keys (far_in q.keys))) 0x44 0
+    ≡ cond (selects p.kind && told_between code p q D && not (meets p.keys (far_in q.keys))) (Some 0x44) None
 unfolding letter_in
 rest code p q one is = simp (is, eq-eqb _ _ one)
 

@@ -15,4 +15,4 @@ pub returns-then-code-ne0 : goal.returns-then-code-ne0
 returns-then-code-ne0 c = sym (forward_certain _ _ _ c.if-p-q.false (not_of_false (ne_eqb _ 0 c.if-code-ne0.true)))
 
 pub returns : goal.returns
-returns c = forward_letter _ _ _ (c.first_letter.ensures ∙ forward_first _ _ _ c.if-p-q.false)
+returns c = c.is_some.ensures ∙ forward_letter _ _ _ (c.first_letter.ensures ∙ forward_first _ _ _ c.if-p-q.false)
