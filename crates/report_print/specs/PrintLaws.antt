@@ -1,11 +1,12 @@
 -- Bytes that are written one after the other.
-use Rattle.std.specs.Prelude.{List, [], ◌∷◌, ◌++◌, ◌≡◌, ℕ, zero, suc, ◌+◌, ◌-◌, ◌≤◌, ◌<◌, length, get_or, set, drop, replicate}
-use Rattle.std.proofs.Common.{sym, ap, ap₂, subst, ◌∙◌, zero-le, add-zero, zero-add, add-one, arith, length-append, drop_of_length-le, drop-cons}
+use Rattle.std.specs.Prelude.{List, [], ◌∷◌, ◌++◌, ◌≡◌, refl, ℕ, zero, suc, ◌+◌, ◌-◌, ◌≤◌, length, set, take, drop, replicate}
+use Rattle.std.proofs.Common.{append_assoc, sym, ap, ap₂, subst, ◌∙◌, add-zero, zero-add, arith, length-append}
 use Rattle.std.proofs.Math.Nat.{sub-zero}
-use Rattle.std.proofs.lemmas.List.{length-replicate}
+use Rattle.std.proofs.lemmas.List.{length-replicate, drop-drop}
+use borrow.Rule.Slice.PartMut.{put_mid}
 use Rattle.std.proofs.lemmas.List.Edits.{sets, sets-eq}
 use Rattle.report_print.specs.declared.Printed.{Printed}
-use Rattle.report_print.specs.Printed.{printed_as, Put, Copying}
+use Rattle.report_print.specs.Printed.{blank, printed_as, Put}
 
 sets_append : (a b l : List ℕ) (i : ℕ) → sets l i (a ++ b) ≡ sets (sets l i a) (i + length a) b
 sets_append [] b l i = ap (λ (k : ℕ). sets l k b) (sym (add-zero i))
@@ -33,32 +34,18 @@ put_most h p = record { place = p.place; few = omega (arith, p.few); area = p.ar
 pub put_same : {a b : List ℕ} {m at r : ℕ} {before after : List ℕ} → a ≡ b → Put a m at before r after → Put b m at before r after
 put_same {a} {b} {m} {at} {r} {before} {after} e p = subst (λ (l : List ℕ). Put l m at before r after) e p
 
--- the loop that copies bytes begins
-pub copy_first : (bytes area : List ℕ) (at : ℕ) → Copying bytes at area 0 area
-copy_first bytes area at = record { inside = zero-le; written = ap (λ (k : ℕ). sets area k bytes) (add-zero at) }
-
--- a turn of it
-pub copy_turn : {bytes before area : List ℕ} {at i : ℕ} → i < length bytes → Copying bytes at before i area
-    → Copying bytes at before (i + 1) (set area (at + i) (get_or bytes i 0))
-copy_turn {bytes} {before} {area} {at} {i} h t =
-    let next : at + (i + 1) ≡ suc (at + i) = omega arith in
-    let more : i + 1 ≡ suc i = add-one i in
+-- bytes that are copied over as many
+pub put_copied : {bytes before part : List ℕ} (at k : ℕ) → at + length bytes ≤ length before → k ≡ length bytes → part ≡ bytes
+    → Put bytes (length bytes) at before (at + length bytes) (put_mid at k before part)
+put_copied {bytes} {before} {part} at k h long e =
+    let rest : drop k (drop at before) ≡ drop (at + length bytes) before = drop-drop k at before ∙ ap (λ (n : ℕ). drop (at + n) before) long in
     record {
-      inside = omega arith;
-      written =
-          ap₂ (λ (k j : ℕ). sets (set area (at + i) (get_or bytes i 0)) k (drop j bytes)) next more
-          ∙ ap (λ (l : List ℕ). sets area (at + i) l) (sym (drop-cons bytes i 0 h))
-          ∙ t.written;
-    }
-
--- it ends with all of them written
-pub copy_end : {bytes before area : List ℕ} {at i : ℕ} → length bytes ≤ i → Copying bytes at before i area
-    → Put bytes (length bytes) at before (at + i) area
-copy_end {bytes} {before} {area} {at} {i} h t =
-    record {
-      place = omega (arith, t.inside);
+      place = refl;
       few = omega arith;
-      area = ap (λ (b : List ℕ). sets area (at + i) b) (sym (drop_of_length-le bytes h)) ∙ t.written;
+      area =
+          ap₂ (λ (a b : List ℕ). take at before ++ (a ++ b)) e rest
+          ∙ sym (append_assoc (take at before) bytes _)
+          ∙ sym (sets-eq bytes before at h);
     }
 
 drop_replicate : (n m b : ℕ) → drop n (replicate m b) ≡ replicate (m - n) b
@@ -83,3 +70,9 @@ printed_is {a} {m} {r} {after} h p =
     let place : r ≡ length a = omega (arith, p.place) in
     let bytes = front 8192 h p in
     λ i. record { length = place i; bytes = bytes i }
+
+-- the same of a report that is printed from nothing on
+pub printed_after : {first after : Printed} {a : List ℕ} {m : ℕ} → first ≡ blank → m ≤ 8192 → Put a m first.length first.bytes after.length after.bytes
+    → after ≡ printed_as a
+printed_after {first} {after} {a} {m} e h p =
+    printed_is h (subst (λ (x : Printed). Put a m x.length x.bytes after.length after.bytes) e p)

@@ -1,5 +1,5 @@
 -- What a printed report holds, and how its bytes are written.
-use Rattle.std.specs.Prelude.{List, [], ◌∷◌, ◌++◌, ◌≡◌, ℕ, zero, suc, ◌+◌, ◌-◌, ◌*◌, ◌≤◌, min, length, get_or, drop, replicate}
+use Rattle.std.specs.Prelude.{List, [], ◌∷◌, ◌++◌, ◌≡◌, ℕ, zero, suc, ◌+◌, ◌-◌, ◌*◌, ◌≤◌, min, length, get_or, replicate}
 use Rattle.std.proofs.lemmas.List.Edits.{sets}
 use Rattle.spec_graph.specs.Walk.{Step}
 use Rattle.spec_report.specs.State.{Counts}
@@ -11,6 +11,10 @@ use Rattle.report_print.specs.declared.Printed.{Printed}
 -- the bytes of a report, with zeros after them
 unfoldable pub printed_as : List ℕ → Printed
 printed_as bytes = record { length = length bytes; bytes = bytes ++ replicate (8192 - length bytes) 0 }
+
+-- a report before anything is written
+abbrev pub blank : Printed
+blank = record { length = 0; bytes = replicate 8192 0 }
 
 -- the first two lines of a report that is no refusal
 abbrev pub verdict_lines : List ℕ → Counts → List ℕ
@@ -47,16 +51,11 @@ pub record Put (bytes : List ℕ) (most at : ℕ) (before : List ℕ) (r : ℕ) 
   pub few : length bytes ≤ most
   pub area : after ≡ sets before at bytes
 
--- what holds in each turn of the loop that copies bytes: i of them are written, and the others are still to be
-pub record Copying (bytes : List ℕ) (at : ℕ) (before : List ℕ) (i : ℕ) (area : List ℕ) : Type 0 where
-  pub inside : i ≤ length bytes
-  pub written : sets area (at + i) (drop i bytes) ≡ sets before at bytes
+-- the same of a report that is being printed: bytes are written after those that are there
+abbrev pub Wrote : List ℕ → ℕ → Printed → Printed → Type 0
+Wrote bytes most before after = Put bytes most before.length before.bytes after.length after.bytes
 
 -- what holds in each turn of the loop over the steps: the lines of k of them are written
-pub record Stepping (words : List ℕ) (at : ℕ) (before : List ℕ) (steps k place : ℕ) (area : List ℕ) : Type 0 where
+pub record Stepping (words : List ℕ) (before : Printed) (steps k : ℕ) (after : Printed) : Type 0 where
   pub few : k ≤ steps
-  pub put : Put (step_lines 0 (steps_in words 0 k)) (k * 86) at before place area
-
--- the report of a walk is written from the start of an area on
-abbrev pub DangerPut : Counts → List ℕ → ℕ → List ℕ → ℕ → List ℕ → Type 0
-DangerPut c words steps before r after = Put (danger_report c (steps_in words 0 steps)) 5744 0 before r after
+  pub put : Wrote (step_lines 0 (steps_in words 0 k)) (k * 86) before after

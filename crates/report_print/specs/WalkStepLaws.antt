@@ -2,7 +2,8 @@
 use Rattle.std.specs.Prelude.{List, ◌++◌, ◌≡◌, refl, ℕ, zero, suc, ◌+◌, ◌*◌, ◌≤◌, ◌<◌}
 use Rattle.std.proofs.Common.{append-nil, append_assoc, sym, ap, subst, ◌∙◌, zero-le, add-zero, zero-add, add-one, arith}
 use Rattle.spec_report.specs.Report.{step_line, step_lines}
-use Rattle.report_print.specs.Printed.{step_at, steps_in, Put, Stepping}
+use Rattle.report_print.specs.declared.Printed.{Printed}
+use Rattle.report_print.specs.Printed.{step_at, steps_in, Wrote, Stepping}
 use Rattle.report_print.specs.PrintLaws.{put_both, put_most, put_same}
 
 -- the line of the next step stands after the lines of those before
@@ -18,16 +19,16 @@ lines_next words (suc n) k =
     ∙ ap (λ (j : ℕ). step_line k (step_at words k) ++ step_lines (suc k) (steps_in words (suc k) n) ++ step_line j (step_at words j)) e
 
 -- before the first step
-pub steps_first : (words : List ℕ) (at : ℕ) (before : List ℕ) (steps : ℕ) → Stepping words at before steps 0 at before
+pub steps_first : (words : List ℕ) (before : Printed) (steps : ℕ) → Stepping words before steps 0 before
 unfolding step_lines steps_in
-steps_first words at before steps =
-    record { few = zero-le; put = record { place = sym (add-zero at); few = zero-le; area = refl } }
+steps_first words before steps =
+    record { few = zero-le; put = record { place = sym (add-zero before.length); few = zero-le; area = refl } }
 
 -- a turn of the loop over the steps
-pub steps_turn : {words before mid after : List ℕ} {at steps k r s : ℕ} → k < steps
-    → Stepping words at before steps k r mid → Put (step_line k (step_at words k)) 86 r mid s after
-    → Stepping words at before steps (k + 1) s after
-steps_turn {words} {before} {mid} {after} {at} {steps} {k} {r} {s} h t q =
+pub steps_turn : {words : List ℕ} {before mid after : Printed} {steps k : ℕ} → k < steps
+    → Stepping words before steps k mid → Wrote (step_line k (step_at words k)) 86 mid after
+    → Stepping words before steps (k + 1) after
+steps_turn {words} {before} {mid} {after} {steps} {k} h t q =
     let more : k + 1 ≡ suc k = add-one k in
     let all =
     put_same
@@ -36,7 +37,7 @@ steps_turn {words} {before} {mid} {after} {at} {steps} {k} {r} {s} h t q =
     record { few = omega arith; put = rw more (put_most (omega arith) all) }
 
 -- after the last step
-pub steps_end : {words before after : List ℕ} {at steps k r : ℕ} → steps ≤ k → Stepping words at before steps k r after
-    → Put (step_lines 0 (steps_in words 0 steps)) (steps * 86) at before r after
-steps_end {words} {before} {after} {at} {steps} {k} {r} h t =
-    let e : k ≡ steps = omega (arith, t.few) in subst (λ (n : ℕ). Put (step_lines 0 (steps_in words 0 n)) (n * 86) at before r after) e t.put
+pub steps_end : {words : List ℕ} {before after : Printed} {steps k : ℕ} → steps ≤ k → Stepping words before steps k after
+    → Wrote (step_lines 0 (steps_in words 0 steps)) (steps * 86) before after
+steps_end {words} {before} {after} {steps} {k} h t =
+    let e : k ≡ steps = omega (arith, t.few) in subst (λ (n : ℕ). Wrote (step_lines 0 (steps_in words 0 n)) (n * 86) before after) e t.put

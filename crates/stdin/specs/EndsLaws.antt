@@ -1,12 +1,12 @@
 -- What one read more leaves: reading goes on, or it ends in one of the three ways.
-use Rattle.std.specs.Prelude.{true, false, List, ◌≡◌, refl, ℕ, zero, suc, ◌+◌, ◌-◌, ◌≤◌, ◌<◌, min, ℤ, pos, negsuc, length}
+use Rattle.std.specs.Prelude.{true, false, List, ◌≡◌, refl, ℕ, zero, suc, ◌+◌, ◌-◌, ◌≤◌, ◌<◌, ℤ, pos, negsuc, length}
 use Rattle.std.proofs.Common.{sym, ap, ◌∙◌, arith, ltb-true, SFits, of_z, to_z}
 use Rattle.std.specs.Int.Signed.{lt_z}
 use Rattle.std.specs.Int.{w64}
 use Rattle.std.proofs.lemmas.Int.{to_z-of_z}
 use Rattle.io.specs.Counts.{clamp_len}
 use Rattle.stdin.specs.declared.reads.Received.{Received}
-use Rattle.stdin.specs.Reads.{Moved, nothing_read, read_once, ReadMore}
+use Rattle.stdin.specs.Reads.{Moved, nothing_read, ReadMore}
 use Rattle.stdin.specs.Ends.{Negative}
 use Rattle.stdin.specs.ReadsLaws.{more_read}
 

@@ -15,27 +15,11 @@ pub struct Received {
     room: usize,
 }
 
-// What one read answered, and how many bytes it brought.
-#[derive(Clone, Copy)]
-struct Once {
-    answer: isize,
-    count: usize,
-}
-
-// One read into the whole of an area.
-fn read_once(mut stdin: Stdin, area: &mut [u8]) -> Once
+// One read into the whole of an area: how many bytes it brought, none where it failed.
+fn read_once(mut stdin: Stdin, area: &mut [u8]) -> Option<usize>
     ensures { Brought (length area.old) result }
 {
-    match stdin.read(area) {
-        Ok(count) => Once {
-            answer: count as isize,
-            count,
-        },
-        Err(_) => Once {
-            answer: -1,
-            count: 0,
-        },
-    }
+    stdin.read(area).ok()
 }
 
 impl Received {
@@ -71,11 +55,17 @@ impl Received {
             return self;
         }
         let room = area.len() - n;
-        let one = read_once(stdin, &mut area[n..]);
-        Received {
-            count: n + one.count,
-            last: one.answer,
-            room,
+        match read_once(stdin, &mut area[n..]) {
+            Some(count) => Received {
+                count: n + count,
+                last: count as isize,
+                room,
+            },
+            None => Received {
+                count: n,
+                last: -1,
+                room,
+            },
         }
     }
 }

@@ -1,12 +1,12 @@
--- At most 65 steps are shown, so the bytes have room, and up to the length they are the report of the walk's steps, zeros after them
--- (danger-printed).
-use Rattle.report_print.specs.ReportLineLaws.{danger_printed}
-use native.Mathlib.Omega.{arith}
-use mathlib.Core.Path.{◌≡◌, refl, ap, sym, ◌∙◌}
-use Prim.Native.Nat.{ℕ, ◌+◌, ◌-◌, ◌*◌, ◌≤◌, ◌<◌}
-use lib.ListN.{length, set, get_or, length-set, take, drop}
-use borrow.Author.Rules.{rules}
+-- At most 65 steps are shown, so there is room; the verdict's two lines, the names of the steps and the steps' lines, put one after the other at the
+-- start of 8192 zeros, are the report of danger (danger_put, danger_printed).
+use Rattle.std.proofs.Common.{arith}
+use Rattle.spec_report.specs.Report.{danger_word, step_names}
+use Rattle.report_print.specs.ReportLineLaws.{danger_put, danger_printed}
 use Rattle.report_print.proofs.danger_printed.Goals as goal
 
 pub returns : goal.returns
-returns c = danger_printed _ _ _ c.at_most_65-shown.ensures c.put_danger-length.ensures
+unfolding danger_word step_names
+returns c =
+    danger_printed _ _ _ c.min-shown.ensures c.blank-out.ensures
+    (danger_put _ _ _ (omega (arith, c.min-shown.ensures)) c.put_verdict.ensures c.put.ensures c.put_steps.ensures)
