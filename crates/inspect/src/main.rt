@@ -181,8 +181,7 @@ fn list_edges(out: Stdout, w: Workload) {
 
 fn show_report(out: Stdout, text: &[u8]) {
     let report = report_text::report_of(text);
-    let bytes = report.bytes;
-    print(out, &bytes[..report.length]);
+    print(out, report.as_bytes());
 }
 
 // ---- lent areas

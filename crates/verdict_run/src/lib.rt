@@ -41,9 +41,7 @@ fn report_read(rt: &HostRuntime, area: &[u8], read: Input, n: usize) -> Answer
     ensures { Answered (length area.now) result }
 {
     let report = report_text::report_of(&area[..n]);
-    let k = report.length;
-    let bytes = report.bytes;
-    show(rt, area, read, &bytes[..k])
+    show(rt, area, read, report.as_bytes())
 }
 
 fn answer_with(rt: &HostRuntime, area: &mut [u8]) -> Answer
