@@ -356,7 +356,9 @@ fn list_areas(out: Stdout, w: Workload) {
 // ---- from the arguments to the listings
 
 // What is asked of a text that is read, or its refusal.
-fn list_value(out: Stdout, text: &[u8], list: impl Fn(Stdout, Workload)) {
+fn list_value<List: Fn(Stdout, Workload)>(out: Stdout, text: &[u8], list: List)
+    requires { List.IsAlwaysCallable list }
+{
     let parsed = text_read::read_text(text);
     if parsed.number != 0 {
         print_refused(out, parsed.number, parsed.line);

@@ -41,7 +41,8 @@ fn report_read(rt: &HostRuntime, area: &[u8], read: Input, n: usize) -> Answer
     ensures { Answered (length area.now) result }
 {
     let report = report_text::report_of(&area[..n]);
-    show(rt, area, read, report.as_bytes())
+    let bytes = report.as_bytes();
+    show(rt, area, read, bytes)
 }
 
 fn answer_with(rt: &HostRuntime, area: &mut [u8]) -> Answer

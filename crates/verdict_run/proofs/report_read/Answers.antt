@@ -22,4 +22,4 @@ show-requires c =
     let r = c.report_of-report in
     let shown = report_shown c.args.read c.requires.in_bounds p.0 p.1
     (subst (λ (n : ℕ). Report (take n c.args.area.now) (take r.result.length r.result.bytes)) p.2 r.ensures.report) in
-    subst (λ (bytes : List ℕ). Shows c.args.area.now c.args.read bytes) (sym c.as_bytes.ensures) shown
+    subst (λ (bytes : List ℕ). Shows c.args.area.now c.args.read bytes) (sym c.as_bytes-bytes.ensures) shown
