@@ -80,7 +80,8 @@ fn tell_unfolds(out: Stdout, w: Workload) {
 
 // ---- programs and nodes
 
-// The tables of a workload: the places of its nodes, the program of each node, where its statements start and how many they are, and the lines of all.
+// The tables of a workload: the places of its nodes, the program of each node, where its statements start and how many they are, and the lines of
+// all.
 #[derive(Clone, Copy)]
 struct Tables<'a> {
     table: &'a [u64],

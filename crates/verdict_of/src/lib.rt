@@ -75,28 +75,23 @@ pub fn verdict_of(w: Workload, area: &mut [u64]) -> Result<Verdict, Fault>
     ensures { Judged w area.old (told result) area.new }
 {
     let mut table = [0u64; TABLE_WORDS];
-    let f = place_table::fill_rows(w, &mut table);
-    match f {
-        Err(fault) => Err(fault),
-        Ok(rows) => {
-            let n = rows.places as usize * place_row::ROW_WORDS;
-            let mut next = [0u64; ROWS];
-            let mut work = [0u64; TABLE_WORDS];
-            let mut forwards = [0u64; PAIRS];
-            let mut backs = [0u64; PAIRS];
-            judge_table(
-                &table[..n],
-                n,
-                rows.programs,
-                rows.nodes,
-                &mut next,
-                &mut work,
-                &mut forwards,
-                &mut backs,
-                area,
-            )
-        }
-    }
+    let rows = place_table::fill_rows(w, &mut table)?;
+    let n = rows.places as usize * place_row::ROW_WORDS;
+    let mut next = [0u64; ROWS];
+    let mut work = [0u64; TABLE_WORDS];
+    let mut forwards = [0u64; PAIRS];
+    let mut backs = [0u64; PAIRS];
+    judge_table(
+        &table[..n],
+        n,
+        rows.programs,
+        rows.nodes,
+        &mut next,
+        &mut work,
+        &mut forwards,
+        &mut backs,
+        area,
+    )
 }
 
 // A refusal of the value has line 0.
@@ -125,14 +120,9 @@ pub fn text_verdict(
         × Lent work.old work.new × Lent forwards.old forwards.new
         × Lent backs.old backs.new }
 {
-    let t = place_text::text_rows(text, state, lines, places, rows);
-    match t {
-        Err(refusal) => Err(refusal),
-        Ok(t) => {
-            let v = judge_table(
-                rows, t.words, t.programs, t.nodes, places, work, forwards, backs, area,
-            );
-            on_text(v)
-        }
-    }
+    let t = place_text::text_rows(text, state, lines, places, rows)?;
+    let v = judge_table(
+        rows, t.words, t.programs, t.nodes, places, work, forwards, backs, area,
+    );
+    on_text(v)
 }
