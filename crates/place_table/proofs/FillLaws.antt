@@ -6,7 +6,7 @@ use Rattle.std.specs.Prelude.{Result, Ok, Err}
 use mathlib.Core.Path.{◌≡◌, refl, sym, ap, subst, ◌∙◌}
 use Prim.Native.Nat.{ℕ, zero, suc, ◌+◌, ◌*◌, ◌≤◌}
 use native.Mathlib.Omega.{arith}
-use lib.ListN.{length, get_or, get_elem?, take, drop, replicate, length-take, length-append}
+use lib.ListN.{length, get_elem?, take, drop, replicate, length-take, length-append}
 use borrow.Author.Tests.{le-ltb}
 use Rattle.law_base.specs.ListLaws.{some_injective, get_elem?_member}
 use Rattle.spec_text.specs.declared.Line.{Line}
@@ -41,7 +41,7 @@ use Rattle.refusal.specs.Numbers.{number_of}
 use Rattle.refusal.specs.Refusing.{refusal_in}
 use Rattle.place_table.specs.declared.Rows.{Rows}
 use Rattle.value_tables.specs.Lines.{line_table}
-use Rattle.place_table.specs.RowWords.{total_of, all_rows, rows_told, FilledBy}
+use Rattle.place_table.specs.RowWords.{unfolding_at, total_of, all_rows, rows_told, FilledBy}
 use Rattle.place_table.specs.Rows.{rows_said, RowsSettled}
 use Rattle.place_table.specs.Rows.RowsSettled.{refused, filled}
 use Rattle.place_table.specs.LineRows.{LinesFilled}
@@ -110,8 +110,8 @@ places_told_few {codes} {numbers} {marks} {before} {after} {u} t size long =
 -- ---- what is told of nodes
 
 node_told : (s : ℕ) (nodes : List Node) (j : ℕ) {n : Node} → get_elem? nodes j ≡ some n
-    → ((get_or (unfoldings_in s nodes) j no_unfolding).program ≡ n.program)
-    × ((get_or (unfoldings_in s nodes) j no_unfolding).length ≡ length n.places)
+    → ((unfolding_at (unfoldings_in s nodes) j).program ≡ n.program)
+    × ((unfolding_at (unfoldings_in s nodes) j).length ≡ length n.places)
 unfolding unfoldings_in
 node_told s [] j e = let z : ◌≡◌ {A = ℕ} 0 1 = cc in absurd (omega arith)
 node_told s (x ∷ nodes) zero e =
@@ -161,8 +161,8 @@ module _ (w : Workload) (zeros : List ℕ) (size : length zeros ≡ 512) {told :
         let begins = node_begins both.0.text lines (given_read both.0) n (get_elem?_member nodes j e) in
         let cell = node_told 0 nodes j e in
         record {
-          program = ap (λ (l : List Unfolding). (get_or l j no_unfolding).program) is_in ∙ cell.0;
-          places = ap (λ (l : List Unfolding). (get_or l j no_unfolding).length) is_in ∙ cell.1;
+          program = ap (λ (l : List Unfolding). (unfolding_at l j).program) is_in ∙ cell.0;
+          places = ap (λ (l : List Unfolding). (unfolding_at l j).length) is_in ∙ cell.1;
           begins = begins;
         }
 

@@ -24,8 +24,7 @@ use Rattle.value_tables.specs.Lines.{line_table}
 use Rattle.place_links.specs.declared.Links.{Links}
 use Rattle.place_links.specs.LineLinks.{links_in}
 use Rattle.unfold.specs.declared.Unfolding.{Unfolding}
-use Rattle.unfold.specs.UnfoldTold.{no_unfolding}
-use Rattle.place_table.specs.RowWords.{row_words, node_rows, total_of, all_rows}
+use Rattle.place_table.specs.RowWords.{row_words, node_rows, unfolding_at, total_of, all_rows}
 use Rattle.place_table.proofs.PlaceRowLaws.{NodeBegins, row_of_place}
 
 -- ---- lists
@@ -143,11 +142,12 @@ node_words_lem lines (x ∷ nodes) words h (suc j) {n} e =
 
 -- what the nodes tell, as numbers
 pub record Told (lines : List Line) (nodes : List Node) (firsts : List ℕ) (unfoldings : List Unfolding) (j : ℕ) (n : Node) : Type 0 where
-  pub program : (get_or unfoldings j no_unfolding).program ≡ n.program
-  pub places : (get_or unfoldings j no_unfolding).length ≡ length n.places
+  pub program : (unfolding_at unfoldings j).program ≡ n.program
+  pub places : (unfolding_at unfoldings j).length ≡ length n.places
   pub begins : NodeBegins lines n (links_in (line_table lines) (get_or firsts n.program 0))
 
-module _ (text : List ℕ) (lines : List Line) (taken : read text ≡ accepted lines) (nodes : List Node) (words rest firsts : List ℕ) (unfoldings : List Unfolding)
+module _ (text : List ℕ) (lines : List Line) (taken : read text ≡ accepted lines) (nodes : List Node) (words rest firsts : List ℕ)
+    (unfoldings : List Unfolding)
     (stand : WordsFor lines nodes words) (told : (j : ℕ) (n : Node) → get_elem? nodes j ≡ some n → Told lines nodes firsts unfoldings j n) where
   abbrev area : List ℕ
   area = words ++ rest
@@ -160,7 +160,7 @@ module _ (text : List ℕ) (lines : List Line) (taken : read text ≡ accepted l
       let a = total_nodes j (omega arith) in
       let b = (told j found.0 found.1).places in
       let c = statements_more (take j nodes) found.0 in
-      let s : total_of unfoldings j + (get_or unfoldings j no_unfolding).length ≡ statements_in (take j nodes ++ (found.0 ∷ [])) = omega arith in
+      let s : total_of unfoldings j + (unfolding_at unfoldings j).length ≡ statements_in (take j nodes ++ (found.0 ∷ [])) = omega arith in
       s ∙ ap statements_in (sym (take_more nodes j found.1))
 
   -- the words of a node in the area

@@ -14,8 +14,7 @@ use Rattle.place_links.specs.declared.Links.{Links}
 use Rattle.place_links.specs.LineLinks.{links_in}
 use Rattle.place_keys.specs.LineKeys.{place_keys}
 use Rattle.unfold.specs.declared.Unfolding.{Unfolding}
-use Rattle.unfold.specs.UnfoldTold.{no_unfolding}
-use Rattle.place_table.specs.RowWords.{row_words, node_rows, total_of, all_rows}
+use Rattle.place_table.specs.RowWords.{row_words, node_rows, unfolding_at, total_of, all_rows}
 
 -- no words put
 pub put_none : (area : List ℕ) (at : ℕ) → area ≡ put_at area at []
@@ -98,13 +97,13 @@ module _ (lines : List ℕ) (links : Links) (node : ℕ) (words : List ℕ) (sta
 -- ---- the rows of all nodes
 
 -- the places of fewer nodes are no more
-pub total_most : (unfoldings : List Unfolding) (n j : ℕ) → j < n → total_of unfoldings j + (get_or unfoldings j no_unfolding).length ≤ total_of unfoldings n
+pub total_most : (unfoldings : List Unfolding) (n j : ℕ) → j < n → total_of unfoldings j + (unfolding_at unfoldings j).length ≤ total_of unfoldings n
 unfolding total_of
 total_most unfoldings zero j h = absurd (omega arith)
 total_most unfoldings (suc n) j h = go (dec_lt j n) (λ k. total_most unfoldings n j k)
   where
-    go : Dec (j < n) → (j < n → total_of unfoldings j + (get_or unfoldings j no_unfolding).length ≤ total_of unfoldings n)
-        → total_of unfoldings j + (get_or unfoldings j no_unfolding).length ≤ total_of unfoldings n + (get_or unfoldings n no_unfolding).length
+    go : Dec (j < n) → (j < n → total_of unfoldings j + (unfolding_at unfoldings j).length ≤ total_of unfoldings n)
+        → total_of unfoldings j + (unfolding_at unfoldings j).length ≤ total_of unfoldings n + (unfolding_at unfoldings n).length
     go (yes k) rest = let a = rest k in omega arith
     go (no d) rest = let e : j ≡ n = omega arith in rw e (omega arith)
 
@@ -112,7 +111,8 @@ pub total_none : (unfoldings : List Unfolding) → 0 ≡ total_of unfoldings 0
 unfolding total_of
 total_none unfoldings = refl
 
-pub total_next : (unfoldings : List Unfolding) (j at places : ℕ) → at ≡ total_of unfoldings j → places ≡ (get_or unfoldings j no_unfolding).length → at + places ≡ total_of unfoldings (j + 1)
+pub total_next : (unfoldings : List Unfolding) (j at places : ℕ) → at ≡ total_of unfoldings j → places ≡ (unfolding_at unfoldings j).length
+    → at + places ≡ total_of unfoldings (j + 1)
 unfolding total_of
 total_next unfoldings j at places a p = rw (a, p, add-one) refl
 
@@ -125,9 +125,9 @@ module _ (lines firsts : List ℕ) (unfoldings : List Unfolding) (words : List �
   all_length zero = refl
   all_length (suc j) =
       let a = all_length j in
-      let links = links_in lines (get_or firsts (get_or unfoldings j no_unfolding).program 0) in
-      let b = rows_length lines links j words (total_of unfoldings j) ((get_or unfoldings j no_unfolding).length) in
-      length-append (rows j) (node_rows lines links j words (total_of unfoldings j) ((get_or unfoldings j no_unfolding).length)) ∙ omega arith
+      let links = links_in lines (get_or firsts (unfolding_at unfoldings j).program 0) in
+      let b = rows_length lines links j words (total_of unfoldings j) ((unfolding_at unfoldings j).length) in
+      length-append (rows j) (node_rows lines links j words (total_of unfoldings j) ((unfolding_at unfoldings j).length)) ∙ omega arith
 
   module _ (n : ℕ) (before : List ℕ) (room : total_of unfoldings n * 8 ≤ length before) where
     pub all_start : before ≡ put_at before 0 (rows 0)
@@ -148,22 +148,24 @@ module _ (lines firsts : List ℕ) (unfoldings : List Unfolding) (words : List �
             go (no d) = let e : j ≡ n = omega arith in rw e (omega arith)
 
     pub all_room : (j at : ℕ) (table : List ℕ) → j < n → at ≡ total_of unfoldings j → table ≡ put_at before 0 (rows j)
-        → (places : ℕ) → places ≡ (get_or unfoldings j no_unfolding).length → (at + places) * 8 ≤ length table
+        → (places : ℕ) → places ≡ (unfolding_at unfoldings j).length → (at + places) * 8 ≤ length table
     all_room j at table h a e places p =
         let s = all_same j table (omega arith) e in
         let m = total_most unfoldings n j h in
         omega arith
 
     pub all_next : (j at : ℕ) (table : List ℕ) → j < n → at ≡ total_of unfoldings j → table ≡ put_at before 0 (rows j)
-        → (program first : ℕ) (links : Links) (places : ℕ) → program ≡ (get_or unfoldings j no_unfolding).program → first ≡ get_or firsts program 0
+        → (program first : ℕ) (links : Links) (places : ℕ) → program ≡ (unfolding_at unfoldings j).program → first ≡ get_or firsts program 0
         → links ≡ links_in lines first
-        → places ≡ (get_or unfoldings j no_unfolding).length → (after : List ℕ) → after ≡ put_at table (at * 8) (node_rows lines links j words at places)
+        → places ≡ (unfolding_at unfoldings j).length → (after : List ℕ)
+        → after ≡ put_at table (at * 8) (node_rows lines links j words at places)
         → after ≡ put_at before 0 (rows (j + 1))
     unfolding all_rows
     all_next j at table h a e program first links places p f g q after s =
         let m = total_most unfoldings n j h in
         let l = all_length j in
-        let k = rows_length lines (links_in lines (get_or firsts (get_or unfoldings j no_unfolding).program 0)) j words (total_of unfoldings j) ((get_or unfoldings j no_unfolding).length) in
+        let own = unfolding_at unfoldings j in
+        let k = rows_length lines (links_in lines (get_or firsts own.program 0)) j words (total_of unfoldings j) own.length in
         s ∙ rw (e, g, f, p, q, a, add-one) (put_more before 0 (rows j)
-        (node_rows lines (links_in lines (get_or firsts (get_or unfoldings j no_unfolding).program 0)) j words (total_of unfoldings j) ((get_or unfoldings j no_unfolding).length))
+        (node_rows lines (links_in lines (get_or firsts own.program 0)) j words (total_of unfoldings j) own.length)
         (total_of unfoldings j * 8) (omega arith) (omega arith))

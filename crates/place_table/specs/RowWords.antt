@@ -32,16 +32,20 @@ node_rows lines links node words start zero = []
 node_rows lines links node words start (suc i) =
     node_rows lines links node words start i ++ row_words lines links node i (get_or words (start + i) 0)
 
+-- the unfolding of a node
+abbrev pub unfolding_at : List Unfolding → ℕ → Unfolding
+unfolding_at unfoldings j = get_or unfoldings j no_unfolding
+
 -- the places of the first nodes
 unfoldable pub total_of : List Unfolding → ℕ → ℕ
 total_of unfoldings zero = 0
-total_of unfoldings (suc j) = total_of unfoldings j + (get_or unfoldings j no_unfolding).length
+total_of unfoldings (suc j) = total_of unfoldings j + (unfolding_at unfoldings j).length
 
 -- the rows of the first nodes
 unfoldable pub all_rows : List ℕ → List ℕ → List Unfolding → List ℕ → ℕ → List ℕ
 all_rows lines firsts unfoldings words zero = []
 all_rows lines firsts unfoldings words (suc j) =
-    let own = get_or unfoldings j no_unfolding in
+    let own = unfolding_at unfoldings j in
     all_rows lines firsts unfoldings words j
     ++ node_rows lines (links_in lines (get_or firsts own.program 0)) j words (total_of unfoldings j) own.length
 

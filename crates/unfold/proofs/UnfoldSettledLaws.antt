@@ -98,7 +98,8 @@ module _ (lines : List Line) where
   over_nodes =
       rw (length_codes lines, over_alike _ _ 64 (omega arith) (total_count lines), over_alike _ _ 512 (omega arith) (total_statements lines))
 
-  exact_statements : is_too_many lines ≡ false → (totals_before (codes_of lines) (length (codes_of lines))).statements ≡ statements_in (nodes_of lines)
+  exact_statements : is_too_many lines ≡ false
+      → (totals_before (codes_of lines) (length (codes_of lines))).statements ≡ statements_in (nodes_of lines)
   unfolding cap
   exact_statements h = rw (length_codes lines) (omega (arith, (total_statements lines).same, (few_nodes lines h).1))
 
@@ -122,7 +123,8 @@ module _ (P : ℕ → List Line → Type 0) (Word : ℕ → Statement → ℕ �
     (before : List ℕ) (Full : List ℕ → Type 0)
     (full : (pieces : List Piece) → PiecesFor Word mark (nodes_of (lines_of w)) pieces → Full
     (flat pieces ++ drop (length (flat pieces)) before)) where
-  settled_tables : (r : Result Unfolded Fault) (area : List ℕ) → Tabled (codes_of (lines_of w)) words marks before r area → SettledAs Full w before r area
+  settled_tables : (r : Result Unfolded Fault) (area : List ℕ) → Tabled (codes_of (lines_of w)) words marks before r area
+      → SettledAs Full w before r area
   unfolding is_too_short short_for_unfoldings
   settled_tables r area u = go (is_too_many (lines_of w)) refl (short_for_unfoldings (lines_of w) (length before)) refl
     where
@@ -132,10 +134,12 @@ module _ (P : ℕ → List Line → Type 0) (Word : ℕ → Statement → ℕ �
       over : over_many (codes_of (lines_of w)) ≡ is_too_many (lines_of w)
       over = over_nodes (lines_of w)
 
-      short : is_too_many (lines_of w) ≡ false → is_too_short (codes_of (lines_of w)) (length before) ≡ short_for_unfoldings (lines_of w) (length before)
+      short : is_too_many (lines_of w) ≡ false
+          → is_too_short (codes_of (lines_of w)) (length before) ≡ short_for_unfoldings (lines_of w) (length before)
       short h = rw (exact_statements (lines_of w) h)
 
-      go : (a : Bool) → is_too_many (lines_of w) ≡ a → (b : Bool) → short_for_unfoldings (lines_of w) (length before) ≡ b → SettledAs Full w before r area
+      go : (a : Bool) → is_too_many (lines_of w) ≡ a → (b : Bool) → short_for_unfoldings (lines_of w) (length before) ≡ b
+          → SettledAs Full w before r area
       go true p b q = settled_refused Full w before r area Unfoldings (too_many g p) (u.tells ∙ rw (over, p)) (u.stands ∙ rw (over, p))
       go false p true q =
           settled_refused Full w before r area Area (too_short g p q) (u.tells ∙ rw (over, p, short p, q)) (u.stands ∙ rw (over, p, short p, q))
@@ -144,7 +148,8 @@ module _ (P : ℕ → List Line → Type 0) (Word : ℕ → Statement → ℕ �
           let for = pieces_for P Word mark (lines_of w) words marks fit along p in
           let written : area ≡ flat pieces ++ drop (length (flat pieces)) before = u.stands ∙ rw (over, p, short p, q) in
           settled_taken Full w before r area (taken g p q)
-          (u.tells ∙ rw (over, p, short p, q) (ap (λ (t : Unfolded). Ok t) (table_nodes Word mark (nodes_of (lines_of w)) pieces for))) (rw written (full pieces for))
+          (u.tells ∙ rw (over, p, short p, q) (ap (λ (t : Unfolded). Ok t) (table_nodes Word mark (nodes_of (lines_of w)) pieces for)))
+          (rw written (full pieces for))
 
 -- a workload value that no text gives
 not_given_ids : (w : Workload) (before : List ℕ) → (Given w → ⊥) → Settled w before (Err NotGiven) before

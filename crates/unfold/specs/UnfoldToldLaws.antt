@@ -36,7 +36,8 @@ unfolding unfolding_cells cells
 column f e l = map-append f l (replicate (64 - length l) no_unfolding) ∙ rw (length-map l f, zeros f e (64 - length l)) refl
 
 -- U5: each node's program
-pub programs_told : (nodes : List Node) → map (λ (u : Unfolding). u.program) (nodes_told nodes).unfoldings ≡ cells (map (λ (n : Node). n.program) nodes)
+pub programs_told : (nodes : List Node) → map (λ (u : Unfolding). u.program) (nodes_told nodes).unfoldings
+    ≡ cells (map (λ (n : Node). n.program) nodes)
 unfolding nodes_told
 programs_told nodes = column (λ u. u.program) refl (unfoldings_in 0 nodes) ∙ ap cells (programs_in 0 nodes)
 
@@ -46,6 +47,7 @@ unfolding nodes_told
 starts_told nodes = column (λ u. u.start) refl (unfoldings_in 0 nodes) ∙ ap cells (starts_of 0 nodes)
 
 -- U5: how many places each node has
-pub lengths_told : (nodes : List Node) → map (λ (u : Unfolding). u.length) (nodes_told nodes).unfoldings ≡ cells (map (λ (n : Node). length n.places) nodes)
+pub lengths_told : (nodes : List Node) → map (λ (u : Unfolding). u.length) (nodes_told nodes).unfoldings
+    ≡ cells (map (λ (n : Node). length n.places) nodes)
 unfolding nodes_told
 lengths_told nodes = column (λ u. u.length) refl (unfoldings_in 0 nodes) ∙ ap cells (lengths_in 0 nodes)
