@@ -96,8 +96,7 @@ fn put_nodes(lines: &[u64], firsts: &[u64], nodes: Nodes, table: &mut [u64]) -> 
         × (result ≡ total_of nodes.entry.unfoldings.now (length nodes.entry.unfoldings.now)) }
 {
     let mut at: usize = 0;
-    for j in 0..nodes.unfoldings.len() {
-        let own = nodes.unfoldings[j];
+    for (j, own) in nodes.unfoldings.iter().enumerate() {
         let first = word_at(firsts, own.program as usize);
         let node = Node {
             lines,
