@@ -1,5 +1,7 @@
 -- Statement after statement: the steps of `write_stretch`, and what a stretch is to the run that it begins.
-use mathlib.Core.Bool.{Bool, true, false, cond, not}
+use mathlib.Core.Bool.{Bool, true, false}
+use Rattle.std.specs.Prelude.{Option, Some, None}
+use Rattle.std.specs.Bool.{then_some}
 use mathlib.Core.List.{List, [], ◌∷◌, ◌++◌, append_assoc}
 use mathlib.Core.Path.{◌≡◌, refl, sym, ap, ◌∙◌}
 use Prim.Native.Nat.{ℕ, suc, ◌+◌, ◌-◌, ◌/◌, ◌%◌, ◌≤◌, ◌<◌}
@@ -22,10 +24,13 @@ use Rattle.unfold.specs.Laid.{Laid, Stretching, BlockAt, Stretched, Known}
 use Rattle.unfold.proofs.LaidLaws.{laid_fits, lays_nothing, lays_length, lays_full, lays_end, lays_both}
 
 -- a run ends at a line where no statement or block begins
-pub ends_told : (item : Bool) (n : ℕ) → (item ≡ true → n ≤ 2) → (n ≤ 2 → item ≡ true) → (not item ≡ true → 2 < n) × (not item ≡ false → n ≤ 2)
-ends_told true n small back = (λ e. let never : ⊥ = cc in absurd never, λ e. small refl)
-ends_told false n small back =
-    let over : n ≤ 2 → ⊥ = λ few. let is = back few in cc in (λ e. omega (arith, over), λ e. let never : ⊥ = cc in absurd never)
+pub ends_told : (item : Bool) (n : ℕ) → (n ≤ 2 → item ≡ true) → item ≡ false → 2 < n
+ends_told item n back e = let over : n ≤ 2 → ⊥ = λ few. let is = back few in cc in omega (arith, over)
+
+-- no block is next
+pub no_block : (o : Option ℕ) → ((there : ℕ) → o ≡ Some there → ⊥) → o ≡ None
+no_block None never = refl
+no_block (Some there) never = absurd (never there refl)
 
 module _ (codes words marks : List ℕ) (seen at : ℕ) (before : List ℕ) where
   pub stretch_none : Stretching codes words marks seen at before 0 seen before
@@ -70,14 +75,15 @@ module _ (codes words marks : List ℕ) (seen at : ℕ) (before : List ℕ) wher
   -- where a stretch ends
   module _ (m sees : ℕ) (area : List ℕ) (s : Stretching codes words marks seen at before m sees area) where
     abbrev told : Bool → Stretch
-    told ends = record { many = m; sees = sees; ends = ends }
+    told goes = record { many = m; block = then_some goes sees }
 
     ended : ((left k : ℕ) → length codes ≤ at + left → Laid (write_at left codes words marks seen at k) before m area)
-        → Stretched codes words marks seen at before (told true) area
+        → Stretched codes words marks seen at before (told false) area
     ended whole = record {
+      sees = sees;
       laid = s;
       whole = λ _. whole;
-      block = λ e. let z : ◌≡◌ {A = ℕ} 0 1 = ap (λ (b : Bool). cond b 0 1) e in absurd (omega arith);
+      block = λ there e. let never : ⊥ = cc in absurd never;
     }
 
     first_words : (left k : ℕ) → length codes ≤ at + left
@@ -85,30 +91,33 @@ module _ (codes words marks : List ℕ) (seen at : ℕ) (before : List ℕ) wher
     first_words left k enough = s.first left k (omega (arith, s.reach))
 
     -- the area is full
-    pub stretched_full : length area ≤ m → Stretched codes words marks seen at before (told true) area
+    pub stretched_full : length area ≤ m → Stretched codes words marks seen at before (told false) area
     stretched_full h =
         ended (λ left k enough.
         lays_full _ _ _ before m area (first_words left k enough) (stretch_laid m sees area s) (omega (arith, s.many)))
 
     -- no line is left
-    pub stretched_past : length codes ≤ at + m → Stretched codes words marks seen at before (told true) area
+    pub stretched_past : length codes ≤ at + m → Stretched codes words marks seen at before (told false) area
     stretched_past h =
         ended (λ left k enough.
         lays_end _ _ _ before m area (first_words left k enough) (write_past codes words marks sees (at + m) k (left - m) h)
         (stretch_laid m sees area s))
 
     -- the next line begins no statement: a block, or none either
-    pub stretched_at : at + m < length codes → (get_or codes (at + m) 0 ≡ 0 → ⊥) → (stops : Bool)
-        → (stops ≡ true → 2 < get_or codes (at + m) 0) → (stops ≡ false → get_or codes (at + m) 0 ≤ 2)
-        → Stretched codes words marks seen at before (told stops) area
-    stretched_at inside some stops none block =
+    pub stretched_at : at + m < length codes → (get_or codes (at + m) 0 ≡ 0 → ⊥) → (goes : Bool)
+        → (goes ≡ false → 2 < get_or codes (at + m) 0) → (goes ≡ true → get_or codes (at + m) 0 ≤ 2)
+        → Stretched codes words marks seen at before (told goes) area
+    stretched_at inside some true none block =
         record {
+          sees = sees;
           laid = s;
-          whole = λ stop left k enough.
-              lays_end _ _ _ before m area (first_words left k enough)
-              (write_stop codes words marks sees (at + m) k (left - m) inside (none stop)) (stretch_laid m sees area s);
-          block = λ go. record { inside = inside; some = some; few = block go };
+          whole = λ stop. let never : ⊥ = cc in absurd never;
+          block = λ there e. let same : there ≡ sees = cc in (same, record { inside = inside; some = some; few = block refl });
         }
+    stretched_at inside some false none block =
+        ended (λ left k enough.
+        lays_end _ _ _ before m area (first_words left k enough)
+        (write_stop codes words marks sees (at + m) k (left - m) inside (none refl)) (stretch_laid m sees area s))
 
 -- ---- a stretch, and the run after it
 
@@ -117,18 +126,18 @@ module _ (codes words marks counts : List ℕ) (seen at left k : ℕ) (before : 
   pub turn_left : r.many ≤ left
   turn_left = omega (arith, s.laid.reach, known.enough)
 
-  pub turn_whole : r.ends ≡ true → Laid (write_at left codes words marks seen at k) before r.many area
+  pub turn_whole : r.block ≡ None → Laid (write_at left codes words marks seen at k) before r.many area
   turn_whole e = s.whole e left k known.enough
 
   pub turn_known : Known codes counts (at + r.many) (left - r.many)
   turn_known = record { held = known.held; enough = omega (arith, known.enough, turn_left) }
 
-  pub turn_on : (n : ℕ) (end : List ℕ)
-      → Laid (write_at (left - r.many) codes words marks r.sees (at + r.many) k) (take (length area - r.many) (drop r.many area)) n end
+  pub turn_on : (sees : ℕ) → r.block ≡ Some sees → (n : ℕ) (end : List ℕ)
+      → Laid (write_at (left - r.many) codes words marks sees (at + r.many) k) (take (length area - r.many) (drop r.many area)) n end
       → Laid (write_at left codes words marks seen at k) before (r.many + n) (put_mid r.many (length area - r.many) area end)
-  turn_on n end l =
+  turn_on sees goes n end l =
       lays_both _ _ _ before r.many area n end (s.laid.first left k turn_left)
-      (stretch_laid codes words marks seen at before r.many r.sees area s.laid) l
+      (stretch_laid codes words marks seen at before r.many s.sees area s.laid) (rw (s.block sees goes).0 at l)
 
 -- ---- stretch, block, stretch, block: a run
 
@@ -165,9 +174,9 @@ module _ (codes words marks counts : List ℕ) where
       first : Laid (g.done ++ take r.many part) before (m + r.many) over
       first =
           lays_both g.done (take r.many part) _ before m area r.many part refl g.laid
-          (stretch_laid codes words marks sees here (take (length area - m) (drop m area)) r.many r.sees part s.laid)
+          (stretch_laid codes words marks sees here (take (length area - m) (drop m area)) r.many s.sees part s.laid)
 
-      words_then : w ≡ (g.done ++ take r.many part) ++ write_at (rest - r.many) codes words marks r.sees line number
+      words_then : w ≡ (g.done ++ take r.many part) ++ write_at (rest - r.many) codes words marks s.sees line number
       words_then =
           g.parts
           ∙ ap (λ (l : List ℕ). g.done ++ l) (s.laid.first rest number (omega (arith, s.laid.reach, g.known.enough)))
@@ -180,15 +189,15 @@ module _ (codes words marks counts : List ℕ) where
       stretch_inside = first.inside
 
       -- the run ends, or the area
-      pub stretch_whole : r.ends ≡ true → Laid w before (m + r.many) over
+      pub stretch_whole : r.block ≡ None → Laid w before (m + r.many) over
       stretch_whole e =
           lays_both g.done (write_at rest codes words marks sees here number) w before m area r.many part g.parts g.laid
           (s.whole e rest number g.known.enough)
 
       -- a block is next
-      module _ (goes : r.ends ≡ false) where
+      module _ (there : ℕ) (goes : r.block ≡ Some there) where
         abbrev at_block : BlockAt codes line
-        at_block = s.block goes
+        at_block = (s.block there goes).1
 
         pub stretch_left : r.many < rest
         stretch_left = omega (arith, g.known.enough, at_block.inside)
@@ -204,13 +213,13 @@ module _ (codes words marks counts : List ℕ) where
 
         module _ (next : ℕ) (more : Counted) (e : next ≡ (item_at (count_at left codes) codes line).end)
             (q : RunCounted left codes next more) (onward : Known codes counts next left) (j : ℕ) (mid : List ℕ)
-            (block : Laid (write_block (write_at left codes words marks r.sees) (count_at left codes) codes line (number / more.count))
+            (block : Laid (write_block (write_at left codes words marks there) (count_at left codes) codes line (number / more.count))
             (take (length over - (m + r.many)) (drop (m + r.many) over)) j mid) where
           abbrev words_of : List ℕ
-          words_of = write_block (write_at left codes words marks r.sees) (count_at left codes) codes line (number / more.count)
+          words_of = write_block (write_at left codes words marks there) (count_at left codes) codes line (number / more.count)
 
           pub running_next : Running codes words marks counts w before (put_mid (m + r.many) (length over - (m + r.many)) over mid)
-              (m + r.many + j) next r.sees left (number % more.count)
+              (m + r.many + j) next there left (number % more.count)
           running_next =
               record {
                 done = (g.done ++ take r.many part) ++ words_of;
@@ -224,10 +233,11 @@ module _ (codes words marks counts : List ℕ) where
               one : rest - r.many ≡ suc left
               one = omega (arith, stretch_left)
 
-              next_block : write_at (rest - r.many) codes words marks r.sees line number
-                  ≡ write_block (write_at left codes words marks r.sees) (count_at left codes) codes line (number / more.count)
-                  ++ write_at left codes words marks r.sees next (number % more.count)
+              next_block : write_at (rest - r.many) codes words marks s.sees line number
+                  ≡ write_block (write_at left codes words marks there) (count_at left codes) codes line (number / more.count)
+                  ++ write_at left codes words marks there next (number % more.count)
               next_block =
-                  ap (λ (n : ℕ). write_at n codes words marks r.sees line number) one
-                  ∙ write_block_lem codes words marks r.sees line number left at_block.inside at_block.few at_block.some
+                  ap (λ (v : ℕ). write_at (rest - r.many) codes words marks v line number) (sym (s.block there goes).0)
+                  ∙ ap (λ (n : ℕ). write_at n codes words marks there line number) one
+                  ∙ write_block_lem codes words marks there line number left at_block.inside at_block.few at_block.some
                   ∙ rw (← e, ← q.counting.same) refl

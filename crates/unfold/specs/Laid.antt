@@ -1,5 +1,5 @@
 -- Words laid over a lent area, as far as it reaches, and what the writing of a run asks for.
-use Rattle.std.specs.Prelude.{true, false, List, [], ◌∷◌, ◌++◌, ◌≡◌, ℕ, ◌+◌, ◌-◌, ◌≤◌, ◌<◌, min, length, get_or, take, drop}
+use Rattle.std.specs.Prelude.{Some, None, List, [], ◌∷◌, ◌++◌, ◌≡◌, ℕ, ◌+◌, ◌-◌, ◌≤◌, ◌<◌, min, length, get_or, take, drop}
 use Rattle.unfold_laws.specs.Codes.{count_at}
 use Rattle.unfold_laws.specs.Writing.{write_block, write_at}
 use Rattle.unfold_count.specs.CountWords.{Held}
@@ -37,9 +37,10 @@ pub record BlockAt (codes : List ℕ) (at : ℕ) : Type 0 where
 
 -- the same up to the first line that is no statement, or to the area's end: then the run ends there, or the area, or a block is next
 pub record Stretched (codes words marks : List ℕ) (seen at : ℕ) (before : List ℕ) (r : Stretch) (area : List ℕ) : Type 0 where
-  pub laid : Stretching codes words marks seen at before r.many r.sees area
-  pub whole : r.ends ≡ true → (left k : ℕ) → length codes ≤ at + left → Laid (write_at left codes words marks seen at k) before r.many area
-  pub block : r.ends ≡ false → BlockAt codes (at + r.many)
+  pub sees : ℕ
+  pub laid : Stretching codes words marks seen at before r.many sees area
+  pub whole : r.block ≡ None → (left k : ℕ) → length codes ≤ at + left → Laid (write_at left codes words marks seen at k) before r.many area
+  pub block : (there : ℕ) → r.block ≡ Some there → (there ≡ sees) × BlockAt codes (at + r.many)
 
 -- the words for all runs stand, as far as they reach, and enough lines are left for the run at a place
 pub record Known (codes counts : List ℕ) (at left : ℕ) : Type 0 where

@@ -68,12 +68,11 @@ struct Source<'a> {
     ids: bool,
 }
 
-// What is laid of a stretch of statements: how many words, what is seen after them, and whether the run ends there, or the area, or a block is next.
+// What is laid of a stretch of statements: how many words, and what is seen at the block after them; of none, where the run ends there, or the area.
 #[derive(Clone, Copy)]
 struct Stretch {
     many: usize,
-    sees: u32,
-    ends: bool,
+    block: Option<u32>,
 }
 
 // What an unfolding of a block is: nothing, or one turn or two of the run at a line, each by its number.
@@ -113,7 +112,7 @@ fn mark_by(source: &Source, at: usize) -> u32
 }
 
 // Lays the words of the statements from a line on over an area, up to the first line that is none, or to the area's end; answers how many,
-// what is seen after them (each one's mark is), and whether the run ends there.
+// and, where a block is next, what is seen there (each one's mark is).
 fn write_stretch(source: &Source, seen: u32, at: usize, out: &mut [u64]) -> Stretch
     ensures { Stretched (codes_in source.now) (words_in source.now) (marks_in source.now) seen at
         out.old result out.new }
@@ -125,8 +124,7 @@ fn write_stretch(source: &Source, seen: u32, at: usize, out: &mut [u64]) -> Stre
         if n <= line {
             return Stretch {
                 many: m,
-                sees,
-                ends: true,
+                block: None,
             };
         }
         let code = code_at(source.lines, line);
@@ -135,8 +133,7 @@ fn write_stretch(source: &Source, seen: u32, at: usize, out: &mut [u64]) -> Stre
             _ => {
                 return Stretch {
                     many: m,
-                    sees,
-                    ends: !code.begins_item(),
+                    block: code.begins_item().then_some(sees),
                 };
             }
         }
@@ -145,8 +142,7 @@ fn write_stretch(source: &Source, seen: u32, at: usize, out: &mut [u64]) -> Stre
     }
     Stretch {
         many: out.len(),
-        sees,
-        ends: true,
+        block: None,
     }
 }
 
@@ -185,15 +181,15 @@ fn write_run(source: &Source, seen: u32, at: usize, left: usize, k: u64, out: &m
     while m < out.len() {
         let s = write_stretch(source, sees, here, &mut out[m..]);
         m += s.many;
-        if s.ends {
+        let Some(seen_there) = s.block else {
             return m;
-        }
+        };
         let line = here + s.many;
         rest = rest - s.many - 1;
         here = block_end(source, line, rest);
         let more = run_at(source.lines, source.counts, here, rest);
         let n = more.count;
-        sees = s.sees;
+        sees = seen_there;
         m += write_block(source, sees, line, rest, number / n, &mut out[m..]);
         number = number % n;
     }
@@ -270,10 +266,10 @@ fn write_turn(source: &Source, seen: u32, at: usize, left: usize, k: u64, out: &
 {
     let s = write_stretch(source, seen, at, out);
     let m = s.many;
-    if s.ends {
+    let Some(sees) = s.block else {
         return m;
-    }
-    m + write_run(source, s.sees, at + m, left - m, k, &mut out[m..])
+    };
+    m + write_run(source, sees, at + m, left - m, k, &mut out[m..])
 }
 
 // Writes the unfoldings k to n - 1 of the run at a place one after the other, the rest of the area lent on each time, and tells each.

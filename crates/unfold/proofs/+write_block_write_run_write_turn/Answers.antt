@@ -12,6 +12,8 @@ use Rattle.unfold.proofs.StretchLaws.{
   stretch_known,
   block_ends,
   turn_on,
+  turn_whole,
+  no_block,
 }
 use Rattle.value_tables.specs.TableLaws.{codes_many}
 use Rattle.unfold.proofs.+write_block_write_run_write_turn.Goals as goal
@@ -28,9 +30,9 @@ write_block-returns-in-Twice t c = lays_both _ _ _ _ _ _ _ _ (c.in-Twice.ensures
 pub write_run-loop-m-init : goal.write_run-loop-m-init
 write_run-loop-m-init t c = (omega arith, omega arith, running_start _ _ _ _ _ _ _ _ _ c.requires)
 
-pub write_run-returns-then-s : goal.write_run-returns-then-s
-write_run-returns-then-s t c =
-    stretch_whole _ _ _ _ _ _ _ _ _ _ _ _ c.loop-m.invariant.2 _ _ c.write_stretch-s.ensures c.if-s.true
+pub write_run-returns-in_default : goal.write_run-returns-in_default
+write_run-returns-in_default t c =
+    stretch_whole _ _ _ _ _ _ _ _ _ _ _ _ c.loop-m.invariant.2 _ _ c.write_stretch-s.ensures (no_block _ c.in_default.not-Some)
 
 pub write_run-overflow_add-line : goal.write_run-overflow_add-line
 write_run-overflow_add-line t c =
@@ -38,30 +40,30 @@ write_run-overflow_add-line t c =
 
 pub write_run-nonzero_div-number : goal.write_run-nonzero_div-number
 write_run-nonzero_div-number t c =
-    let known = stretch_known _ _ _ _ _ _ _ _ _ _ _ _ c.loop-m.invariant.2 _ _ c.write_stretch-s.ensures c.if-s.false in
-    let onward = end_known _ _ _ _ known (c.write_stretch-s.ensures.block c.if-s.false).inside _ c.block_end-here.ensures in
+    let known = stretch_known _ _ _ _ _ _ _ _ _ _ _ _ c.loop-m.invariant.2 _ _ c.write_stretch-s.ensures _ c.in-Some.is in
+    let onward = end_known _ _ _ _ known (c.write_stretch-s.ensures.block _ c.in-Some.is).1.inside _ c.block_end-here.ensures in
     let more = known_run _ _ _ _ onward _ c.run_at-more.ensures in
     omega (arith, more.counting.positive)
 
 pub write_run-nonzero_rem-number : goal.write_run-nonzero_rem-number
 write_run-nonzero_rem-number t c =
-    let known = stretch_known _ _ _ _ _ _ _ _ _ _ _ _ c.loop-m.invariant.2 _ _ c.write_stretch-s.ensures c.if-s.false in
-    let onward = end_known _ _ _ _ known (c.write_stretch-s.ensures.block c.if-s.false).inside _ c.block_end-here.ensures in
+    let known = stretch_known _ _ _ _ _ _ _ _ _ _ _ _ c.loop-m.invariant.2 _ _ c.write_stretch-s.ensures _ c.in-Some.is in
+    let onward = end_known _ _ _ _ known (c.write_stretch-s.ensures.block _ c.in-Some.is).1.inside _ c.block_end-here.ensures in
     let more = known_run _ _ _ _ onward _ c.run_at-more.ensures in
     omega (arith, more.counting.positive)
 
 pub write_run-loop-m-preserved : goal.write_run-loop-m-preserved
 write_run-loop-m-preserved t c =
-    let known = stretch_known _ _ _ _ _ _ _ _ _ _ _ _ c.loop-m.invariant.2 _ _ c.write_stretch-s.ensures c.if-s.false in
-    let onward = end_known _ _ _ _ known (c.write_stretch-s.ensures.block c.if-s.false).inside _ c.block_end-here.ensures in
+    let known = stretch_known _ _ _ _ _ _ _ _ _ _ _ _ c.loop-m.invariant.2 _ _ c.write_stretch-s.ensures _ c.in-Some.is in
+    let onward = end_known _ _ _ _ known (c.write_stretch-s.ensures.block _ c.in-Some.is).1.inside _ c.block_end-here.ensures in
     let more = known_run _ _ _ _ onward _ c.run_at-more.ensures in (
       omega (arith, c.loop-m.invariant.0),
       omega (
         arith,
         codes_many c.args.source.now.lines.now,
-        block_ends _ _ _ _ _ _ _ _ _ _ _ _ c.loop-m.invariant.2 _ _ c.write_stretch-s.ensures c.if-s.false _ c.block_end-here.ensures,
+        block_ends _ _ _ _ _ _ _ _ _ _ _ _ c.loop-m.invariant.2 _ _ c.write_stretch-s.ensures _ c.in-Some.is _ c.block_end-here.ensures,
       ),
-      running_next _ _ _ _ _ _ _ _ _ _ _ _ c.loop-m.invariant.2 _ _ c.write_stretch-s.ensures c.if-s.false _ _
+      running_next _ _ _ _ _ _ _ _ _ _ _ _ c.loop-m.invariant.2 _ _ c.write_stretch-s.ensures _ c.in-Some.is _ _
           c.block_end-here.ensures more onward _ _ c.write_block-m.ensures,
     )
 
@@ -71,5 +73,9 @@ write_run-returns t c = running_end _ _ _ _ _ _ _ _ _ _ _ _ c.loop-m.invariant.2
 pub write_turn-overflow_add-at : goal.write_turn-overflow_add-at
 write_turn-overflow_add-at t c = record { fits = omega (arith, codes_many c.args.source.now.lines.now, c.write_stretch-s.ensures.laid.reach) }
 
+pub write_turn-returns-in_default : goal.write_turn-returns-in_default
+write_turn-returns-in_default t c =
+    turn_whole _ _ _ _ _ _ _ _ _ c.requires _ _ c.write_stretch-s.ensures (no_block _ c.in_default.not-Some)
+
 pub write_turn-returns : goal.write_turn-returns
-write_turn-returns t c = turn_on _ _ _ _ _ _ _ _ _ c.requires _ _ c.write_stretch-s.ensures _ _ c.write_run.ensures
+write_turn-returns t c = turn_on _ _ _ _ _ _ _ _ _ c.requires _ _ c.write_stretch-s.ensures _ c.in-Some.is _ _ c.write_run.ensures

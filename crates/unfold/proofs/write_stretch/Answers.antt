@@ -21,10 +21,12 @@ returns-then-n-line c = stretched_past _ _ _ _ _ _ _ _ _ c.loop-m.invariant (ome
 
 pub returns-in_default : goal.returns-in_default
 returns-in_default c =
-    let ends = ends_told _ _ c.begins_item.ensures.0 c.begins_item.ensures.1 in
     let code = c.code_at-code.ensures in
-    stretched_at _ _ _ _ _ _ _ _ _ c.loop-m.invariant (omega (arith, c.lines_in-n.ensures, c.if-n-line.false))
-    (λ z. other_code Statement c.in_default.not-Statement code z) _ (λ stop. omega (arith, code, ends.0 stop)) (λ go. omega (arith, code, ends.1 go))
+    rw c.then_some.ensures
+    (stretched_at _ _ _ _ _ _ _ _ _ c.loop-m.invariant (omega (arith, c.lines_in-n.ensures, c.if-n-line.false))
+    (λ z. other_code Statement c.in_default.not-Statement code z) _
+    (λ stop. let over = ends_told _ _ c.begins_item.ensures.1 stop in omega (arith, code, over))
+    (λ go. let few = c.begins_item.ensures.0 go in omega (arith, code, few)))
 
 pub place_word-requires : goal.place_word-requires
 place_word-requires c = omega (arith, c.lines_in-n.ensures, c.if-n-line.false)
