@@ -4,6 +4,5 @@ use Rattle.kind_chances.proofs.chance_b.Goals as goal
 
 pub returns : goal.returns
 returns c =
-    let given = c.args in
-    b_told given.k given.l c.met.ensures c.deletes.ensures
+    b_told c.args.k c.args.l c.met.ensures c.deletes.ensures
     c.writes_of.ensures c.reads_of.ensures c.unless.ensures

@@ -4,7 +4,6 @@ use Rattle.kind_chances.proofs.chance_c.Goals as goal
 
 pub returns : goal.returns
 returns c =
-    let given = c.args in
-    c_told given.k given.l c.met-meet.ensures c.writes_of.ensures c.tests_of.ensures
+    c_told c.args.k c.args.l c.met-meet.ensures c.writes_of.ensures c.tests_of.ensures
     c.has_tests.ensures c.inserts.ensures c.deletes.ensures c.or_certain.ensures
     c.needing.ensures

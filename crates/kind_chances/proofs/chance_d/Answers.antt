@@ -4,6 +4,5 @@ use Rattle.kind_chances.proofs.chance_d.Goals as goal
 
 pub returns : goal.returns
 returns c =
-    let given = c.args in
-    d_told given.k given.l c.met.ensures c.inserts.ensures
+    d_told c.args.k c.args.l c.met.ensures c.inserts.ensures
     c.reads_of.ensures c.writes_of.ensures c.unless.ensures
