@@ -21,7 +21,7 @@ use place_row::{KIND, ROW_WORDS, Row};
 use refusal::Fault;
 
 // The words of a row, the kind by its number: all of one size, so that keeping them costs no copying of what lies between. It stands beside Row,
-// which place_row promises and whose kind is one byte.
+// which place_row promises and whose kind is an enum.
 #[derive(Clone, Copy)]
 struct Words {
     node: u64,

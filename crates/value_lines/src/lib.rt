@@ -11,6 +11,7 @@ use spec_text::{CELLS, Line, LineKind, Workload};
 use value_tables::{BR, LI, LINE_TABLE, LINE_WORDS, LO, NO_ITEM, PR};
 use word_rows::put_row;
 
+// The number of a line's kind. It is no From, since LineKind is another crate's.
 fn line_number(k: LineKind) -> u64
     ensures { result ≡ line_number k }
 {
