@@ -28,7 +28,7 @@ fn line_number(k: LineKind) -> u64
     }
 }
 
-// The mark of a line with this number: the bit of a statement's id where its kind shields, else 0.
+// The mark of a line with this number: the bit of a statement's id where its kind shields, else 0: a word of the table, and no Option.
 fn mark_by(n: u64, id: u8) -> u32
     ensures { result ≡ mark_by n id }
 {
