@@ -28,7 +28,8 @@ impl Counts {
     }
 }
 
-// How many edges stand between two rows, and how many of them are back edges, by whether a forward and a back edge does.
+// How many edges stand between two rows, and how many of them are back edges, by whether a forward and a back edge does: two
+// flags, as promised, since of an edge no more is told here than that it stands.
 pub fn pair_counts(forward: bool, back: bool) -> Counts
     ensures { result ≡ pair_counts forward back }
 {

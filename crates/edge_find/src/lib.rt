@@ -18,7 +18,7 @@ pub struct EdgeStep {
     pub found: Option<Edge>,
 }
 
-// What the two sets of a letter share.
+// What the two sets of a letter share. The letter is a byte, as in Edge, which callers in C own; any byte is taken, and each but A to D stands for E.
 pub fn shared_by(letter: u8, p: Row, q: Row) -> u64
     ensures { result ≡ shared_by letter p q }
 {
@@ -107,7 +107,8 @@ fn is_found(step: EdgeStep) -> bool
     step.found.is_some()
 }
 
-// The first edge from a slot on: from 0, and from after each edge's slot, it gives all edges of a table in order.
+// The first edge from a slot on: from 0, and from after each edge's slot, it gives all edges of a table in order. It stays a loop: a slot
+// without an edge tells the next one to look at, which may stand many slots on.
 pub fn edge_from(table: &[u64], from: usize) -> EdgeStep
     ensures { result ≡ edge_from table.now from }
 {

@@ -70,14 +70,14 @@ const KEY_SELECT: u64 = KS;
 
 const SELECTS: u64 = KS | PS;
 
-// A word that a row gives if its kind is among these, else 0.
+// A word that a row gives if its kind is among these, else 0: a word and no Option, since the words of a row are joined.
 fn among(kinds: u64, bit: u64, x: u64) -> u64
     ensures { result ≡ cond (meets kinds bit) x 0 }
 {
     if kinds & bit != 0 { x } else { 0 }
 }
 
-// The bit of a kind.
+// The bit of a kind. It is no From, since both types are another crate's.
 fn kind_bit(k: StatementKind) -> u64
     ensures { result ≡ kind_bit k }
 {

@@ -1,13 +1,13 @@
 // The edges of a table, one after the other, put into the caller's list.
 #![tactic(auto)]
 
-ghost use Rattle.std.specs.Prelude.{◌≡◌};
+ghost use Rattle.std.specs.Prelude.{◌≡◌, true};
 ghost use Rattle.kind_table.specs.Codes.{code_of};
 ghost use Rattle.place_row.specs.RowTable.{row_at};
 ghost use Rattle.edge_count.specs.Slots.{table_edges};
-ghost use Rattle.edge_put.specs.Cursors.{row_in, row_start, past_all, first_row, next_row, at_pair, nothing_at, edge_by, back_shared, back_is, row_after};
-ghost use Rattle.edge_put.specs.Cursors.{Inside, Begun, Standing, BackNext, Open, Paired, Stepped, Passed};
-ghost use Rattle.edge_put.specs.Put.{answer_for, PutAs};
+ghost use Rattle.edge_put.specs.Cursors.{row_in, row_start, past_all, first_row, next_row, at_pair, nothing_at, edge_by, back_shared, back_is};
+ghost use Rattle.edge_put.specs.Cursors.{row_after, Inside, Begun, Standing, BackNext, Open, Paired, Stepped, Passed};
+ghost use Rattle.edge_put.specs.Put.{PutAs};
 
 use edge_count::fits_in;
 use edge_find::shared_by;
@@ -20,7 +20,8 @@ use place_link::{FIRST, NEXT, NEXTS, rows_linked};
 use place_row::{KIND, ROW_WORDS, Row};
 use refusal::Fault;
 
-// The words of a row, the kind by its number: all of one size, so that keeping them costs no copying of what lies between.
+// The words of a row, the kind by its number: all of one size, so that keeping them costs no copying of what lies between. It stands beside Row,
+// which place_row promises and whose kind is an enum.
 #[derive(Clone, Copy)]
 struct Words {
     node: u64,
@@ -35,7 +36,7 @@ struct Words {
 
 // A place in the order of a table's edges: row i of n with its words, and the rows from j on are still to be looked at as those that an edge from
 // it enters. `back` is the letter of the back edge to row j, where one comes next. Where the rows are linked those of other chains are
-// passed over.
+// passed over. Letters and flows are bytes here, as in Edge, which callers in C own.
 #[derive(Clone, Copy)]
 struct Cursor {
     n: usize,
@@ -53,7 +54,7 @@ struct Step {
     cursor: Cursor,
 }
 
-// Row number j of a table, which is whole.
+// Row number j of a table, which is whole. The same stands in walk_pick: a public function would have to ask of its callers that the row is whole.
 fn row_whole(table: &[u64], j: usize) -> Row
     requires { Inside table.now j }
     ensures { result ≡ row_at table.now j }
@@ -280,7 +281,7 @@ fn look_on(table: &[u64], c: Cursor) -> Step
     pair_step(table, c)
 }
 
-// The edge that comes next.
+// The edge that comes next. It stays a loop: each step tells where the cursor goes on, by what the table says.
 fn next_edge(table: &[u64], c: Cursor) -> Step
     requires { Standing table.now c }
     ensures { Passed table.now c result }
@@ -299,36 +300,27 @@ fn next_edge(table: &[u64], c: Cursor) -> Step
     nothing_at(d)
 }
 
-// Before the first edge; where they do not fit, past the last.
-fn start_for(table: &[u64], fits: bool) -> Cursor
-    ensures { Begun table.now fits result }
+// The place before the first edge.
+fn start_of(table: &[u64]) -> Cursor
+    ensures { Begun table.now true result }
 {
     let n = row_count(table);
-    if fits {
-        if 0 < n {
-            return row_start(table, n, rows_linked(table), 0, 0);
-        }
+    if 0 < n {
+        return row_start(table, n, rows_linked(table), 0, 0);
     }
     past_all(n)
 }
 
-// The answer where k edges are put: all, or none because they do not fit.
-fn answered(fits: bool, k: usize) -> Result<usize, Fault>
-    ensures { result ≡ answer_for fits k }
-{
-    if fits {
-        return Ok(k);
-    }
-    Err(Fault::Area)
-}
-
 // Puts the edges of a table at the front of an area that has room for them, and answers how many they are; the rest of the area stays as it was, and
-// so does all of an area that is too short. Rows past the 512th are not looked at: no workload has more.
+// so does all of an area that is too short. Rows past the 512th are not looked at: no workload has more. It stays a loop: each edge is found from
+// where the one before it ends, and how many there are is known only then.
 pub fn put_edges<'b, 'a>(table: &'b [u64], out: &'a mut [Edge]) -> Result<usize, Fault>
     ensures { PutAs (table_edges table.now) out.old result out.new }
 {
-    let fits = fits_in(table, out.len());
-    let mut c = start_for(table, fits);
+    if !fits_in(table, out.len()) {
+        return Err(Fault::Area);
+    }
+    let mut c = start_of(table);
     let mut k: usize = 0;
     loop {
         let step = next_edge(table, c);
@@ -339,5 +331,5 @@ pub fn put_edges<'b, 'a>(table: &'b [u64], out: &'a mut [Edge]) -> Result<usize,
         c = step.cursor;
         k += 1;
     }
-    answered(fits, k)
+    Ok(k)
 }

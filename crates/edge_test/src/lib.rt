@@ -25,7 +25,8 @@ fn letter_holds(code: u32, certain: u32, hangs: u32, a: u64, b: u64) -> bool
     false
 }
 
-// The byte of the first letter that holds between two rows, if one does. Between many kinds no letter is possible.
+// The byte of the first letter that holds between two rows, if one does. Between many kinds no letter is possible. Letters are bytes, as in Edge,
+// which callers in C own.
 fn first_letter(code: u32, p: Row, q: Row) -> Option<u8>
     ensures { result ≡ first_by (told_between code p q) }
 {
@@ -60,7 +61,8 @@ pub fn forward_letter(code: u32, p: Row, q: Row) -> Option<u8>
     first_letter(code, p, q)
 }
 
-// The letter of the back edge between two rows, if one stands: E whatever the keys say, else D for a select that no key shields. The first row's keys are asked as those of the place left, the second's as those of the place entered.
+// The letter of the back edge between two rows, if one stands: E whatever the keys say, else D for a select that no key shields. The first row's keys
+// are asked as those of the place left, the second's as those of the place entered.
 pub fn back_letter(code: u32, p: Row, q: Row) -> Option<u8>
     ensures { result ≡ letter_in G.Flow.back code p q }
 {

@@ -24,7 +24,8 @@ const EDGE: u64 = 1048576;
 
 const LOOSE_EDGE: u64 = 2097152;
 
-// The word of a forward edge from place i to place j, 0 where none stands.
+// The word of a forward edge from place i to place j, 0 where none stands. Words and no structs: callers in C lend the tables so. That an edge
+// stands is told by a flag beside its places, as promised.
 #[tactic(auto, unfolding(crate::specs::Coding::forward_word))]
 pub fn forward_word(stands: bool, loose: bool, i: u64, j: u64) -> u64
     ensures { result ≡ cond stands (forward_word loose i j) 0 }

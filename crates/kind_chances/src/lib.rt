@@ -29,7 +29,8 @@ pub struct Entry {
 
 // ---- the sets of a kind
 
-// The class of a set, from whether the kind has it, whether it is never empty, and whether it is the whole relation.
+// The class of a set, from whether the kind has it, whether it is never empty, and whether it is the whole relation: three flags, since each is a bit
+// of the kind's facts.
 fn class_of(there: bool, some: bool, whole: bool) -> SetClass
     ensures { result ≡ class_by there some whole }
 {

@@ -36,7 +36,8 @@ fn halves_of(row: [u32; KINDS]) -> [u64; 2]
     ]
 }
 
-// The codes of a kind that an edge leaves in two words: all is known beforehand, so that the compiler keeps the words of the eight kinds.
+// The codes of a kind that an edge leaves in two words: all is known beforehand, so that the compiler keeps the words of the eight kinds. Arms and no
+// index, for the same reason as in kind_table.
 fn halves_from(k: StatementKind) -> [u64; 2]
     ensures { result ≡ halves_of (codes_from k) }
 {

@@ -23,7 +23,7 @@ pub const TABLE_BYTES: usize = 1042;
 // The lines: one for each two kinds.
 const LINES: usize = 64;
 
-// The two letters of a kind.
+// The two letters of a kind. It is no From, since both types are another crate's.
 #[tactic(auto, unfolding(spec_text::specs::Text::word_of))]
 fn word_of(k: StatementKind) -> [u8; 2]
     ensures { result ≡ word_of (St k) }
@@ -40,7 +40,7 @@ fn word_of(k: StatementKind) -> [u8; 2]
     }
 }
 
-// The digit of a chance.
+// The digit of a chance, as a byte. It is no From, since Chance is another crate's.
 #[tactic(auto, unfolding(spec_text::specs::Text::digit))]
 fn digit_of(c: Chance) -> u8
     ensures { result ≡ digit (digit_of c) }

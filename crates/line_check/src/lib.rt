@@ -43,7 +43,8 @@ fn innermost(words: &[u64; line_state::WORDS], part: u64) -> bool
     (depth != 0) & (innermost == part)
 }
 
-// The fault of the first test that fails, in the order of the rules; what a kind does not ask is true. Most lines pass, and one test tells so.
+// The fault of the first test that fails, in the order of the rules; what a kind does not ask is true. Most lines pass, and one test tells so:
+// the flags are joined without a branch, which a chain of early returns would not do.
 fn first_fault(room: bool, ordered: bool, named: bool, sets: bool, fits: bool) -> Result<(), Fault>
     ensures { number_told result ≡ check_by room ordered named sets true fits }
 {

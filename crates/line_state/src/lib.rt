@@ -5,6 +5,7 @@ ghost use Rattle.std.specs.Prelude.{◌≡◌, ◌≤◌, length};
 ghost use Rattle.line_state.specs.StateSteps.{cell_of};
 ghost use Rattle.line_state.specs.StateWords.{array_in, started_in};
 
+// The state is 424 words, and no struct, because callers in C lend it so: these are the places in it.
 // Where the arrays begin: the relations' sets, the keys' children and parents;
 pub const SETS: usize = 0;
 

@@ -30,7 +30,7 @@ pub fn row_of(words: &[u64; ROW_WORDS]) -> Row
     }
 }
 
-// Word k of row i; past the table's end, 0.
+// Word k of row i; past the table's end, 0. It is no `get`: for a row far past the end i * 8 + k does not fit a word.
 fn row_word(table: &[u64], i: usize, k: usize) -> u64
     requires { k < 8 }
     ensures { result ≡ get_or table.now (i * 8 + k) 0 }

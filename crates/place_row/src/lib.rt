@@ -20,7 +20,8 @@ pub struct Row {
 // The keys of the place entered stand this many times higher in the word.
 pub const FAR: u64 = 4294967296;
 
-// A table of places: so many words to a row, so many rows at most, and so many words for them all.
+// A table of places: so many words to a row, so many rows at most, and so many words for them all. It is of words, and not of rows, because callers
+// in C lend it so.
 pub const ROW_WORDS: usize = 8;
 
 pub const ROWS: usize = 512;

@@ -1,5 +1,5 @@
 // The word of a step out of a node, ordered by the place left, the place entered, the flow (forward before back) and the node entered (Req 01): the
-// lesser word is the lesser step. Places count modulo 1024 and nodes modulo 64.
+// lesser word is the lesser step, and the search takes the least of many by comparing words alone. Places count modulo 1024 and nodes modulo 64.
 #![tactic(auto)]
 
 ghost use Rattle.std.specs.Prelude.{◌≡◌};

@@ -17,7 +17,7 @@ use text_number::digit_of;
 const BYTES: u32 = 256;
 
 // The kind whose word these two bytes are; they make one number, the second byte first: few kinds share it, so that they are told apart by
-// comparing alone.
+// comparing alone. It is no TryFrom, since LineKind is another crate's.
 fn kind_by(first: u8, second: u8) -> Option<LineKind>
     ensures { MatchOption result (none ≡ kind_of (first ∷ second ∷ [])) (λ k. some k ≡ kind_of (first ∷ second ∷ [])) }
 {
@@ -42,7 +42,8 @@ fn kind_by(first: u8, second: u8) -> Option<LineKind>
     }
 }
 
-// The byte that ends a field: the last of a line, or another.
+// The byte that ends a field: the last of a line, or another. A flag tells which, here and below, as in the definitions of specs/: an enum of two
+// would say no more.
 fn end_byte(last: bool) -> u8
     ensures { result ≡ cond last newline space }
 {

@@ -92,7 +92,8 @@ fn count_next(x: Counted, more: Counted) -> Counted
     }
 }
 
-// A run's count as a word, and back.
+// A run's count as a word, and back. The lines and the words of their runs stay two parameters below: the public functions promise them so, and
+// `fill` writes a word between two calls that read them.
 #[tactic(auto, unfolding(crate::specs::CountWords::count_word))]
 fn count_word(c: Counted) -> u32
     requires { (c.count ≤ 513) × (c.statements ≤ 513) × (c.end < 2048) }

@@ -6,18 +6,13 @@ ghost use Rattle.spec_base.specs.Basic.{all};
 ghost use Rattle.value_cells.specs.Cells.{is_empty};
 
 use spec_text::{Line, Workload};
+use value_unused::UNUSED;
 
-// The cell holds the unused line: a line that closes a block and nothing else, and six zeros.
+// The cell holds the unused line.
 fn is_empty(l: Line) -> bool
     ensures { result ≡ is_empty l }
 {
-    (line_kinds::line_facts(l.kind) == line_kinds::CLOSES)
-        & (l.id == 0)
-        & (l.rel == 0)
-        & (l.to == 0)
-        & (l.reads == 0)
-        & (l.writes == 0)
-        & (l.tests == 0)
+    l == UNUSED
 }
 
 // The cells after the lines are empty.

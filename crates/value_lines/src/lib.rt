@@ -11,6 +11,7 @@ use spec_text::{CELLS, Line, LineKind, Workload};
 use value_tables::{BR, LI, LINE_TABLE, LINE_WORDS, LO, NO_ITEM, PR};
 use word_rows::put_row;
 
+// The number of a line's kind. It is no From, since LineKind is another crate's.
 fn line_number(k: LineKind) -> u64
     ensures { result ≡ line_number k }
 {
@@ -27,7 +28,7 @@ fn line_number(k: LineKind) -> u64
     }
 }
 
-// The mark of a line with this number: the bit of a statement's id where its kind shields, else 0.
+// The mark of a line with this number: the bit of a statement's id where its kind shields, else 0: a word of the table, and no Option.
 fn mark_by(n: u64, id: u8) -> u32
     ensures { result ≡ mark_by n id }
 {

@@ -7,7 +7,8 @@ ghost use Rattle.value_tables.specs.Lines.{code_by, table_codes, table_ids, tabl
 
 use unfold_laws::LineCode;
 
-// The number of a line's kind: 0 to 7 for the kinds of statement (`kind_number`), then `pr`, `li`, `lo`, `br`, and one for every other.
+// The number of a line's kind: 0 to 7 for the kinds of statement (`kind_number`), then `pr`, `li`, `lo`, `br`, and one for every other. They are
+// numbers and no enum because they stand in words that callers in C lend.
 pub const PR: u64 = 8;
 
 pub const LI: u64 = 9;
@@ -39,7 +40,7 @@ pub const MARK: usize = 7;
 // The words of all lines.
 pub const LINE_TABLE: usize = 12928;
 
-// The code of a line with this number.
+// The code of a line with this number. It is no From, since LineCode is another crate's.
 fn code_by(n: u64) -> LineCode
     ensures { code_number result ≡ code_by n }
 {

@@ -22,7 +22,7 @@ pub all_told : {told : ℕ → ℕ → Type 0} (f : ℕ → ℕ) (n : ℕ) {word
     → FilledBy told n (replicate n 0) words → words ≡ filled n f n
 all_told f n {words} same p =
     same_number_lists words (filled n f n) (size ∙ sym (filled_length n f n))
-    (λ i h. let l : i < n = omega (arith, size) in same i _ l (p.inside i l) ∙ sym (filled_at n f n i (omega arith) l))
+    (λ i h. let l : i < n = omega (arith, size) in same i _ l (p.inside i l (omega (arith, length-replicate {A = ℕ} n 0))) ∙ sym (filled_at n f n i (omega arith) l))
   where
     size : length words ≡ n
     size = p.size ∙ length-replicate {A = ℕ} n 0

@@ -75,7 +75,8 @@ impl<'a> Turn<'a> {
         word
     }
 
-    // The first place at which a back edge leaves v, or 1024. Past the last node to which one goes no word is looked at.
+    // The first place at which a back edge leaves v, or 1024 where none does, as the least of them is taken. Past the last node to which
+    // one goes no word is looked at.
     fn first_place(&self) -> u64
         ensures { result ≡ earliest self.now.backs.now self.now.v }
     {

@@ -31,7 +31,7 @@ fn leaves_for(backs: &[u64], nodes: u64, x: usize, y: usize) -> u64
 }
 
 // The first place at which a back edge leaves x for one of the nodes, or 1024 where none does. No word is looked at where x has no row, or past the
-// last of the nodes.
+// last of the nodes. A number and no Option: the least of them is taken.
 fn first_leaving(backs: &[u64], nodes: u64, x: usize) -> u64
     requires { x < 64 }
     ensures { (result ≡ first_leaving backs.now nodes x) × (result ≤ 1024) }
@@ -73,7 +73,7 @@ fn only_if(test: bool) -> u64
     NEVER
 }
 
-// How far the last of r + 1 steps from y can open; 0 past the table.
+// How far the last of r + 1 steps from y can open; 0 past the table, which no place is below: it is compared with places, and so no Option.
 fn wide_at(wide: &[u64], r: usize, y: usize) -> u64
     requires { y < 64 }
     ensures { result ≡ wide_at wide.now r y }

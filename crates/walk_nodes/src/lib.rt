@@ -1,5 +1,5 @@
-// Sets of nodes as words: one of 64 nodes, a node more, the nodes with an edge into some. A table that holds a word for each pair of nodes
-// (edge_word) need only be as long as the rows of its nodes.
+// Sets of nodes as words, since 64 nodes fit in one: one of them, a node more, the nodes with an edge into some. A table that holds a word
+// for each pair of nodes (edge_word) need only be as long as the rows of its nodes.
 #![tactic(auto)]
 
 ghost use Rattle.std.specs.Prelude.{cond, ◌≡◌, ◌≤◌, min};

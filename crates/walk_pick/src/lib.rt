@@ -84,7 +84,7 @@ fn keep_between(words: &mut [u64], limit: usize, p: Row, q: Row, word: u64)
     }
 }
 
-// Row number j, which is whole.
+// Row number j, which is whole. The same stands in edge_put: a public function would have to ask of its callers that the row is whole.
 fn whole_row(table: &[u64], j: usize) -> Row
     requires { WholeRow table.now j }
     ensures { result ≡ row_at table.now j }
@@ -161,7 +161,8 @@ fn fill_work(table: &[u64], n: usize, next: &[u64], work: &mut [u64])
     }
 }
 
-// Where the words of a row stand that an edge enters, else where those of the one before do.
+// Where the words of a row stand that an edge enters, else where those of the one before do. A function, and so is the next one: the proofs of three
+// loops name what it promises.
 fn last_if(stands: bool, at: usize, before: usize) -> usize
     ensures { result ≡ cond stands at before }
 {
@@ -441,7 +442,8 @@ fn pick_chain(
     Counts { edges, back }
 }
 
-// Counts the edges from row i to each of the n rows, and keeps their words. Only the rows on its chain are met.
+// Counts the edges from row i to each of the n rows, and keeps their words. Only the rows on its chain are met. Its parameters stand one by
+// one: two of them are written to, and a struct of the others would be made for this call alone.
 fn pick_row(
     table: &[u64],
     n: usize,

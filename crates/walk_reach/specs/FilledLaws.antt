@@ -92,12 +92,12 @@ module _ (f : ℕ → ℕ) where
 
 module _ {told : ℕ → ℕ → Type 0} where
   -- where the function tells what is to be written, that is written
-  pub written_by : (f : ℕ → ℕ) (n : ℕ) {before after : List ℕ} → ((i x : ℕ) → i < n → told i x → x ≡ f i) → FilledBy told n before after
-      → Written f 0 n before after
-  written_by f n same p =
+  pub written_by : (f : ℕ → ℕ) (n : ℕ) {before after : List ℕ} → n ≤ length before → ((i x : ℕ) → i < n → told i x → x ≡ f i)
+      → FilledBy told n before after → Written f 0 n before after
+  written_by f n room same p =
       record {
         size = p.size;
-        inside = λ i h l. same i _ l (p.inside i l);
+        inside = λ i h l. same i _ l (p.inside i l (omega arith));
         below = λ i h. absurd (not-suc-le-zero h);
         above = p.above;
       }
@@ -109,7 +109,7 @@ module _ {told : ℕ → ℕ → Type 0} where
       same_number_lists rows (list_below f n) (p.size ∙ length-replicate {A = ℕ} 64 0 ∙ sym (list_length f n)) (λ i h. go i (dec_lt i n))
     where
       go : (i : ℕ) → Dec (i < n) → get_or rows i 0 ≡ get_or (list_below f n) i 0
-      go i (yes l) = same i _ l (p.inside i l) ∙ sym (list_at f n i few l)
+      go i (yes l) = same i _ l (p.inside i l (omega (arith, length-replicate {A = ℕ} 64 0))) ∙ sym (list_at f n i few l)
       go i (no d) = p.above i (omega arith) ∙ zeros_at 64 i ∙ sym (list_past f n i (omega arith))
 
 -- a word of a table

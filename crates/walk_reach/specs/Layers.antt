@@ -17,10 +17,10 @@ pub record Written (f : ℕ → ℕ) (from to : ℕ) (before after : List ℕ) :
   pub below : (i : ℕ) → i < from → get_or after i 0 ≡ get_or before i 0
   pub above : (i : ℕ) → to ≤ i → get_or after i 0 ≡ get_or before i 0
 
--- each of the first n words is one that its place may have, the others are as before
+-- each of the first n words, as far as there are so many, is one that its place may have, the others are as before
 pub record FilledBy (told : ℕ → ℕ → Type 0) (n : ℕ) (before after : List ℕ) : Type 0 where
   pub size : length after ≡ length before
-  pub inside : (i : ℕ) → i < n → told i (get_or after i 0)
+  pub inside : (i : ℕ) → i < n → i < length before → told i (get_or after i 0)
   pub above : (i : ℕ) → n ≤ i → get_or after i 0 ≡ get_or before i 0
 
 -- the words from one to another are 0

@@ -9,21 +9,20 @@ ghost use Rattle.walk_reach.specs.Layers.{Blank, FilledBy, joined_bit, joined_ro
 use edge_word::NODES;
 use walk_nodes::{grow, node_word, rows_in, with_node};
 
-// Writes into each of the first n words what the function tells of its place. The other words stay as they were.
+// Writes into each of the first n words what the function tells of its place, or into all where there are no more than n. The other words stay as
+// they were.
 pub fn fill_words<F: Fn(usize) -> u64>(words: &mut [u64], n: usize, word_of: F)
-    requires room { n ≤ length words.old }
-    requires callable { (i : ℕ) → i < n → F.pre word_of i }
+    requires { (i : ℕ) → i < n → i < length words.old → F.pre word_of i }
     ensures { FilledBy (F.post word_of) n words.old words.new }
 {
-    for i in 0..n {
+    for i in 0..n.min(words.len()) {
         words[i] = word_of(i);
     }
 }
 
-// A word for each node: for the first n of them as the function tells, and 0 for the others.
+// A word for each node: for the first n of them as the function tells, and 0 for the others. There are 64, whatever n is.
 pub fn rows_by<F: Fn(usize) -> u64>(n: usize, word_of: F) -> [u64; NODES]
-    requires few { n ≤ 64 }
-    requires callable { (i : ℕ) → i < n → F.pre word_of i }
+    requires { (i : ℕ) → i < n → i < 64 → F.pre word_of i }
     ensures { FilledBy (F.post word_of) n (replicate 64 0) result }
 {
     let mut rows = [0u64; NODES];

@@ -234,7 +234,7 @@ fn loose_in(table: &[u64], i: usize, x: u64, place: u64) -> bool
     loose_row(p, x, place)
 }
 
-// Whether some row of node x at the place is loose.
+// Whether some row of node x at the place is loose. It stays a loop: with `any` over the range the proof was tried and did not close.
 pub fn loose_at(table: &[u64], x: u64, place: u64) -> bool
     ensures { result ≡ loose_at table.now x place }
 {

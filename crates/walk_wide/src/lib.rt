@@ -29,7 +29,7 @@ fn greatest_in(table: &[u64], from: usize, nodes: u64) -> u64
     best
 }
 
-// How far the forward edge from x to s opens; 0 where s is no node.
+// How far the forward edge from x to s opens; 0 where s is no node, and so no Option: the greatest of them is taken.
 fn width_into(forwards: &[u64], s: usize, x: usize) -> u64
     requires { x < 64 }
     ensures { result ≡ width_into forwards.now s x }

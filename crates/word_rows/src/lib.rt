@@ -4,7 +4,7 @@
 ghost use Rattle.std.specs.Prelude.{[], ◌∷◌, ◌≡◌};
 ghost use Rattle.word_rows.specs.Put.{row_put};
 
-// Puts a row into an area at a place, where it has room for it.
+// Puts a row into an area at a place, where it has room for it. Eight words and no array of them: the parameters are promised so.
 pub fn put_row(
     area: &mut [u64],
     at: usize,

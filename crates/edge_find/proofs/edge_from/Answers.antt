@@ -14,8 +14,7 @@ loop-x-init c = refl
 
 pub returns-then-is_found : goal.returns-then-is_found
 returns-then-is_found c =
-    let c4 = c in
-    c.look_at-step.ensures.here (sym c.is_found.ensures ∙ c.if-is_found.true) ∙ c4.loop-x.invariant
+    c.look_at-step.ensures.here (sym c.is_found.ensures ∙ c.if-is_found.true) ∙ c.loop-x.invariant
 
 pub loop-x-smaller : goal.loop-x-smaller
 loop-x-smaller c =

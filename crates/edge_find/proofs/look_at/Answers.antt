@@ -14,12 +14,10 @@ returns-then-rows-j c =
 
 pub returns-then-p-q : goal.returns-then-p-q
 returns-then-p-q c =
-    let first = c in
-    looked_apart _ _ first.requires first.if-rows-i.false _ _ _
-    first.row_at-p.ensures c.row_at-q.ensures c.if-p-q.true c.nothing_to-then-p-q.ensures
+    looked_apart _ _ c.requires c.if-rows-i.false _ _ _
+    c.row_at-p.ensures c.row_at-q.ensures c.if-p-q.true c.nothing_to-then-p-q.ensures
 
 pub returns : goal.returns
 returns c =
-    let first = c in
-    looked_pair _ _ first.requires first.if-rows-i.false _ _ _
-    first.if-rows-j.false first.row_at-p.ensures c.row_at-q.ensures c.pair_at.ensures
+    looked_pair _ _ c.requires c.if-rows-i.false _ _ _
+    c.if-rows-j.false c.row_at-p.ensures c.row_at-q.ensures c.pair_at.ensures

@@ -1,13 +1,15 @@
-use Rattle.std.specs.Prelude.{Result}
-use Rattle.std.proofs.Common.{◌≡◌, ◌+◌, ◌<◌, length, arith, ◌∙◌, ap, sym, subst, Bool, ℕ, List}
+-- Where the edges do not fit, the area stays; else each turn puts the edge that `next_edge` gives, or leaves the loop.
+use Rattle.std.specs.Prelude.{Ok}
+use Rattle.std.proofs.Common.{◌≡◌, ◌+◌, ◌<◌, length, arith, ◌∙◌, ap, refl, sym, subst, true, Bool, ℕ, List}
 use Rattle.std.proofs.Math.Dec.{leb}
 use Rattle.std.proofs.Math.ListN.{set}
+use borrow.Author.Tests.{leb-false}
 use Rattle.edge_record.specs.declared.Edge.{Edge}
 use Rattle.edge_count.specs.Slots.{table_edges, edges_below}
 use Rattle.edge_put.specs.declared.Cursor.{Cursor}
-use Rattle.refusal.specs.declared.Fault.{Fault}
 use Rattle.edge_put.specs.Cursors.{slot_of, Begun, Standing, Found}
-use Rattle.edge_put.specs.Put.{records, put_first, answer_for, PutAs}
+use Rattle.edge_put.specs.Put.{records, put_first, answer_for, put_said, PutAs}
+use Rattle.edge_put.specs.Put.PutAs.{short}
 use Rattle.edge_put.specs.PutLaws.{Kept, kept_start, kept_more, kept_edge, kept_below, put_none, put_length, put_more, put_ended}
 use Rattle.edge_put.proofs.put_edges.Goals as goal
 
@@ -15,16 +17,22 @@ use Rattle.edge_put.proofs.put_edges.Goals as goal
 abbrev fit : List ℕ → List Edge → Bool
 fit table area = leb (length (table_edges table)) (length area)
 
+-- an area that is too short stays
+pub returns-then-not-fits_in : goal.returns-then-not-fits_in
+unfolding put_said
+returns-then-not-fits_in c = short (leb-false _ _ (sym c.fits_in.ensures ∙ c.if-not-fits_in.true)) refl refl
+
 pub loop-edge-init : goal.loop-edge-init
 loop-edge-init c = record {
-  stands = c.start_for-c.ensures.stands;
-  kept = kept_start _ _ _ (subst (λ (b : Bool). Begun c.args.table.now b c.start_for-c.result) c.fits_in-fits.ensures c.start_for-c.ensures);
+  stands = c.start_of-c.ensures.stands;
+  kept = kept_start _ _ _
+      (subst (λ (b : Bool). Begun c.args.table.now b c.start_of-c.result) (sym (sym c.fits_in.ensures ∙ c.if-not-fits_in.false)) c.start_of-c.ensures);
   put = sym (put_none c.args.table.now c.args.out.now);
 }
 
 -- an edge that is found has a place in the area
-room : (table : List ℕ) (area out : List Edge) (c : Cursor) (k : ℕ) (x : Edge) (d : Cursor) → Standing table c → Kept table (fit table area) (slot_of c) k
-    → out ≡ put_first (records table) area k → Found table c x d → (k < length (table_edges table)) × (k < length out)
+room : (table : List ℕ) (area out : List Edge) (c : Cursor) (k : ℕ) (x : Edge) (d : Cursor) → Standing table c
+    → Kept table (fit table area) (slot_of c) k → out ≡ put_first (records table) area k → Found table c x d → (k < length (table_edges table)) × (k < length out)
 room table area out c k x d s kept put found =
     let b = kept_below table area c x d k kept found in
     let same = put_length table area c k s kept in
@@ -70,14 +78,15 @@ loop-edge-preserved c =
     }
 
 -- no edge comes any more
-ended : (table : List ℕ) (area out : List Edge) (c : Cursor) (k : ℕ) (r : Result ℕ Fault) {fits : Bool} → Kept table (fit table area) (slot_of c) k
-    → out ≡ put_first (records table) area k → edges_below table (slot_of c) ≡ length (table_edges table) → fits ≡ fit table area
-    → r ≡ answer_for fits k → PutAs (table_edges table) area r out
-ended table area out c k r kept put over f e =
-    subst (λ (l : List Edge). PutAs (table_edges table) area r l) (sym put)
-    (put_ended table area c k r kept over (e ∙ ap (λ (b : Bool). answer_for b k) f))
+ended : (table : List ℕ) (area out : List Edge) (c : Cursor) (k : ℕ) → Kept table (fit table area) (slot_of c) k
+    → out ≡ put_first (records table) area k → edges_below table (slot_of c) ≡ length (table_edges table) → fit table area ≡ true
+    → PutAs (table_edges table) area (Ok k) out
+unfolding answer_for
+ended table area out c k kept put over f =
+    subst (λ (l : List Edge). PutAs (table_edges table) area (Ok k) l) (sym put)
+    (put_ended table area c k (Ok k) kept over (ap (λ (b : Bool). answer_for b k) (sym f)))
 
 pub returns : goal.returns
 returns c =
-    ended _ _ _ c.loop-edge.c _ _ c.loop-edge.invariant.kept c.loop-edge.invariant.put (c.next_edge-step.ensures.ended c.in_default.is)
-    c.fits_in-fits.ensures c.answered.ensures
+    ended _ _ _ c.loop-edge.c _ c.loop-edge.invariant.kept c.loop-edge.invariant.put (c.next_edge-step.ensures.ended c.in_default.is)
+    (sym c.fits_in.ensures ∙ c.if-not-fits_in.false)

@@ -1,4 +1,4 @@
--- `fits_in` tells whether the edges fit and `start_for` where to begin; each turn puts the edge that `next_edge` gives, or leaves the loop. Before a
+-- Where the edges fit, `start_of` tells where to begin; each turn puts the edge that `next_edge` gives, or leaves the loop. Before a
 -- turn the first k edges stand at the front of the area.
 use Rattle.std.proofs.Common.{◌≡◌, length, ◌-◌}
 use Rattle.std.proofs.Math.Dec.{leb}

@@ -4,7 +4,5 @@ use Rattle.kind_chances.proofs.chance_a.Goals as goal
 
 pub returns : goal.returns
 returns c =
-    let c3 = c in
-    let given = c3.args in
-    a_told given.k given.l c.met.ensures c3.deletes.ensures c3.inserts.ensures
-    c3.writes_of.ensures c.writes_of-2.ensures c.unless.ensures
+    a_told c.args.k c.args.l c.met.ensures c.deletes.ensures c.inserts.ensures
+    c.writes_of.ensures c.writes_of-2.ensures c.unless.ensures

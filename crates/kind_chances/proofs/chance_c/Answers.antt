@@ -4,9 +4,6 @@ use Rattle.kind_chances.proofs.chance_c.Goals as goal
 
 pub returns : goal.returns
 returns c =
-    let c3 = c in
-    let c6 = c3 in
-    let given = c6.args in
-    c_told given.k given.l c3.met-meet.ensures c6.writes_of.ensures c6.tests_of.ensures
-    c3.has_tests.ensures c3.inserts.ensures c.deletes.ensures c.or_certain.ensures
+    c_told c.args.k c.args.l c.met-meet.ensures c.writes_of.ensures c.tests_of.ensures
+    c.has_tests.ensures c.inserts.ensures c.deletes.ensures c.or_certain.ensures
     c.needing.ensures

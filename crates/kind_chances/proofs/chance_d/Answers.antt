@@ -4,7 +4,5 @@ use Rattle.kind_chances.proofs.chance_d.Goals as goal
 
 pub returns : goal.returns
 returns c =
-    let c3 = c in
-    let given = c3.args in
-    d_told given.k given.l c.met.ensures c3.inserts.ensures
-    c3.reads_of.ensures c.writes_of.ensures c.unless.ensures
+    d_told c.args.k c.args.l c.met.ensures c.inserts.ensures
+    c.reads_of.ensures c.writes_of.ensures c.unless.ensures

@@ -6,6 +6,5 @@ use Rattle.line_sets.proofs.kind_sets.Goals as goal
 
 pub returns : goal.returns
 returns c =
-    let told_by = c in
-    let a = told_by.args in
-    rw told_by.facts_of-facts.ensures.0 ((told a.kind).sets a.whole a.l)
+    let a = c.args in
+    rw c.facts_of-facts.ensures.0 ((told a.kind).sets a.whole a.l)

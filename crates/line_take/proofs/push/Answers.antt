@@ -9,7 +9,6 @@ use Rattle.line_take.proofs.push.Goals as goal
 pub returns : goal.returns
 unfolding stores_in store_in next_of
 returns c =
-    let entry = c in
-    took_push entry.args.below entry.args.place entry.args.part
+    took_push c.args.below c.args.place c.args.part
     c.mark.ensures
     c.mark-2.ensures c.mark-3.ensures refl

@@ -13,7 +13,5 @@ use Rattle.line_take.proofs.take_statement.Goals as goal
 pub returns : goal.returns
 unfolding stores_in store_in next_of
 returns c =
-    let facts = c in
-    let entry = facts in
-    took_statement entry.args.rel
-    (ap (λ f. bit_and f may_parent / may_parent) facts.facts_of.ensures.0 ∙ (told entry.args.kind).parent) refl
+    took_statement c.args.rel
+    (ap (λ f. bit_and f may_parent / may_parent) c.facts_of.ensures.0 ∙ (told c.args.kind).parent) refl

@@ -14,6 +14,5 @@ returns-then-not-line_fits c = sym (size_unfit _ (sym c.line_fits.ensures ∙ c.
 pub returns : goal.returns
 unfolding size_said
 returns c =
-    let tested = c in
-    let fit = sym tested.line_fits.ensures ∙ c.if-not-line_fits.false in
-    ap some (omega arith) ∙ sym (size_fits tested.args.l fit)
+    let fit = sym c.line_fits.ensures ∙ c.if-not-line_fits.false in
+    ap some (omega arith) ∙ sym (size_fits c.args.l fit)

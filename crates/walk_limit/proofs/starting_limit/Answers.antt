@@ -10,4 +10,4 @@ pub returns-then-r-gt-NODES : goal.returns-then-r-gt-NODES
 returns-then-r-gt-NODES c = starting_past _ _ _ c.if-r-eq0.false c.if-r-gt-NODES.true
 
 pub returns : goal.returns
-returns c = let tested = c in starting_inside _ _ _ tested.if-r-eq0.false tested.if-r-gt-NODES.false c.word_at.ensures
+returns c = starting_inside _ _ _ c.if-r-eq0.false c.if-r-gt-NODES.false c.word_at.ensures

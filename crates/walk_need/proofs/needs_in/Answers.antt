@@ -9,4 +9,4 @@ pub returns : goal.returns
 returns c =
     let room = c.capped-n.ensures in
     written_end _ (omega arith) (omega arith)
-    (written_by (need_among _ _ _ _ _ _ _ _) _ (λ i x h p. search rules) c.fill_words.ensures)
+    (written_by (need_among _ _ _ _ _ _ _ _) _ (omega arith) (λ i x h p. search rules) c.fill_words.ensures)
