@@ -25,7 +25,6 @@ use Rattle.refusal.specs.Told.{told as said}
 use Rattle.text_table.specs.Tabled.{not_read, lines_read, TextTabled}
 use Rattle.text_table.specs.Tabled.TextTabled.{unread, tabled}
 use Rattle.text_read.specs.Parse.{parsed_as}
-use Rattle.refusal_laws.specs.RefusalLaws.{refusal_bounds}
 use Rattle.export_word.specs.Word.{refusal_word, line_sum, value_word}
 use Rattle.exports.specs.Stages.{given, middle_line, read_word}
 use Rattle.exports_lent.specs.Middle.{row_line, table_middle}

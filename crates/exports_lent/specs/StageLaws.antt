@@ -123,12 +123,12 @@ module _ (text : List ℕ) {before : List ℕ} {v : Result Verdict Refusal} {aft
 
       go : TextJudged (read text) before (said v) after → VerdictStage (given text) before r after
       go (TextJudged.unread m l is_read e kept) =
-          let both = same e in
+          let both = refusal_once (same e) in
           let n_is : number ≡ m = cc in
           let l_is : f.line ≡ l = cc in
           subst (VerdictStage (given text) before r) (sym kept) (verdict_refused text is_read (word ∙ ap₂ refusal_word n_is l_is))
       go (TextJudged.judged lines is_read (Err g) e judged) =
-          let both = same e in
+          let both = refusal_once (same e) in
           let n_is : number ≡ number_of g = cc in
           let l_is : f.line ≡ 0 = cc in
           verdict_goes_on text is_read

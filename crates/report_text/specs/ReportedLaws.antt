@@ -112,12 +112,12 @@ module _ (text : List ℕ) {before : List ℕ} {v : Result Verdict Refusal} {aft
 
       go : TextJudged (read text) before (said v) after → Reported text r
       go (not_read_lem m l is_read is kept) =
-          let pair = same is in
+          let pair = refusal_once (same is) in
           let same_number : m ≡ number = cc in
           let same_line : l ≡ f.line = cc in
           reported_as (refusal number f.line (is_read ∙ ap₂ refused same_number same_line)) printed
       go (judged_text lines is_read (Err g) is judged) =
-          let pair = same is in
+          let pair = refusal_once (same is) in
           let same_number : number_of g ≡ number = cc in
           let same_line : 0 ≡ f.line = cc in
           reported_as
