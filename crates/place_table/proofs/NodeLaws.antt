@@ -23,7 +23,8 @@ use Rattle.place_laws.specs.Guarded.{IdsSmall}
 use Rattle.value_tables.specs.Lines.{line_table}
 use Rattle.place_links.specs.declared.Links.{Links}
 use Rattle.place_links.specs.LineLinks.{links_in}
-use Rattle.place_table.specs.RowWords.{row_words, node_rows, total_of, all_rows}
+use Rattle.unfold.specs.declared.Unfolding.{Unfolding}
+use Rattle.place_table.specs.RowWords.{row_words, node_rows, unfolding_at, total_of, all_rows}
 use Rattle.place_table.proofs.PlaceRowLaws.{NodeBegins, row_of_place}
 
 -- ---- lists
@@ -140,17 +141,18 @@ node_words_lem lines (x ∷ nodes) words h (suc j) {n} e =
     (node_words_lem lines nodes (drop (length x.places) words) h.1 j e)
 
 -- what the nodes tell, as numbers
-pub record Told (lines : List Line) (nodes : List Node) (firsts programs lengths : List ℕ) (j : ℕ) (n : Node) : Type 0 where
-  pub program : get_or programs j 0 ≡ n.program
-  pub places : get_or lengths j 0 ≡ length n.places
+pub record Told (lines : List Line) (nodes : List Node) (firsts : List ℕ) (unfoldings : List Unfolding) (j : ℕ) (n : Node) : Type 0 where
+  pub program : (unfolding_at unfoldings j).program ≡ n.program
+  pub places : (unfolding_at unfoldings j).length ≡ length n.places
   pub begins : NodeBegins lines n (links_in (line_table lines) (get_or firsts n.program 0))
 
-module _ (text : List ℕ) (lines : List Line) (taken : read text ≡ accepted lines) (nodes : List Node) (words rest firsts programs lengths : List ℕ)
-    (stand : WordsFor lines nodes words) (told : (j : ℕ) (n : Node) → get_elem? nodes j ≡ some n → Told lines nodes firsts programs lengths j n) where
+module _ (text : List ℕ) (lines : List Line) (taken : read text ≡ accepted lines) (nodes : List Node) (words rest firsts : List ℕ)
+    (unfoldings : List Unfolding)
+    (stand : WordsFor lines nodes words) (told : (j : ℕ) (n : Node) → get_elem? nodes j ≡ some n → Told lines nodes firsts unfoldings j n) where
   abbrev area : List ℕ
   area = words ++ rest
 
-  pub total_nodes : (j : ℕ) → j ≤ length nodes → total_of lengths j ≡ statements_in (take j nodes)
+  pub total_nodes : (j : ℕ) → j ≤ length nodes → total_of unfoldings j ≡ statements_in (take j nodes)
   unfolding total_of statements_in
   total_nodes zero h = refl
   total_nodes (suc j) h =
@@ -158,12 +160,12 @@ module _ (text : List ℕ) (lines : List Line) (taken : read text ≡ accepted l
       let a = total_nodes j (omega arith) in
       let b = (told j found.0 found.1).places in
       let c = statements_more (take j nodes) found.0 in
-      let s : total_of lengths j + get_or lengths j 0 ≡ statements_in (take j nodes ++ (found.0 ∷ [])) = omega arith in
+      let s : total_of unfoldings j + (unfolding_at unfoldings j).length ≡ statements_in (take j nodes ++ (found.0 ∷ [])) = omega arith in
       s ∙ ap statements_in (sym (take_more nodes j found.1))
 
   -- the words of a node in the area
   area_words : (j : ℕ) (n : Node) → get_elem? nodes j ≡ some n → (i : ℕ) → i < length n.places
-      → get_or area (total_of lengths j + i) 0 ≡ get_or (take (length n.places) (drop (statements_in (take j nodes)) words)) i 0
+      → get_or area (total_of unfoldings j + i) 0 ≡ get_or (take (length n.places) (drop (statements_in (take j nodes)) words)) i 0
   area_words j n e i h =
       let start = statements_in (take j nodes) in
       let a = total_nodes j (let l = get_elem?_lt nodes j e in omega arith) in
@@ -176,7 +178,7 @@ module _ (text : List ℕ) (lines : List Line) (taken : read text ≡ accepted l
       ∙ sym (get_or-take (length n.places) (drop start words) i 0 h)
 
   part_all : (j : ℕ) → j ≤ length nodes
-      → all_rows (line_table lines) firsts programs lengths area j ≡ flat_map words_of (map row_of (places_of 0 (take j nodes)))
+      → all_rows (line_table lines) firsts unfoldings area j ≡ flat_map words_of (map row_of (places_of 0 (take j nodes)))
   unfolding all_rows flat_map places_of
   part_all zero h = refl
   part_all (suc j) h =
@@ -185,10 +187,10 @@ module _ (text : List ℕ) (lines : List Line) (taken : read text ≡ accepted l
       let t = told j n found.1 in
       let links = links_in (line_table lines) (get_or firsts n.program 0) in
       let here =
-      ap₂ (λ (p k : ℕ). node_rows (line_table lines) (links_in (line_table lines) (get_or firsts p 0)) j area (total_of lengths j) k)
+      ap₂ (λ (p k : ℕ). node_rows (line_table lines) (links_in (line_table lines) (get_or firsts p 0)) j area (total_of unfoldings j) k)
       t.program t.places
       ∙ node_rows_lem text lines taken links j n t.begins (take (length n.places) (drop (statements_in (take j nodes)) words))
-      (node_words_lem lines nodes words stand j found.1) area (total_of lengths j) (area_words j n found.1) in
+      (node_words_lem lines nodes words stand j found.1) area (total_of unfoldings j) (area_words j n found.1) in
       let many : 0 + length (take j nodes) ≡ j = omega (arith, length-take j nodes) in
       ap₂ (λ (a b : List ℕ). a ++ b) (part_all j (omega arith)) here
       ∙ sym (ap (flat_map words_of) (map-append row_of (places_of 0 (take j nodes)) (places_from j n 0 n.places))
@@ -198,11 +200,11 @@ module _ (text : List ℕ) (lines : List Line) (taken : read text ≡ accepted l
       ∙ sym (places_more 0 (take j nodes) n) ∙ ap (places_of 0) (sym (take_more nodes j found.1)))
 
   -- the rows of all nodes
-  pub table_filled : all_rows (line_table lines) firsts programs lengths area (length nodes) ≡ table_of (rows_of nodes)
+  pub table_filled : all_rows (line_table lines) firsts unfoldings area (length nodes) ≡ table_of (rows_of nodes)
   unfolding table_of rows_of
   table_filled =
       part_all (length nodes) (omega arith)
       ∙ ap (λ (l : List Node). flat_map words_of (map row_of (places_of 0 l))) (take_all (length nodes) nodes (omega arith))
 
-  pub places_told : total_of lengths (length nodes) ≡ statements_in nodes
+  pub places_told : total_of unfoldings (length nodes) ≡ statements_in nodes
   places_told = total_nodes (length nodes) (omega arith) ∙ ap statements_in (take_all (length nodes) nodes (omega arith))

@@ -13,7 +13,8 @@ use Rattle.word_rows.specs.Put.{put_at, put_at_length, put_at_take}
 use Rattle.place_links.specs.declared.Links.{Links}
 use Rattle.place_links.specs.LineLinks.{links_in}
 use Rattle.place_keys.specs.LineKeys.{place_keys}
-use Rattle.place_table.specs.RowWords.{row_words, node_rows, total_of, all_rows}
+use Rattle.unfold.specs.declared.Unfolding.{Unfolding}
+use Rattle.place_table.specs.RowWords.{row_words, node_rows, unfolding_at, total_of, all_rows}
 
 -- no words put
 pub put_none : (area : List ℕ) (at : ℕ) → area ≡ put_at area at []
@@ -96,38 +97,39 @@ module _ (lines : List ℕ) (links : Links) (node : ℕ) (words : List ℕ) (sta
 -- ---- the rows of all nodes
 
 -- the places of fewer nodes are no more
-pub total_most : (lengths : List ℕ) (n j : ℕ) → j < n → total_of lengths j + get_or lengths j 0 ≤ total_of lengths n
+pub total_most : (unfoldings : List Unfolding) (n j : ℕ) → j < n → total_of unfoldings j + (unfolding_at unfoldings j).length ≤ total_of unfoldings n
 unfolding total_of
-total_most lengths zero j h = absurd (omega arith)
-total_most lengths (suc n) j h = go (dec_lt j n) (λ k. total_most lengths n j k)
+total_most unfoldings zero j h = absurd (omega arith)
+total_most unfoldings (suc n) j h = go (dec_lt j n) (λ k. total_most unfoldings n j k)
   where
-    go : Dec (j < n) → (j < n → total_of lengths j + get_or lengths j 0 ≤ total_of lengths n)
-        → total_of lengths j + get_or lengths j 0 ≤ total_of lengths n + get_or lengths n 0
+    go : Dec (j < n) → (j < n → total_of unfoldings j + (unfolding_at unfoldings j).length ≤ total_of unfoldings n)
+        → total_of unfoldings j + (unfolding_at unfoldings j).length ≤ total_of unfoldings n + (unfolding_at unfoldings n).length
     go (yes k) rest = let a = rest k in omega arith
     go (no d) rest = let e : j ≡ n = omega arith in rw e (omega arith)
 
-pub total_none : (lengths : List ℕ) → 0 ≡ total_of lengths 0
+pub total_none : (unfoldings : List Unfolding) → 0 ≡ total_of unfoldings 0
 unfolding total_of
-total_none lengths = refl
+total_none unfoldings = refl
 
-pub total_next : (lengths : List ℕ) (j at places : ℕ) → at ≡ total_of lengths j → places ≡ get_or lengths j 0 → at + places ≡ total_of lengths (j + 1)
+pub total_next : (unfoldings : List Unfolding) (j at places : ℕ) → at ≡ total_of unfoldings j → places ≡ (unfolding_at unfoldings j).length
+    → at + places ≡ total_of unfoldings (j + 1)
 unfolding total_of
-total_next lengths j at places a p = rw (a, p, add-one) refl
+total_next unfoldings j at places a p = rw (a, p, add-one) refl
 
-module _ (lines firsts programs lengths words : List ℕ) where
+module _ (lines firsts : List ℕ) (unfoldings : List Unfolding) (words : List ℕ) where
   abbrev rows : ℕ → List ℕ
-  rows j = all_rows lines firsts programs lengths words j
+  rows j = all_rows lines firsts unfoldings words j
 
-  pub all_length : (j : ℕ) → length (rows j) ≡ total_of lengths j * 8
+  pub all_length : (j : ℕ) → length (rows j) ≡ total_of unfoldings j * 8
   unfolding all_rows total_of
   all_length zero = refl
   all_length (suc j) =
       let a = all_length j in
-      let links = links_in lines (get_or firsts (get_or programs j 0) 0) in
-      let b = rows_length lines links j words (total_of lengths j) (get_or lengths j 0) in
-      length-append (rows j) (node_rows lines links j words (total_of lengths j) (get_or lengths j 0)) ∙ omega arith
+      let links = links_in lines (get_or firsts (unfolding_at unfoldings j).program 0) in
+      let b = rows_length lines links j words (total_of unfoldings j) ((unfolding_at unfoldings j).length) in
+      length-append (rows j) (node_rows lines links j words (total_of unfoldings j) ((unfolding_at unfoldings j).length)) ∙ omega arith
 
-  module _ (n : ℕ) (before : List ℕ) (room : total_of lengths n * 8 ≤ length before) where
+  module _ (n : ℕ) (before : List ℕ) (room : total_of unfoldings n * 8 ≤ length before) where
     pub all_start : before ≡ put_at before 0 (rows 0)
     unfolding all_rows
     all_start = put_none before 0
@@ -138,30 +140,32 @@ module _ (lines firsts programs lengths words : List ℕ) where
         let b = total_less j h in
         ap length e ∙ put_at_length before 0 (rows j) (omega arith)
       where
-        total_less : (j : ℕ) → j ≤ n → total_of lengths j ≤ total_of lengths n
+        total_less : (j : ℕ) → j ≤ n → total_of unfoldings j ≤ total_of unfoldings n
         total_less j h = go (dec_lt j n)
           where
-            go : Dec (j < n) → total_of lengths j ≤ total_of lengths n
-            go (yes k) = let c = total_most lengths n j k in omega arith
+            go : Dec (j < n) → total_of unfoldings j ≤ total_of unfoldings n
+            go (yes k) = let c = total_most unfoldings n j k in omega arith
             go (no d) = let e : j ≡ n = omega arith in rw e (omega arith)
 
-    pub all_room : (j at : ℕ) (table : List ℕ) → j < n → at ≡ total_of lengths j → table ≡ put_at before 0 (rows j)
-        → (places : ℕ) → places ≡ get_or lengths j 0 → (at + places) * 8 ≤ length table
+    pub all_room : (j at : ℕ) (table : List ℕ) → j < n → at ≡ total_of unfoldings j → table ≡ put_at before 0 (rows j)
+        → (places : ℕ) → places ≡ (unfolding_at unfoldings j).length → (at + places) * 8 ≤ length table
     all_room j at table h a e places p =
         let s = all_same j table (omega arith) e in
-        let m = total_most lengths n j h in
+        let m = total_most unfoldings n j h in
         omega arith
 
-    pub all_next : (j at : ℕ) (table : List ℕ) → j < n → at ≡ total_of lengths j → table ≡ put_at before 0 (rows j)
-        → (program first : ℕ) (links : Links) (places : ℕ) → program ≡ get_or programs j 0 → first ≡ get_or firsts program 0
+    pub all_next : (j at : ℕ) (table : List ℕ) → j < n → at ≡ total_of unfoldings j → table ≡ put_at before 0 (rows j)
+        → (program first : ℕ) (links : Links) (places : ℕ) → program ≡ (unfolding_at unfoldings j).program → first ≡ get_or firsts program 0
         → links ≡ links_in lines first
-        → places ≡ get_or lengths j 0 → (after : List ℕ) → after ≡ put_at table (at * 8) (node_rows lines links j words at places)
+        → places ≡ (unfolding_at unfoldings j).length → (after : List ℕ)
+        → after ≡ put_at table (at * 8) (node_rows lines links j words at places)
         → after ≡ put_at before 0 (rows (j + 1))
     unfolding all_rows
     all_next j at table h a e program first links places p f g q after s =
-        let m = total_most lengths n j h in
+        let m = total_most unfoldings n j h in
         let l = all_length j in
-        let k = rows_length lines (links_in lines (get_or firsts (get_or programs j 0) 0)) j words (total_of lengths j) (get_or lengths j 0) in
+        let own = unfolding_at unfoldings j in
+        let k = rows_length lines (links_in lines (get_or firsts own.program 0)) j words (total_of unfoldings j) own.length in
         s ∙ rw (e, g, f, p, q, a, add-one) (put_more before 0 (rows j)
-        (node_rows lines (links_in lines (get_or firsts (get_or programs j 0) 0)) j words (total_of lengths j) (get_or lengths j 0))
-        (total_of lengths j * 8) (omega arith) (omega arith))
+        (node_rows lines (links_in lines (get_or firsts own.program 0)) j words (total_of unfoldings j) own.length)
+        (total_of unfoldings j * 8) (omega arith) (omega arith))

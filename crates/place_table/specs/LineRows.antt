@@ -1,6 +1,6 @@
 -- What the open function over a table of lines promises for all words: what is unfolded is told by them, and rows are filled by what is told. Over
 -- the words of a given value's lines the rows are the value's.
-use Rattle.std.specs.Prelude.{List, ◌≡◌, ℕ, length, Result, Ok, Err}
+use Rattle.std.specs.Prelude.{List, ◌≡◌, ℕ, length, take, Result, Ok, Err}
 use Rattle.spec_base.specs.Basic.{numbers}
 use Rattle.spec_text.specs.declared.Line.{Line}
 use Rattle.spec_text.specs.Value.{Given, value_of}
@@ -19,5 +19,5 @@ pub record LinesFilled (lines places₀ table₀ : List ℕ) (r : Result Rows Fa
   pub tabled : Tabled (table_codes lines) (numbers (lines_in lines)) (table_marks lines) places₀ told places
   pub lent : length places ≡ length places₀
   pub refuses : (fault : Fault) → told ≡ Err fault → (r ≡ Err fault) × (table ≡ table₀)
-  pub fills : (u : Unfolded) → told ≡ Ok u → FilledBy lines u.program u.length places u.count table₀ r table
+  pub fills : (u : Unfolded) → told ≡ Ok u → FilledBy lines (take u.count u.unfoldings) places table₀ r table
   pub settled : (ls : List Line) → lines ≡ line_table ls → Given (value_of ls) → RowsSettled (value_of ls) table₀ r table

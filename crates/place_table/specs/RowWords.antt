@@ -1,11 +1,13 @@
 -- The table of rows as the code makes it, word by word: steps towards the promise of specs/Rows.
-use Rattle.std.specs.Prelude.{List, [], ◌∷◌, ◌++◌, ◌≡◌, ℕ, zero, suc, ◌+◌, ◌*◌, get_or, Result, Ok}
+use Rattle.std.specs.Prelude.{List, [], ◌∷◌, ◌++◌, ◌≡◌, ℕ, zero, suc, ◌+◌, ◌*◌, length, get_or, Result, Ok}
 use Rattle.unfold_laws.specs.WordCode.{line_in, seen_in}
 use Rattle.word_rows.specs.Put.{put_at}
 use Rattle.place_links.specs.declared.Links.{Links}
 use Rattle.place_programs.specs.LinePrograms.{begun_in}
 use Rattle.place_links.specs.LineLinks.{links_in}
 use Rattle.place_keys.specs.LineKeys.{place_keys}
+use Rattle.unfold.specs.declared.Unfolding.{Unfolding}
+use Rattle.unfold.specs.UnfoldTold.{no_unfolding}
 use Rattle.refusal.specs.declared.Fault.{Fault}
 use Rattle.place_table.specs.declared.Rows.{Rows}
 
@@ -30,23 +32,29 @@ node_rows lines links node words start zero = []
 node_rows lines links node words start (suc i) =
     node_rows lines links node words start i ++ row_words lines links node i (get_or words (start + i) 0)
 
+-- the unfolding of a node
+abbrev pub unfolding_at : List Unfolding → ℕ → Unfolding
+unfolding_at unfoldings j = get_or unfoldings j no_unfolding
+
 -- the places of the first nodes
-unfoldable pub total_of : List ℕ → ℕ → ℕ
-total_of lengths zero = 0
-total_of lengths (suc j) = total_of lengths j + get_or lengths j 0
+unfoldable pub total_of : List Unfolding → ℕ → ℕ
+total_of unfoldings zero = 0
+total_of unfoldings (suc j) = total_of unfoldings j + (unfolding_at unfoldings j).length
 
 -- the rows of the first nodes
-unfoldable pub all_rows : List ℕ → List ℕ → List ℕ → List ℕ → List ℕ → ℕ → List ℕ
-all_rows lines firsts programs lengths words zero = []
-all_rows lines firsts programs lengths words (suc j) =
-    all_rows lines firsts programs lengths words j
-    ++ node_rows lines (links_in lines (get_or firsts (get_or programs j 0) 0)) j words (total_of lengths j) (get_or lengths j 0)
+unfoldable pub all_rows : List ℕ → List ℕ → List Unfolding → List ℕ → ℕ → List ℕ
+all_rows lines firsts unfoldings words zero = []
+all_rows lines firsts unfoldings words (suc j) =
+    let own = unfolding_at unfoldings j in
+    all_rows lines firsts unfoldings words j
+    ++ node_rows lines (links_in lines (get_or firsts own.program 0)) j words (total_of unfoldings j) own.length
 
 -- ---- all of it
 
-unfoldable pub rows_told : List ℕ → List ℕ → ℕ → Rows
-rows_told lines lengths n = record { programs = (begun_in lines).programs; nodes = n; places = total_of lengths n }
+unfoldable pub rows_told : List ℕ → List Unfolding → Rows
+rows_told lines unfoldings =
+    record { programs = (begun_in lines).programs; nodes = length unfoldings; places = total_of unfoldings (length unfoldings) }
 
-pub record FilledBy (lines programs lengths words : List ℕ) (n : ℕ) (before : List ℕ) (r : Result Rows Fault) (after : List ℕ) : Type 0 where
-  pub tells : r ≡ Ok (rows_told lines lengths n)
-  pub stands : after ≡ put_at before 0 (all_rows lines (begun_in lines).firsts programs lengths words n)
+pub record FilledBy (lines : List ℕ) (unfoldings : List Unfolding) (words before : List ℕ) (r : Result Rows Fault) (after : List ℕ) : Type 0 where
+  pub tells : r ≡ Ok (rows_told lines unfoldings)
+  pub stands : after ≡ put_at before 0 (all_rows lines (begun_in lines).firsts unfoldings words (length unfoldings))

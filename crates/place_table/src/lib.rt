@@ -13,7 +13,7 @@ use place_programs::programs_in;
 use place_row::{ROW_WORDS, ROWS, TABLE_WORDS};
 use refusal::Fault;
 use spec_text::Workload;
-use unfold::unfold_into;
+use unfold::{NO_UNFOLDING, Unfolding, unfold_into};
 use unfold_laws::{UNFOLDINGS, WORD_LINES};
 use value_given::is_given;
 use value_lines::line_table;
@@ -29,13 +29,10 @@ pub struct Rows {
     pub places: u64,
 }
 
-// What is told of the nodes: how many there are, each one's program and how many places it has, and the words of all places, one node after the
-// other.
+// What is told of the nodes: each one's unfolding, and the words of all places, one node after the other.
 #[derive(Clone, Copy)]
 struct Nodes<'a> {
-    count: usize,
-    programs: &'a [u8],
-    lengths: &'a [u64],
+    unfoldings: &'a [Unfolding],
     words: &'a [u64],
 }
 
@@ -93,36 +90,34 @@ fn put_places(node: Node, words: &[u64], start: usize, n: usize, table: &mut [u6
 // The rows of all nodes from the table's start on; answers how many.
 #[tactic(auto, using(crate::proofs::PutRowLaws::total_next, crate::proofs::PutRowLaws::all_room, crate::proofs::PutRowLaws::all_next))]
 fn put_nodes(lines: &[u64], firsts: &[u64], nodes: Nodes, table: &mut [u64]) -> usize
-    requires { total_of nodes.lengths.now nodes.count * 8 ≤ length table.old }
-    ensures { (table.new ≡ put_at table.old 0 (all_rows lines.now firsts.now nodes.entry.programs.now
-        nodes.entry.lengths.now nodes.entry.words.now nodes.entry.count)) × (result ≡ total_of nodes.entry.lengths.now nodes.entry.count) }
+    requires { total_of nodes.unfoldings.now (length nodes.unfoldings.now) * 8 ≤ length table.old }
+    ensures { (table.new ≡ put_at table.old 0 (all_rows lines.now firsts.now nodes.entry.unfoldings.now
+        nodes.entry.words.now (length nodes.entry.unfoldings.now)))
+        × (result ≡ total_of nodes.entry.unfoldings.now (length nodes.entry.unfoldings.now)) }
 {
     let mut at: usize = 0;
-    for j in 0..nodes.count {
-        let p = nodes.programs.get(j).copied().unwrap_or(0);
-        let first = word_at(firsts, p as usize);
+    for (j, own) in nodes.unfoldings.iter().enumerate() {
+        let first = word_at(firsts, own.program as usize);
         let node = Node {
             lines,
             links: links_from(lines, first as usize),
             number: j as u64,
         };
-        let places = word_at(nodes.lengths, j);
-        at = put_places(node, nodes.words, at, places as usize, table);
+        at = put_places(node, nodes.words, at, own.length as usize, table);
     }
     at
 }
 
 // The table of lines whose unfoldings are told, where it has room.
 fn fill_table(lines: &[u64], nodes: Nodes, table: &mut [u64]) -> Rows
-    requires { total_of nodes.lengths.now nodes.count * 8 ≤ length table.old }
-    ensures { FilledBy lines.now nodes.entry.programs.now nodes.entry.lengths.now nodes.entry.words.now nodes.entry.count
-        table.old (Ok result) table.new }
+    requires { total_of nodes.unfoldings.now (length nodes.unfoldings.now) * 8 ≤ length table.old }
+    ensures { FilledBy lines.now nodes.entry.unfoldings.now nodes.entry.words.now table.old (Ok result) table.new }
 {
     let b = programs_in(lines);
     let places = put_nodes(lines, &b.firsts, nodes, table);
     Rows {
         programs: b.programs as u64,
-        nodes: nodes.count as u64,
+        nodes: nodes.unfoldings.len() as u64,
         places: places as u64,
     }
 }
@@ -136,14 +131,10 @@ pub fn fill_lines(
 ) -> Result<Rows, Fault>
     ensures { LinesFilled lines.now places.old table.old result places.new table.new }
 {
-    let mut programs = [0u8; UNFOLDINGS];
-    let mut starts = [0u64; UNFOLDINGS];
-    let mut lengths = [0u64; UNFOLDINGS];
-    let count = unfold_into(lines, &mut programs, &mut starts, &mut lengths, places)?;
+    let mut unfoldings = [NO_UNFOLDING; UNFOLDINGS];
+    let count = unfold_into(lines, &mut unfoldings, places)?;
     let nodes = Nodes {
-        count: count as usize,
-        programs: &programs,
-        lengths: &lengths,
+        unfoldings: &unfoldings[..count as usize],
         words: places,
     };
     Ok(fill_table(lines, nodes, table))

@@ -3,7 +3,7 @@ use mathlib.Core.Bool.{Bool, true, false}
 use mathlib.Core.List.{List, [], ◌∷◌, ◌++◌}
 use mathlib.Core.Option.{none, some}
 use mathlib.Core.Path.{◌≡◌, refl, sym, ap, ◌∙◌}
-use Prim.Native.Nat.{ℕ, ◌+◌, ◌%◌, ◌≤◌}
+use Prim.Native.Nat.{ℕ, ◌+◌, ◌≤◌}
 use native.Mathlib.Omega.{arith}
 use lib.ListN.{length, get_or, drop, replicate, length-take}
 use Rattle.spec_base.specs.Basic.{numbers}
@@ -23,20 +23,21 @@ use Rattle.unfold_laws.specs.Seen.{mark_of}
 use Rattle.unfold_laws.specs.WritingLaws.{Tables}
 use Rattle.unfold_laws.specs.Pieces.{Piece, flat, totals_before}
 use Rattle.unfold_laws.specs.PiecesLaws.{PiecesFor, AlongPrograms, length_words, total_count, total_statements, all_pieces, over_alike}
-use Rattle.unfold_laws.specs.PiecesLaws.{length_pieces, flat_length, piece_programs, piece_lengths}
+use Rattle.unfold_laws.specs.PiecesLaws.{length_pieces, flat_length}
 use Rattle.unfold_laws.specs.Along.{OwnHere}
 use Rattle.unfold_laws.specs.Places.{place_words}
 use Rattle.unfold_laws.specs.PlacesLaws.{IdWord, no_mark, AnyLines, any_along, id_words, OwnWord, own_tables, flat_own}
 use Rattle.unfold.specs.declared.Unfolded.{Unfolded}
-use Rattle.unfold.specs.UnfoldTold.{place_ids, ids_in, starts_in, nodes_told}
-use Rattle.unfold.specs.PieceTable.{starts, table}
+use Rattle.unfold.specs.declared.Unfolding.{Unfolding}
+use Rattle.unfold.specs.UnfoldTold.{place_ids, ids_in, no_unfolding, unfoldings_in, nodes_told}
+use Rattle.unfold.specs.PieceTable.{unfoldings_from, table}
 use Rattle.unfold.specs.UnfoldSteps.{table_told, over_many, is_too_short, pieces_over, Ready, Tabled, ValueTabled}
 use Rattle.unfold.specs.UnfoldSteps.ValueTabled.{value_refused, value_tabled}
 use Rattle.unfold.specs.UnfoldSettled.{Settled, PlacesSettled}
 use Rattle.unfold.specs.OwnLaws.{own_along}
 use Rattle.unfold.specs.Stand.{few_nodes}
 use Rattle.unfold.specs.LineWords.{words_by, marks_by}
-use Rattle.unfold.specs.UnfoldLines.{LinesSettled, LinePlacesSettled, LastSettled}
+use Rattle.unfold.specs.UnfoldLines.{LinesSettled, LinePlacesSettled, last_of, LastSettled}
 use Rattle.std.specs.Prelude.{Result, Ok, Err}
 use Rattle.refusal.specs.declared.Fault.{Fault}
 use Rattle.refusal.specs.declared.Fault.TheVariants.{Area, NotGiven, Unfoldings}
@@ -75,26 +76,20 @@ module _ (Full : List ℕ → Type 0) (w : Workload) (before : List ℕ) where
         unfolded = λ u p. let same : u ≡ nodes_told (nodes_of (lines_of w)) = cc in (same, full);
       })
 
--- where each piece starts, and the table of the nodes' pieces
+-- the table of the nodes' pieces
 module _ (Word : ℕ → Statement → ℕ → Type 0) (mark : Statement → ℕ) where
-  starts_nodes : (s : ℕ) (nodes : List Node) (pieces : List Piece) → PiecesFor Word mark nodes pieces → starts s pieces ≡ starts_in s nodes
-  unfolding PiecesFor starts starts_in
-  starts_nodes s [] [] h = refl
-  starts_nodes s [] (p ∷ pieces) h = absurd h
-  starts_nodes s (n ∷ nodes) [] h = absurd h
-  starts_nodes s (n ∷ nodes) (p ∷ pieces) h =
-      ap (λ (l : List ℕ). s ∷ l) (rw (length_words Word mark n p h.0) (starts_nodes (s + length n.places) nodes pieces h.1))
+  unfoldings_nodes : (s : ℕ) (nodes : List Node) (pieces : List Piece) → PiecesFor Word mark nodes pieces
+      → unfoldings_from s pieces ≡ unfoldings_in s nodes
+  unfolding PiecesFor unfoldings_from unfoldings_in
+  unfoldings_nodes s [] [] h = refl
+  unfoldings_nodes s [] (p ∷ pieces) h = absurd h
+  unfoldings_nodes s (n ∷ nodes) [] h = absurd h
+  unfoldings_nodes s (n ∷ nodes) (p ∷ pieces) h =
+      rw (h.0.program, length_words Word mark n p h.0, unfoldings_nodes (s + length n.places) nodes pieces h.1)
 
   table_nodes : (nodes : List Node) (pieces : List Piece) → PiecesFor Word mark nodes pieces → table_told (table pieces) ≡ nodes_told nodes
   unfolding table_told table nodes_told
-  table_nodes nodes pieces h =
-      rw (
-        length_pieces Word mark nodes pieces h,
-        starts_nodes 0 nodes pieces h,
-        piece_programs Word mark nodes pieces h,
-        piece_lengths Word
-            mark nodes pieces h,
-      )
+  table_nodes nodes pieces h = rw (length_pieces Word mark nodes pieces h, unfoldings_nodes 0 nodes pieces h)
 
 -- the lines count as many nodes and statements as they have
 module _ (lines : List Line) where
@@ -103,7 +98,8 @@ module _ (lines : List Line) where
   over_nodes =
       rw (length_codes lines, over_alike _ _ 64 (omega arith) (total_count lines), over_alike _ _ 512 (omega arith) (total_statements lines))
 
-  exact_statements : is_too_many lines ≡ false → (totals_before (codes_of lines) (length (codes_of lines))).statements ≡ statements_in (nodes_of lines)
+  exact_statements : is_too_many lines ≡ false
+      → (totals_before (codes_of lines) (length (codes_of lines))).statements ≡ statements_in (nodes_of lines)
   unfolding cap
   exact_statements h = rw (length_codes lines) (omega (arith, (total_statements lines).same, (few_nodes lines h).1))
 
@@ -127,7 +123,8 @@ module _ (P : ℕ → List Line → Type 0) (Word : ℕ → Statement → ℕ �
     (before : List ℕ) (Full : List ℕ → Type 0)
     (full : (pieces : List Piece) → PiecesFor Word mark (nodes_of (lines_of w)) pieces → Full
     (flat pieces ++ drop (length (flat pieces)) before)) where
-  settled_tables : (r : Result Unfolded Fault) (area : List ℕ) → Tabled (codes_of (lines_of w)) words marks before r area → SettledAs Full w before r area
+  settled_tables : (r : Result Unfolded Fault) (area : List ℕ) → Tabled (codes_of (lines_of w)) words marks before r area
+      → SettledAs Full w before r area
   unfolding is_too_short short_for_unfoldings
   settled_tables r area u = go (is_too_many (lines_of w)) refl (short_for_unfoldings (lines_of w) (length before)) refl
     where
@@ -137,10 +134,12 @@ module _ (P : ℕ → List Line → Type 0) (Word : ℕ → Statement → ℕ �
       over : over_many (codes_of (lines_of w)) ≡ is_too_many (lines_of w)
       over = over_nodes (lines_of w)
 
-      short : is_too_many (lines_of w) ≡ false → is_too_short (codes_of (lines_of w)) (length before) ≡ short_for_unfoldings (lines_of w) (length before)
+      short : is_too_many (lines_of w) ≡ false
+          → is_too_short (codes_of (lines_of w)) (length before) ≡ short_for_unfoldings (lines_of w) (length before)
       short h = rw (exact_statements (lines_of w) h)
 
-      go : (a : Bool) → is_too_many (lines_of w) ≡ a → (b : Bool) → short_for_unfoldings (lines_of w) (length before) ≡ b → SettledAs Full w before r area
+      go : (a : Bool) → is_too_many (lines_of w) ≡ a → (b : Bool) → short_for_unfoldings (lines_of w) (length before) ≡ b
+          → SettledAs Full w before r area
       go true p b q = settled_refused Full w before r area Unfoldings (too_many g p) (u.tells ∙ rw (over, p)) (u.stands ∙ rw (over, p))
       go false p true q =
           settled_refused Full w before r area Area (too_short g p q) (u.tells ∙ rw (over, p, short p, q)) (u.stands ∙ rw (over, p, short p, q))
@@ -149,7 +148,8 @@ module _ (P : ℕ → List Line → Type 0) (Word : ℕ → Statement → ℕ �
           let for = pieces_for P Word mark (lines_of w) words marks fit along p in
           let written : area ≡ flat pieces ++ drop (length (flat pieces)) before = u.stands ∙ rw (over, p, short p, q) in
           settled_taken Full w before r area (taken g p q)
-          (u.tells ∙ rw (over, p, short p, q) (ap (λ (t : Unfolded). Ok t) (table_nodes Word mark (nodes_of (lines_of w)) pieces for))) (rw written (full pieces for))
+          (u.tells ∙ rw (over, p, short p, q) (ap (λ (t : Unfolded). Ok t) (table_nodes Word mark (nodes_of (lines_of w)) pieces for)))
+          (rw written (full pieces for))
 
 -- a workload value that no text gives
 not_given_ids : (w : Workload) (before : List ℕ) → (Given w → ⊥) → Settled w before (Err NotGiven) before
@@ -261,15 +261,10 @@ module _ {w : Workload} {before area : List ℕ} {r : Result Unfolded Fault} whe
   value_places (value_refused never e kept) = rw (e, kept) (not_given_places w before never)
   value_places (value_tabled g words e t) = settled_places w g words e before r area t
 
--- the last row that is told, over cells of zeros
-module _ {words before area program start lengths : List ℕ} {r : Result ℕ Fault}
-    (i : Into (λ u. Tabled (table_codes words) (table_ids words) [] before u area) (replicate 64 0) (replicate 64 0) (replicate 64 0) r
-    program start lengths) where
-  pub last_settled : {n : ℕ} → r ≡ Ok n → LastSettled words before (Ok (record {
-    count = n;
-    start = get_or start ((n % 64 + 63) % 64) 0;
-    length = get_or lengths ((n % 64 + 63) % 64) 0;
-  })) area
+-- the last unfolding that is told, over cells of zeros
+module _ {words before area : List ℕ} {unfoldings : List Unfolding} {r : Result ℕ Fault}
+    (i : Into (λ u. Tabled (table_codes words) (table_ids words) [] before u area) (replicate 64 no_unfolding) r unfoldings) where
+  pub last_settled : {n : ℕ} → r ≡ Ok n → LastSettled words before (Ok (last_of (record { count = n; unfoldings = unfoldings }))) area
   last_settled {n} e = let t = into_value i e in record { unfolded = _; settled = settled_lines _ _ _ _ t; last = refl }
 
   pub last_refused : {f : Fault} → r ≡ Err f → LastSettled words before (Err f) area

@@ -2,6 +2,7 @@ pub mod Laid
 pub mod LineWords
 pub mod Written
 pub mod UnfoldTold
+pub mod UnfoldToldLaws
 pub mod PieceTable
 pub mod PieceTableLaws
 pub mod UnfoldSteps

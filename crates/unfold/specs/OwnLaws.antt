@@ -1,5 +1,6 @@
 -- In an accepted workload the run of a program is read off the own lines of its statements.
-use Rattle.std.specs.Prelude.{Bool, true, false, cond, ◌&&◌, List, [], ◌∷◌, ◌++◌, ◌≡◌, refl, ℕ, zero, suc, ◌+◌, ◌-◌, eqb, leb, length, get_or, take, drop}
+use Rattle.std.specs.Prelude.{Bool, true, false, cond, ◌&&◌, List, [], ◌∷◌, ◌++◌, ◌≡◌, refl}
+use Rattle.std.specs.Prelude.{ℕ, zero, suc, ◌+◌, ◌-◌, eqb, leb, length, get_or, take, drop}
 use Rattle.std.proofs.lemmas.Bool.{false≢true}
 use Rattle.std.proofs.Common.{sym, ap, ◌∙◌, add-one, arith, length-append, length-drop, take-append-drop, eq-eqb, ne_eqb, leb-true, leb-false}
 use Rattle.std.proofs.Math.ListN.{get_or-eq_default}
@@ -124,5 +125,6 @@ module _ (text : List ℕ) (lines : List Line) (taken : read text ≡ accepted l
   -- along the run of each program its statements stand on their own lines
   pub own_along : AlongPrograms (OwnHere lines) lines
   own_along i begins =
-      body_along (drop (i + 1) lines) (OwnHere lines (programs_before (codes_of lines) i)) (own_here lines i begins) (length (codes_of lines) - (i + 1))
+      body_along (drop (i + 1) lines) (OwnHere lines (programs_before (codes_of lines) i)) (own_here lines i begins)
+      (length (codes_of lines) - (i + 1))
       (omega (arith, length-drop (i + 1) lines, length_codes lines)) (body_there i begins)

@@ -1,21 +1,18 @@
 -- The table of what is written: each piece's program, start and length.
-use Rattle.std.specs.Prelude.{List, [], ◌∷◌, ◌++◌, map, ◌≡◌, ℕ, ◌+◌, length, set, drop}
+use Rattle.std.specs.Prelude.{List, [], ◌∷◌, ◌++◌, ◌≡◌, ℕ, ◌+◌, length, set, drop}
 use Rattle.unfold_laws.specs.Pieces.{Piece, flat}
-use Rattle.unfold.specs.UnfoldTold.{cells}
+use Rattle.unfold.specs.declared.Unfolding.{Unfolding}
+use Rattle.unfold.specs.UnfoldTold.{unfolding_cells}
 
--- how many rows, how many places they take, and of each row its program, start and length
+-- how many rows, how many places they take, and the cells of the rows: each one's program, start and length
 pub record UnfoldingTable : Type 0 where
   pub count : ℕ
   pub used : ℕ
-  pub program : List ℕ
-  pub start : List ℕ
-  pub lengths : List ℕ
+  pub unfoldings : List Unfolding
 
 -- with room for 64 rows
 pub record Wide (t : UnfoldingTable) : Type 0 where
-  pub programs : length t.program ≡ 64
-  pub starts : length t.start ≡ 64
-  pub lengths : length t.lengths ≡ 64
+  pub cells : length t.unfoldings ≡ 64
 
 -- one row more
 unfoldable pub added : UnfoldingTable → ℕ → ℕ → UnfoldingTable
@@ -23,9 +20,7 @@ added t program n =
     record {
       count = t.count + 1;
       used = t.used + n;
-      program = set t.program t.count program;
-      start = set t.start t.count t.used;
-      lengths = set t.lengths t.count n;
+      unfoldings = set t.unfoldings t.count (record { program = program; start = t.used; length = n });
     }
 
 unfoldable pub add_all : UnfoldingTable → List Piece → UnfoldingTable
@@ -37,31 +32,24 @@ unfoldable pub starts : ℕ → List Piece → List ℕ
 starts s [] = []
 starts s (p ∷ ps) = s ∷ starts (s + length p.words) ps
 
+-- what is told of each piece
+unfoldable pub unfoldings_from : ℕ → List Piece → List Unfolding
+unfoldings_from s [] = []
+unfoldings_from s (p ∷ ps) =
+    record { program = p.program; start = s; length = length p.words } ∷ unfoldings_from (s + length p.words) ps
+
 unfoldable pub table : List Piece → UnfoldingTable
-table ps =
-    record {
-      count = length ps;
-      used = length (flat ps);
-      program = cells (map (λ p. p.program) ps);
-      start = cells (starts 0 ps);
-      lengths = cells (map (λ p. length p.words) ps);
-    }
+table ps = record { count = length ps; used = length (flat ps); unfoldings = unfolding_cells (unfoldings_from 0 ps) }
 
 -- the table with no rows
-abbrev pub table_none : List ℕ → List ℕ → List ℕ → UnfoldingTable
-table_none program start lengths = record { count = 0; used = 0; program = program; start = start; lengths = lengths }
+abbrev pub table_none : List Unfolding → UnfoldingTable
+table_none unfoldings = record { count = 0; used = 0; unfoldings = unfoldings }
 
--- numbers over cells from the first on; past them the cells are as they were
-unfoldable pub over : List ℕ → List ℕ → List ℕ
+-- a list over cells from the first on; past it the cells are as they were
+unfoldable pub over : {A : Type 0} → List A → List A → List A
 over l before = l ++ drop (length l) before
 
 -- the same table over cells that held something before
 unfoldable pub table_over : UnfoldingTable → List Piece → UnfoldingTable
 table_over t ps =
-    record {
-      count = length ps;
-      used = length (flat ps);
-      program = over (map (λ p. p.program) ps) t.program;
-      start = over (starts 0 ps) t.start;
-      lengths = over (map (λ p. length p.words) ps) t.lengths;
-    }
+    record { count = length ps; used = length (flat ps); unfoldings = over (unfoldings_from 0 ps) t.unfoldings }

@@ -1,22 +1,18 @@
 -- Rows that are added one by one make the table of all pieces.
 use Rattle.std.specs.Prelude.{List, [], ◌∷◌, ◌++◌, map, ◌≡◌, refl, ℕ, suc, ◌+◌, ◌-◌, ◌<◌, ◌≤◌, length, set, replicate}
 use Rattle.std.proofs.Common.{append_assoc, append-nil, sym, ap, ◌∙◌, zero-add, add-zero, arith, length-append, length-set}
-use Rattle.std.proofs.lemmas.List.{map-append, length-map}
 use Rattle.std.proofs.Math.Seq.{set-append_seam}
 use Rattle.unfold.specs.PieceTable.{UnfoldingTable}
+use Rattle.unfold.specs.declared.Unfolding.{Unfolding}
 use Rattle.unfold_laws.specs.Pieces.{Piece, flat}
 use Rattle.unfold.specs.UnfoldTold.{cells}
-use Rattle.unfold.specs.PieceTable.{Wide, added, add_all, starts, over, table_over}
+use Rattle.unfold.specs.PieceTable.{Wide, added, add_all, starts, unfoldings_from, over, table_over}
 
 -- a table keeps its room
 pub wide_added : (t : UnfoldingTable) (program n : ℕ) → Wide t → Wide (added t program n)
 unfolding added
 wide_added t program n h =
-    record {
-      programs = length-set t.program t.count program ∙ h.programs;
-      starts = length-set t.start t.count t.used ∙ h.starts;
-      lengths = length-set t.lengths t.count n ∙ h.lengths;
-    }
+    record { cells = length-set t.unfoldings t.count (record { program = program; start = t.used; length = n }) ∙ h.cells }
 
 pub wide_all : (t : UnfoldingTable) (ps : List Piece) → Wide t → Wide (add_all t ps)
 unfolding add_all
@@ -42,24 +38,40 @@ cell_set l x n e h =
     let two : 64 - length (l ++ (x ∷ [])) ≡ 63 - n = omega (arith, length-append l (x ∷ [])) in
     rw (one, two, ← e) (set-append_seam l 0 (replicate (63 - length l) 0) x ∙ sym (append_assoc l (x ∷ []) (replicate (63 - length l) 0)))
 
-over_set : (l before : List ℕ) (x n : ℕ) → length l ≡ n → n < length before → set (over l before) n x ≡ over (l ++ (x ∷ [])) before
+over_set : {A : Type 0} (l before : List A) (x : A) (n : ℕ) → length l ≡ n → n < length before → set (over l before) n x ≡ over (l ++ (x ∷ [])) before
 unfolding over
 over_set [] [] x n e h = absurd (omega arith)
 over_set [] (y ∷ before) x n e h = rw (← e) refl
 over_set (k ∷ l) [] x n e h = absurd (omega arith)
-over_set (k ∷ l) (y ∷ before) x n e h = rw (← e) (ap (λ (r : List ℕ). k ∷ r) (over_set l before x (length l) refl (omega arith)))
-
-starts_append : (s : ℕ) (ps : List Piece) (p : Piece) → starts s (ps ++ (p ∷ [])) ≡ starts s ps ++ ((s + length (flat ps)) ∷ [])
-unfolding starts flat
-starts_append s [] p = ap (λ (n : ℕ). n ∷ []) (sym (add-zero s))
-starts_append s (q ∷ ps) p =
-    ap (λ (l : List ℕ). s ∷ l) (starts_append (s + length q.words) ps p
-    ∙ ap (λ (n : ℕ). starts (s + length q.words) ps ++ (n ∷ [])) (omega (arith, length-append q.words (flat ps))))
+over_set {A} (k ∷ l) (y ∷ before) x n e h = rw (← e) (ap (λ (r : List A). k ∷ r) (over_set l before x (length l) refl (omega arith)))
 
 pub length_starts : (s : ℕ) (ps : List Piece) → length (starts s ps) ≡ length ps
 unfolding starts
 length_starts s [] = refl
 length_starts s (p ∷ ps) = ap suc (length_starts (s + length p.words) ps)
+
+-- what is told of the pieces: one cell for each, the starts among them
+pub length_unfoldings : (s : ℕ) (ps : List Piece) → length (unfoldings_from s ps) ≡ length ps
+unfolding unfoldings_from
+length_unfoldings s [] = refl
+length_unfoldings s (p ∷ ps) = ap suc (length_unfoldings (s + length p.words) ps)
+
+pub starts_from : (s : ℕ) (ps : List Piece) → map (λ (u : Unfolding). u.start) (unfoldings_from s ps) ≡ starts s ps
+unfolding unfoldings_from starts
+starts_from s [] = refl
+starts_from s (p ∷ ps) = ap (λ (l : List ℕ). s ∷ l) (starts_from (s + length p.words) ps)
+
+-- the cell of a piece that starts at a place
+abbrev cell_at : ℕ → Piece → Unfolding
+cell_at s p = record { program = p.program; start = s; length = length p.words }
+
+unfoldings_append : (s : ℕ) (ps : List Piece) (p : Piece)
+    → unfoldings_from s (ps ++ (p ∷ [])) ≡ unfoldings_from s ps ++ (cell_at (s + length (flat ps)) p ∷ [])
+unfolding unfoldings_from flat
+unfoldings_append s [] p = ap (λ (n : ℕ). cell_at n p ∷ []) (sym (add-zero s))
+unfoldings_append s (q ∷ ps) p =
+    ap (λ (l : List Unfolding). cell_at s q ∷ l) (unfoldings_append (s + length q.words) ps p
+    ∙ ap (λ (n : ℕ). unfoldings_from (s + length q.words) ps ++ (cell_at n p ∷ [])) (omega (arith, length-append q.words (flat ps))))
 
 flat_one : (p : Piece) → length (flat (p ∷ [])) ≡ length p.words
 unfolding flat
@@ -72,20 +84,12 @@ row_added t wide ps p h =
     let many : length ps + 1 ≡ length (ps ++ (p ∷ [])) = sym (length-append ps (p ∷ [])) in
     let places : length (flat ps) + length p.words ≡ length (flat (ps ++ (p ∷ []))) =
     sym (ap length (flat_append ps (p ∷ [])) ∙ length-append (flat ps) (flat (p ∷ [])) ∙ ap (λ (n : ℕ). length (flat ps) + n) (flat_one p)) in
-    let programs : set (over (map (λ q. q.program) ps) t.program) (length ps) p.program
-    ≡ over (map (λ q. q.program) (ps ++ (p ∷ []))) t.program =
-    over_set (map (λ q. q.program) ps) t.program p.program (length ps) (length-map ps (λ q. q.program)) (omega (arith, wide.programs))
-    ∙ ap (λ (l : List ℕ). over l t.program) (sym (map-append (λ q. q.program) ps (p ∷ []))) in
-    let lengths : set (over (map (λ q. length q.words) ps) t.lengths) (length ps) (length p.words)
-    ≡ over (map (λ q. length q.words) (ps ++ (p ∷ []))) t.lengths =
-    over_set (map (λ q. length q.words) ps) t.lengths (length p.words) (length ps) (length-map ps (λ q. length q.words))
-    (omega (arith, wide.lengths))
-    ∙ ap (λ (l : List ℕ). over l t.lengths) (sym (map-append (λ q. length q.words) ps (p ∷ []))) in
-    let begin : set (over (starts 0 ps) t.start) (length ps) (length (flat ps)) ≡ over (starts 0 (ps ++ (p ∷ []))) t.start =
-    over_set (starts 0 ps) t.start (length (flat ps)) (length ps) (length_starts 0 ps) (omega (arith, wide.starts))
-    ∙ ap (λ (l : List ℕ). over l t.start) (ap (λ (n : ℕ). starts 0 ps ++ (n ∷ [])) (sym (zero-add (length (flat ps)))) ∙ sym
-    (starts_append 0 ps p)) in
-    rw (many, places, programs, lengths, begin)
+    let cells : set (over (unfoldings_from 0 ps) t.unfoldings) (length ps) (cell_at (length (flat ps)) p)
+    ≡ over (unfoldings_from 0 (ps ++ (p ∷ []))) t.unfoldings =
+    over_set (unfoldings_from 0 ps) t.unfoldings (cell_at (length (flat ps)) p) (length ps) (length_unfoldings 0 ps) (omega (arith, wide.cells))
+    ∙ ap (λ (l : List Unfolding). over l t.unfoldings)
+    (ap (λ (n : ℕ). unfoldings_from 0 ps ++ (cell_at n p ∷ [])) (sym (zero-add (length (flat ps)))) ∙ sym (unfoldings_append 0 ps p)) in
+    rw (many, places, cells)
 
 rows_added : (t : UnfoldingTable) → Wide t → (ps qs : List Piece) → length ps + length qs ≤ 64
     → add_all (table_over t ps) qs ≡ table_over t (ps ++ qs)
@@ -97,10 +101,10 @@ rows_added t wide ps (q ∷ qs) h =
 
 -- from a table with no rows on
 pub from_nothing : (t : UnfoldingTable) → Wide t → t.count ≡ 0 → t.used ≡ 0 → (ps : List Piece) → length ps ≤ 64 → add_all t ps ≡ table_over t ps
-unfolding table_over over flat starts
+unfolding table_over over flat unfoldings_from
 from_nothing t wide none unused ps h =
     ap (λ (x : UnfoldingTable). add_all x ps) (empty t.count t.used none unused) ∙ rows_added t wide [] ps (omega (arith, zero-add (length ps)))
   where
     empty : (c u : ℕ) → c ≡ 0 → u ≡ 0
-        → record { count = c; used = u; program = t.program; start = t.start; lengths = t.lengths } ≡ table_over t []
+        → record { count = c; used = u; unfoldings = t.unfoldings } ≡ table_over t []
     empty c u e d = rw (e, d) refl

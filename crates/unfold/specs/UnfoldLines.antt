@@ -8,6 +8,7 @@ use Rattle.spec_text.specs.Value.{Given, value_of}
 use Rattle.value_tables.specs.Lines.{line_table, lines_in, table_codes, table_ids, table_marks}
 use Rattle.unfold.specs.declared.LastTold.{LastTold}
 use Rattle.unfold.specs.declared.Unfolded.{Unfolded}
+use Rattle.unfold.specs.UnfoldTold.{no_unfolding}
 use Rattle.unfold.specs.UnfoldSteps.{Tabled}
 use Rattle.unfold.specs.UnfoldSettled.{Settled, PlacesSettled}
 
@@ -21,14 +22,11 @@ pub record LinePlacesSettled (words before : List ℕ) (r : Result Unfolded Faul
   pub tabled : Tabled (table_codes words) (numbers (lines_in words)) (table_marks words) before r area
   pub settled : (lines : List Line) → words ≡ line_table lines → Given (value_of lines) → PlacesSettled (value_of lines) before r area
 
--- the last row alone: row 63 where there is none
+-- the last unfolding alone: the last cell where there is none
 abbrev pub last_of : Unfolded → LastTold
 last_of u =
-    record {
-      count = u.count;
-      start = get_or u.start ((u.count % 64 + 63) % 64) 0;
-      length = get_or u.length ((u.count % 64 + 63) % 64) 0;
-    }
+    let last = get_or u.unfoldings ((u.count % 64 + 63) % 64) no_unfolding in
+    record { count = u.count; start = last.start; length = last.length }
 
 abbrev pub last_in : Result Unfolded Fault → Result LastTold Fault
 last_in (Ok u) = Ok (last_of u)

@@ -12,7 +12,7 @@ use Rattle.unfold.specs.PieceTable.{UnfoldingTable, table}
 
 -- a table told
 unfoldable pub table_told : UnfoldingTable → Unfolded
-table_told f = record { count = f.count; program = f.program; start = f.start; length = f.lengths }
+table_told f = record { count = f.count; unfoldings = f.unfoldings }
 
 -- over the lines' numbers: S22, S20, and the pieces that are written
 unfoldable pub over_many : List ℕ → Bool

@@ -3,11 +3,12 @@ use Rattle.std.specs.Prelude.{List, ◌++◌, ◌≡◌, ℕ, ◌+◌, ◌≤◌
 use Rattle.unfold.specs.PieceTable.{UnfoldingTable}
 use Rattle.unfold_laws.specs.Pieces.{Piece, flat}
 use Rattle.unfold.specs.PieceTable.{Wide, add_all}
+use Rattle.unfold.specs.declared.Unfolding.{Unfolding}
 use Rattle.unfold.specs.declared.Used.{Used}
 
--- the table whose parts are lent apart
-abbrev pub table_at : Used → List ℕ → List ℕ → List ℕ → UnfoldingTable
-table_at t program start lengths = record { count = t.count; used = t.used; program = program; start = start; lengths = lengths }
+-- the table whose cells are lent
+abbrev pub table_at : Used → List Unfolding → UnfoldingTable
+table_at t unfoldings = record { count = t.count; used = t.used; unfoldings = unfoldings }
 
 -- numbers stand at the start of an area, which is otherwise as it was; the result is how many
 pub record Wrote (written before : List ℕ) (r : ℕ) (area : List ℕ) : Type 0 where

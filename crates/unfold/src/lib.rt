@@ -30,16 +30,29 @@ use value_tables::{LINE_WORDS, code_at, id_at, lines_in, mark_at};
 // So many lines have their counts in few words.
 const FEW_LINES: usize = 48;
 
-// The unfoldings of a workload: how many there are, with each one's program, start and length.
+// An unfolding: its program, where it starts in the area, and how many places it has.
+#[derive(Clone, Copy, Debug, PartialEq, Eq)]
+pub struct Unfolding {
+    pub program: u8,
+    pub start: u64,
+    pub length: u64,
+}
+
+// What a cell holds in which no unfolding stands.
+pub const NO_UNFOLDING: Unfolding = Unfolding {
+    program: 0,
+    start: 0,
+    length: 0,
+};
+
+// The unfoldings of a workload: how many there are, and each one, in the first cells.
 #[derive(Clone, Copy)]
 pub struct Unfolded {
     pub count: u64,
-    pub program: [u8; UNFOLDINGS],
-    pub start: [u64; UNFOLDINGS],
-    pub length: [u64; UNFOLDINGS],
+    pub unfoldings: [Unfolding; UNFOLDINGS],
 }
 
-// How many unfoldings there are, and the last one's start and length: of none, those of row 63.
+// How many unfoldings there are, and the last one's start and length: of none, those of the last cell.
 #[derive(Clone, Copy)]
 pub struct LastTold {
     pub count: u64,
@@ -264,7 +277,7 @@ fn write_turn(source: &Source, seen: u32, at: usize, left: usize, k: u64, out: &
 }
 
 // Writes the unfoldings k to n - 1 of the run at a place one after the other, the rest of the area lent on each time, and tells each.
-// A recursion and no loop: the rest of the area is lent on (docs/RULES.md, L1). The cells are three arrays, as they are lent to `unfold_into`.
+// A recursion and no loop: the rest of the area is lent on (docs/RULES.md, L1).
 fn write_rows(
     source: &Source,
     at: usize,
@@ -273,27 +286,27 @@ fn write_rows(
     n: u64,
     number: u8,
     t: Used,
-    programs: &mut [u8],
-    starts: &mut [u64],
-    lengths: &mut [u64],
+    unfoldings: &mut [Unfolding],
     area: &mut [u64],
 ) -> Used
     requires known { Known (codes_in source.now) source.now.counts.now at left }
     requires rows { Rows (tabulate (row number (codes_in source.now) (words_in source.now) (marks_in source.now) at left) k (n - k))
-        (table_at t programs.old starts.old lengths.old) area.old }
+        (table_at t unfoldings.old) area.old }
     ensures { Rowed (tabulate (row number (codes_in source.now) (words_in source.now)
         (marks_in source.now) at left) k (n - k))
-        (table_at t programs.old starts.old lengths.old) area.old
-        (table_at result programs.new starts.new lengths.new) area.new }
+        (table_at t unfoldings.old) area.old
+        (table_at result unfoldings.new) area.new }
 {
     if n <= k {
         return t;
     }
     let m = write_run(source, 0, at, left, k, area);
     let j = t.count;
-    programs[j] = number;
-    starts[j] = t.used as u64;
-    lengths[j] = m as u64;
+    unfoldings[j] = Unfolding {
+        program: number,
+        start: t.used as u64,
+        length: m as u64,
+    };
     let u = Used {
         count: j + 1,
         used: t.used + m,
@@ -306,9 +319,7 @@ fn write_rows(
         n,
         number,
         u,
-        programs,
-        starts,
-        lengths,
+        unfoldings,
         &mut area[m..],
     )
 }
@@ -319,18 +330,16 @@ fn write_line(
     i: usize,
     number: u8,
     t: Used,
-    programs: &mut [u8],
-    starts: &mut [u64],
-    lengths: &mut [u64],
+    unfoldings: &mut [Unfolding],
     area: &mut [u64],
 ) -> Used
     requires i_in_bounds { (i < length (codes_in source.now)) × Held (codes_in source.now) source.now.counts.now 0 }
     requires line_fits { LineFits (line_pieces (codes_in source.now) (words_in source.now) (marks_in source.now) i number)
-        (table_at t programs.old starts.old lengths.old) area.old }
+        (table_at t unfoldings.old) area.old }
     ensures { Lined (line_pieces (codes_in source.now) (words_in source.now)
         (marks_in source.now) i number)
-        (table_at t programs.old starts.old lengths.old) area.old
-        (table_at result programs.new starts.new lengths.new) area.new }
+        (table_at t unfoldings.old) area.old
+        (table_at result unfoldings.new) area.new }
 {
     match code_at(source.lines, i) {
         LineCode::Program => {}
@@ -347,9 +356,7 @@ fn write_line(
         c.count,
         number,
         t,
-        programs,
-        starts,
-        lengths,
+        unfoldings,
         &mut area[used..],
     )
 }
@@ -366,26 +373,20 @@ fn next_program(lines: &[u64], i: usize, number: u8) -> u8
 }
 
 // Writes the unfoldings of all programs one after the other from the area's start, and tells each.
-fn write_all(
-    source: &Source,
-    programs: &mut [u8],
-    starts: &mut [u64],
-    lengths: &mut [u64],
-    area: &mut [u64],
-) -> Used
+fn write_all(source: &Source, unfoldings: &mut [Unfolding], area: &mut [u64]) -> Used
     requires held { Held (codes_in source.now) source.now.counts.now 0 }
     requires all_fit { AllFit (pieces_before (codes_in source.now) (words_in source.now) (marks_in source.now)
         (length (codes_in source.now))) area.old }
-    requires wide { Wide (table_none programs.old starts.old lengths.old) }
+    requires wide { Wide (table_none unfoldings.old) }
     ensures { AllTold (pieces_before (codes_in source.now) (words_in source.now)
         (marks_in source.now) (length (codes_in source.now)))
-        (table_none programs.old starts.old lengths.old) area.old
-        (table_at result programs.new starts.new lengths.new) area.new }
+        (table_none unfoldings.old) area.old
+        (table_at result unfoldings.new) area.new }
 {
     let mut t = Used { count: 0, used: 0 };
     let mut number: u8 = 0;
     for i in 0..lines_in(source.lines) {
-        t = write_line(source, i, number, t, programs, starts, lengths, area);
+        t = write_line(source, i, number, t, unfoldings, area);
         number = next_program(source.lines, i, number);
     }
     t
@@ -396,16 +397,14 @@ fn unfold_counted(
     lines: &[u64],
     counts: &mut [u32],
     ids: bool,
-    programs: &mut [u8],
-    starts: &mut [u64],
-    lengths: &mut [u64],
+    unfoldings: &mut [Unfolding],
     area: &mut [u64],
 ) -> Result<u64, Fault>
     requires countable { Countable (table_codes lines.now) counts.old }
-    requires wide { Wide (table_none programs.old starts.old lengths.old) }
+    requires wide { Wide (table_none unfoldings.old) }
     ensures { Into (λ u. Tabled (table_codes lines.now) (words_by ids lines.now) (marks_by ids lines.now)
-        area.old u area.new) programs.old starts.old lengths.old result
-        programs.new starts.new lengths.new }
+        area.old u area.new) unfoldings.old result
+        unfoldings.new }
 {
     let t = measure(lines, counts);
     if let Some(fault) = totals_refused(t, area.len() as u64) {
@@ -416,7 +415,7 @@ fn unfold_counted(
         counts: &*counts,
         ids,
     };
-    let all = write_all(&source, programs, starts, lengths, area);
+    let all = write_all(&source, unfoldings, area);
     Ok(all.count as u64)
 }
 
@@ -434,39 +433,35 @@ fn words_for(n: usize) -> usize
 fn unfold_told(
     lines: &[u64],
     ids: bool,
-    programs: &mut [u8],
-    starts: &mut [u64],
-    lengths: &mut [u64],
+    unfoldings: &mut [Unfolding],
     area: &mut [u64],
 ) -> Result<u64, Fault>
-    requires { Wide (table_none programs.old starts.old lengths.old) }
+    requires { Wide (table_none unfoldings.old) }
     ensures { Into (λ u. Tabled (table_codes lines.now) (words_by ids lines.now) (marks_by ids lines.now)
-        area.old u area.new) programs.old starts.old lengths.old result
-        programs.new starts.new lengths.new }
+        area.old u area.new) unfoldings.old result
+        unfoldings.new }
 {
     let n = lines_in(lines);
     if FEW_LINES < n {
         let mut many = [0u32; CELLS];
         let m = words_for(n);
-        return unfold_counted(lines, &mut many[..m], ids, programs, starts, lengths, area);
+        return unfold_counted(lines, &mut many[..m], ids, unfoldings, area);
     }
     let mut few = [0u32; FEW_LINES];
-    unfold_counted(lines, &mut few[..n], ids, programs, starts, lengths, area)
+    unfold_counted(lines, &mut few[..n], ids, unfoldings, area)
 }
 
-// The words for the places of the unfoldings of a table of lines, one after the other from the area's start, with each unfolding's program, start and
-// length in the lent cells; or refuses 22 or 20.
+// The words for the places of the unfoldings of a table of lines, one after the other from the area's start, with each unfolding in the
+// lent cells; or refuses 22 or 20.
 pub fn unfold_into(
     lines: &[u64],
-    programs: &mut [u8; UNFOLDINGS],
-    starts: &mut [u64; UNFOLDINGS],
-    lengths: &mut [u64; UNFOLDINGS],
+    unfoldings: &mut [Unfolding; UNFOLDINGS],
     area: &mut [u64],
 ) -> Result<u64, Fault>
     ensures { Into (λ u. LinePlacesSettled lines.now area.old u area.new)
-        programs.old starts.old lengths.old result programs.new starts.new lengths.new }
+        unfoldings.old result unfoldings.new }
 {
-    unfold_told(lines, false, programs, starts, lengths, area)
+    unfold_told(lines, false, unfoldings, area)
 }
 
 // The unfoldings of a table of lines as statement ids, one after the other from the area's start; told are how many there are and the last one. Or
@@ -474,15 +469,13 @@ pub fn unfold_into(
 pub fn unfold_ids(lines: &[u64], area: &mut [u64]) -> Result<LastTold, Fault>
     ensures { LastSettled lines.now area.old result area.new }
 {
-    let mut programs = [0u8; UNFOLDINGS];
-    let mut starts = [0u64; UNFOLDINGS];
-    let mut lengths = [0u64; UNFOLDINGS];
-    let count = unfold_told(lines, true, &mut programs, &mut starts, &mut lengths, area)?;
-    let last = ((count % 64 + 63) % 64) as usize;
+    let mut unfoldings = [NO_UNFOLDING; UNFOLDINGS];
+    let count = unfold_told(lines, true, &mut unfoldings, area)?;
+    let last = unfoldings[((count % 64 + 63) % 64) as usize];
     Ok(LastTold {
         count,
-        start: starts[last],
-        length: lengths[last],
+        start: last.start,
+        length: last.length,
     })
 }
 
@@ -491,16 +484,9 @@ fn unfold_by(lines: &[u64], ids: bool, area: &mut [u64]) -> Result<Unfolded, Fau
     ensures { Tabled (table_codes lines.now) (words_by ids lines.now) (marks_by ids lines.now)
         area.old result area.new }
 {
-    let mut program = [0u8; UNFOLDINGS];
-    let mut start = [0u64; UNFOLDINGS];
-    let mut length = [0u64; UNFOLDINGS];
-    let count = unfold_told(lines, ids, &mut program, &mut start, &mut length, area)?;
-    Ok(Unfolded {
-        count,
-        program,
-        start,
-        length,
-    })
+    let mut unfoldings = [NO_UNFOLDING; UNFOLDINGS];
+    let count = unfold_told(lines, ids, &mut unfoldings, area)?;
+    Ok(Unfolded { count, unfoldings })
 }
 
 // The unfoldings of a workload value, by ids or by numbers of lines; a value that no text gives is refused.

@@ -7,5 +7,5 @@ use Rattle.place_table.proofs.put_nodes.Given as goal
 
 abbrev pub invariant-loop-j : goal.invariant-loop-j
 invariant-loop-j l =
-    (l.at ≡ total_of l.nodes.lengths.now l.j)
-    × (l.table ≡ put_at l.initial.table 0 (all_rows l.lines l.firsts l.nodes.programs.now l.nodes.lengths.now l.nodes.words.now l.j))
+    (l.at ≡ total_of l.nodes.unfoldings.now l.j)
+    × (l.table ≡ put_at l.initial.table 0 (all_rows l.lines l.firsts l.nodes.unfoldings.now l.nodes.words.now l.j))

@@ -12,17 +12,9 @@ pub returns-then-n-k : goal.returns-then-n-k
 unfolding row added
 returns-then-n-k t c = rowed_nothing _ _ _ (rows_end _ _ _ c.if-n-k.true)
 
-pub bounds-programs-j : goal.bounds-programs-j
+pub bounds-unfoldings-j : goal.bounds-unfoldings-j
 unfolding row added
-bounds-programs-j t c = omega (arith, row_cell _ _ _ c.if-n-k.false _ _ c.requires.rows, c.requires.rows.wide.programs)
-
-pub bounds-starts-j : goal.bounds-starts-j
-unfolding row added
-bounds-starts-j t c = omega (arith, row_cell _ _ _ c.if-n-k.false _ _ c.requires.rows, c.requires.rows.wide.starts)
-
-pub bounds-lengths-j : goal.bounds-lengths-j
-unfolding row added
-bounds-lengths-j t c = omega (arith, row_cell _ _ _ c.if-n-k.false _ _ c.requires.rows, c.requires.rows.wide.lengths)
+bounds-unfoldings-j t c = omega (arith, row_cell _ _ _ c.if-n-k.false _ _ c.requires.rows, c.requires.rows.wide.cells)
 
 pub write_rows-requires : goal.write_rows-requires
 unfolding row added

@@ -7,7 +7,7 @@ use Rattle.unfold.proofs.UnfoldSettledLaws.{ready_lines}
 use Rattle.unfold.proofs.unfold_counted.Goals as goal
 
 pub returns-in-Some : goal.returns-in-Some
-returns-in-Some c = into_refused _ _ _ _ _ c.measure-t.ensures.totals _ _ _ _ (sym c.in-Some.ensures)
+returns-in-Some c = into_refused _ _ _ _ _ c.measure-t.ensures.totals _ _ (sym c.in-Some.ensures)
 
 pub write_all-all-requires : goal.write_all-all-requires
 write_all-all-requires c =
@@ -19,5 +19,5 @@ write_all-all-requires c =
 
 pub returns : goal.returns
 returns c =
-    into_told _ _ _ _ _ c.measure-t.ensures.totals (sym c.in_default.ensures) (ready_lines _ _) _ _ _
+    into_told _ _ _ _ _ c.measure-t.ensures.totals (sym c.in_default.ensures) (ready_lines _ _) _
     c.requires.wide _ _ c.write_all-all.ensures

@@ -1,4 +1,5 @@
--- The lent arrays have 64 cells; what is written over all words is written over a given value's lines (settled-line-places).
+-- The lent array has 64 cells; what is written over all words is written over a given value's lines (settled-line-places).
+use native.Mathlib.Omega.{arith}
 use Rattle.unfold.specs.LineWords.{words_by, marks_by}
 use Rattle.unfold.specs.IntoLaws.{into_map}
 use Rattle.unfold.proofs.UnfoldSettledLaws.{settled_line_places}
@@ -6,11 +7,7 @@ use Rattle.unfold.proofs.unfold_into.Goals as goal
 
 pub unfold_told-requires : goal.unfold_told-requires
 unfold_told-requires c =
-    record {
-      programs = c.unfold_told-arg-1.given.0.1;
-      starts = c.unfold_told-arg-2-1.given.0.1;
-      lengths = c.unfold_told-arg-3-1.given.0.1;
-    }
+    record { cells = omega arith }
 
 pub returns : goal.returns
 unfolding words_by marks_by

@@ -8,5 +8,5 @@ use Rattle.unfold.proofs.write_all.Given as goal
 
 abbrev pub invariant-loop-i : goal.invariant-loop-i
 invariant-loop-i l =
-    Going (codes_in l.source) (words_in l.source) (marks_in l.source) (table_none l.initial.programs l.initial.starts l.initial.lengths)
-    l.initial.area l.i l.area (table_at l.t l.programs l.starts l.lengths) l.number
+    Going (codes_in l.source) (words_in l.source) (marks_in l.source) (table_none l.initial.unfoldings)
+    l.initial.area l.i l.area (table_at l.t l.unfoldings) l.number
