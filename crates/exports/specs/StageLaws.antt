@@ -1,6 +1,6 @@
 -- A stage's answer after a refused and after an accepted text.
-use Rattle.std.specs.Prelude.{List, ◌≡◌, refl, ℕ, Result, Ok, Err}
-use Rattle.std.proofs.Common.{sym, ap, ap₂, ◌∙◌, arith}
+use Rattle.std.specs.Prelude.{cond, List, ◌≡◌, refl, ℕ, eqb, Result, Ok, Err}
+use Rattle.std.proofs.Common.{sym, ap, ap₂, ◌∙◌, arith, eq-eqb, ne_eqb}
 use Rattle.std.proofs.Math.Path.{subst}
 use Rattle.refusal.specs.declared.Fault.{Fault}
 use Rattle.refusal.specs.declared.Refusal.{Refusal}
@@ -13,6 +13,13 @@ use Rattle.export_word.specs.Word.{refusal_word, value_word, verdict_word}
 use Rattle.exports.specs.Stages.{middle_line, read_word, last_node_told, unfold_word, Unfolds, Judges, UnfoldStage, VerdictStage}
 
 -- ---- the numbers
+
+-- a refusal's number is told, or there is none
+pub told_refused : (n a b : ℕ) → (n ≡ 0 → ⊥) → b ≡ cond (eqb n 0) a b
+told_refused n a b other = sym (ap (λ t. cond t a b) (ne_eqb n 0 other))
+
+told_taken : (n a b : ℕ) → n ≡ 0 → a ≡ cond (eqb n 0) a b
+told_taken n a b e = sym (ap (λ t. cond t a b) (eq-eqb n 0 e))
 
 pub nodes_refused : {r : ℕ} (f : Fault) {u : Result Unfolded Fault} {number : ℕ} → u ≡ Err f → number ≡ number_of f → r ≡ refusal_word number 0
     → r ≡ unfold_word u

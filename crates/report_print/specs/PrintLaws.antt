@@ -1,12 +1,12 @@
 -- Bytes that are written one after the other.
-use Rattle.std.specs.Prelude.{List, [], ◌∷◌, ◌++◌, ◌≡◌, refl, ℕ, zero, suc, ◌+◌, ◌-◌, ◌≤◌, length, set, take, drop, replicate}
-use Rattle.std.proofs.Common.{append_assoc, sym, ap, ap₂, subst, ◌∙◌, add-zero, zero-add, arith, length-append}
+use Rattle.std.specs.Prelude.{List, [], ◌∷◌, ◌++◌, ◌≡◌, refl, ℕ, zero, suc, ◌+◌, ◌-◌, ◌≤◌, ◌<◌, length, get_or, set, take, drop, replicate}
+use Rattle.std.proofs.Common.{append_assoc, sym, ap, ap₂, subst, ◌∙◌, zero-le, add-zero, zero-add, add-one, arith, length-append, drop_of_length-le, drop-cons}
 use Rattle.std.proofs.Math.Nat.{sub-zero}
 use Rattle.std.proofs.lemmas.List.{length-replicate, drop-drop}
 use borrow.Rule.Slice.PartMut.{put_mid}
 use Rattle.std.proofs.lemmas.List.Edits.{sets, sets-eq}
 use Rattle.report_print.specs.declared.Printed.{Printed}
-use Rattle.report_print.specs.Printed.{blank, printed_as, Put}
+use Rattle.report_print.specs.Printed.{blank, printed_as, Put, Copying}
 
 sets_append : (a b l : List ℕ) (i : ℕ) → sets l i (a ++ b) ≡ sets (sets l i a) (i + length a) b
 sets_append [] b l i = ap (λ (k : ℕ). sets l k b) (sym (add-zero i))
@@ -46,6 +46,34 @@ put_copied {bytes} {before} {part} at k h long e =
           ap₂ (λ (a b : List ℕ). take at before ++ (a ++ b)) e rest
           ∙ sym (append_assoc (take at before) bytes _)
           ∙ sym (sets-eq bytes before at h);
+    }
+
+-- copying begins
+pub copy_first : (bytes area : List ℕ) (at : ℕ) → Copying bytes at area 0 area
+copy_first bytes area at = record { inside = zero-le; written = ap (λ (k : ℕ). sets area k bytes) (add-zero at) }
+
+-- a byte more
+pub copy_turn : {bytes before area : List ℕ} {at i : ℕ} → i < length bytes → Copying bytes at before i area
+    → Copying bytes at before (i + 1) (set area (at + i) (get_or bytes i 0))
+copy_turn {bytes} {before} {area} {at} {i} h t =
+    let next : at + (i + 1) ≡ suc (at + i) = omega arith in
+    let more : i + 1 ≡ suc i = add-one i in
+    record {
+      inside = omega arith;
+      written =
+          ap₂ (λ (k j : ℕ). sets (set area (at + i) (get_or bytes i 0)) k (drop j bytes)) next more
+          ∙ ap (λ (l : List ℕ). sets area (at + i) l) (sym (drop-cons bytes i 0 h))
+          ∙ t.written;
+    }
+
+-- it ends with all of them written
+pub copy_end : {bytes before area : List ℕ} {at i : ℕ} → length bytes ≤ i → Copying bytes at before i area
+    → Put bytes (length bytes) at before (at + i) area
+copy_end {bytes} {before} {area} {at} {i} h t =
+    record {
+      place = omega (arith, t.inside);
+      few = omega arith;
+      area = ap (λ (b : List ℕ). sets area (at + i) b) (sym (drop_of_length-le bytes h)) ∙ t.written;
     }
 
 drop_replicate : (n m b : ℕ) → drop n (replicate m b) ≡ replicate (m - n) b

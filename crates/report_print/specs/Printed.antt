@@ -1,5 +1,5 @@
 -- What a printed report holds, and how its bytes are written.
-use Rattle.std.specs.Prelude.{List, [], ◌∷◌, ◌++◌, ◌≡◌, ℕ, zero, suc, ◌+◌, ◌-◌, ◌*◌, ◌≤◌, min, length, get_or, replicate}
+use Rattle.std.specs.Prelude.{List, [], ◌∷◌, ◌++◌, ◌≡◌, ℕ, zero, suc, ◌+◌, ◌-◌, ◌*◌, ◌≤◌, min, length, get_or, drop, replicate}
 use Rattle.std.proofs.lemmas.List.Edits.{sets}
 use Rattle.spec_graph.specs.Walk.{Step}
 use Rattle.spec_report.specs.State.{Counts}
@@ -54,6 +54,11 @@ pub record Put (bytes : List ℕ) (most at : ℕ) (before : List ℕ) (r : ℕ) 
 -- the same of a report that is being printed: bytes are written after those that are there
 abbrev pub Wrote : List ℕ → ℕ → Printed → Printed → Type 0
 Wrote bytes most before after = Put bytes most before.length before.bytes after.length after.bytes
+
+-- bytes that are copied one by one: i of them are written, and the others are still to be
+pub record Copying (bytes : List ℕ) (at : ℕ) (before : List ℕ) (i : ℕ) (area : List ℕ) : Type 0 where
+  pub inside : i ≤ length bytes
+  pub written : sets area (at + i) (drop i bytes) ≡ sets before at bytes
 
 -- what holds in each turn of the loop over the steps: the lines of k of them are written
 pub record Stepping (words : List ℕ) (before : Printed) (steps k : ℕ) (after : Printed) : Type 0 where
