@@ -135,35 +135,35 @@ middle_told text (l ∷ lines) o rest =
 
 -- the word of what is read into a table
 module _ (text : List ℕ) {before : List ℕ} {t : Result ℕ Refusal} {after : List ℕ} {r : ℕ} (stands : TextTabled (read text) before (said t) after)
-    where
-  pub table_refused : (f : Refusal) {number : ℕ} → t ≡ Err f → number ≡ number_of f.fault → r ≡ refusal_word number f.line
-      → r ≡ read_word (given text)
-  unfolding read_word parsed_as not_read lines_read
-  table_refused f {number} is number_is e = go stands
-    where
-      told : {x : Result ℕ (ℕ × ℕ)} → said t ≡ x → Err (number, f.line) ≡ x
-      told same = ap (λ (n : ℕ). Err (n, f.line)) number_is ∙ ap said (sym is) ∙ same
+  where
+    pub table_refused : (f : Refusal) {number : ℕ} → t ≡ Err f → number ≡ number_of f.fault → r ≡ refusal_word number f.line
+        → r ≡ read_word (given text)
+    unfolding read_word parsed_as not_read lines_read
+    table_refused f {number} is number_is e = go stands
+      where
+        told : {x : Result ℕ (ℕ × ℕ)} → said t ≡ x → Err (number, f.line) ≡ x
+        told same = ap (λ (n : ℕ). Err (n, f.line)) number_is ∙ ap said (sym is) ∙ same
 
-      go : TextTabled (read text) before (said t) after → r ≡ read_word (given text)
-      go (unread n l o same) =
-          let both = refusal_once (told same) in
-          e ∙ ap₂ refusal_word both.0 both.1 ∙ ap (λ (x : Outcome). read_word (parsed_as x)) (sym o)
-      go (tabled lines o same words) = let both = told same in let z : ◌≡◌ {A = ℕ} 0 1 = cc in absurd (omega arith)
+        go : TextTabled (read text) before (said t) after → r ≡ read_word (given text)
+        go (unread n l o same) =
+            let both = refusal_once (told same) in
+            e ∙ ap₂ refusal_word both.0 both.1 ∙ ap (λ (x : Outcome). read_word (parsed_as x)) (sym o)
+        go (tabled lines o same words) = let both = told same in let z : ◌≡◌ {A = ℕ} 0 1 = cc in absurd (omega arith)
 
-  pub table_taken : (count : ℕ) → t ≡ Ok count → {l : Line} → l ≡ table_middle after count → r ≡ value_word l count → r ≡ read_word (given text)
-  unfolding read_word parsed_as not_read lines_read value_of
-  table_taken count is {l} middle e = go stands
-    where
-      told : {x : Result ℕ (ℕ × ℕ)} → said t ≡ x → Ok count ≡ x
-      told same = ap said (sym is) ∙ same
+    pub table_taken : (count : ℕ) → t ≡ Ok count → {l : Line} → l ≡ table_middle after count → r ≡ value_word l count → r ≡ read_word (given text)
+    unfolding read_word parsed_as not_read lines_read value_of
+    table_taken count is {l} middle e = go stands
+      where
+        told : {x : Result ℕ (ℕ × ℕ)} → said t ≡ x → Ok count ≡ x
+        told same = ap said (sym is) ∙ same
 
-      go : TextTabled (read text) before (said t) after → r ≡ read_word (given text)
-      go (unread n line o same) = let both = told same in let z : ◌≡◌ {A = ℕ} 0 1 = cc in absurd (omega arith)
-      go (tabled lines o same words) =
-          let both = told same in
-          let many : count ≡ length lines = cc in
-          e
-          ∙ ap (λ (x : Line). value_word x count) middle
-          ∙ ap₂ (λ (w : List ℕ) (n : ℕ). value_word (table_middle w n) n) words many
-          ∙ ap (λ (n : ℕ). n * 65536 + length lines % 65536) (middle_told text lines o (drop (8 * length lines) before))
-          ∙ ap (λ (x : Outcome). read_word (parsed_as x)) (sym o)
+        go : TextTabled (read text) before (said t) after → r ≡ read_word (given text)
+        go (unread n line o same) = let both = told same in let z : ◌≡◌ {A = ℕ} 0 1 = cc in absurd (omega arith)
+        go (tabled lines o same words) =
+            let both = told same in
+            let many : count ≡ length lines = cc in
+            e
+            ∙ ap (λ (x : Line). value_word x count) middle
+            ∙ ap₂ (λ (w : List ℕ) (n : ℕ). value_word (table_middle w n) n) words many
+            ∙ ap (λ (n : ℕ). n * 65536 + length lines % 65536) (middle_told text lines o (drop (8 * length lines) before))
+            ∙ ap (λ (x : Outcome). read_word (parsed_as x)) (sym o)

@@ -59,77 +59,77 @@ ok_once : {A B : Type 0} {x y : A} → ◌≡◌ {A = Result A B} (Ok x) (Ok y) 
 ok_once e = cc
 
 module _ (text : List ℕ) {rows₀ : List ℕ} {t : Result TextRows Refusal} {rows : List ℕ} (rows_told_lem : TextPlaced (read text) rows₀ (said t) rows)
-    where
-  -- R, S22
-  pub text_refused : (f : Refusal) → t ≡ Err f → (before : List ℕ) → TextJudged (read text) before (Err (number_of f.fault, f.line)) before
-  unfolding no_rows rows_told
-  text_refused f e before = go rows_told_lem
-    where
-      same : {x : Result TextRows (ℕ × ℕ)} → said t ≡ x → Err (number_of f.fault, f.line) ≡ x
-      same r = ap said (sym e) ∙ r
-
-      go : TextPlaced (read text) rows₀ (said t) rows → TextJudged (read text) before (Err (number_of f.fault, f.line)) before
-      go (not_read_lem m line is_read r kept) = unread m line is_read (same_err (same r)) refl
-      go (large lines is_read many r kept) =
-          judged lines is_read (Err Unfoldings) (same_err (same r))
-          (refused_answer 22 (too_many (value_given text is_read) (ap is_too_many (lines_of_value lines) ∙ many)))
-      go (placed lines is_read few r kept) = absurd (err_ok (same r))
-
-  module _ (x : TextRows) (some_rows : t ≡ Ok x) where
-    -- the rows are those of a given workload
-    record RowsOf : Type 0 where
-      pub lines : List Line
-      pub is_read_lem : read text ≡ accepted lines
-      pub whole : RowsWhole (value_of lines) x.programs x.nodes (take x.words rows)
-      pub inside : x.words ≤ 4096
-      pub nodes_few : x.nodes ≤ 64
-
-    rows_of_lem : RowsOf
+  where
+    -- R, S22
+    pub text_refused : (f : Refusal) → t ≡ Err f → (before : List ℕ) → TextJudged (read text) before (Err (number_of f.fault, f.line)) before
     unfolding no_rows rows_told
-    rows_of_lem = go rows_told_lem
+    text_refused f e before = go rows_told_lem
       where
-        same : {y : Result TextRows (ℕ × ℕ)} → said t ≡ y → Ok x ≡ y
-        same r = ap said (sym some_rows) ∙ r
+        same : {x : Result TextRows (ℕ × ℕ)} → said t ≡ x → Err (number_of f.fault, f.line) ≡ x
+        same r = ap said (sym e) ∙ r
 
-        go : TextPlaced (read text) rows₀ (said t) rows → RowsOf
-        go (not_read_lem m line is_read r kept) = absurd (err_ok (sym (same r)))
-        go (large lines is_read many r kept) = absurd (err_ok (sym (same r)))
-        go (placed lines is_read few r stands) =
-            let own = lines_of_value lines in
-            let each = few_each lines few in
-            let words : x.words ≡ 8 * statements_in (nodes_of lines) = ap (λ (y : TextRows). y.words) (ok_once (same r)) in
-            let nodes : x.nodes ≡ length (nodes_of lines) = ap (λ (y : TextRows). y.nodes) (ok_once (same r)) in
-            let programs : x.programs ≡ length (programs_of lines) = ap (λ (y : TextRows). y.programs) (ok_once (same r)) in
-            let a = table_of_length (rows_of (nodes_of lines)) in
-            let b = rows_of_length (nodes_of lines) in
-            record {
-              lines = lines;
-              is_read_lem = is_read;
-              whole =
-                  record {
-                    given = value_given text is_read;
-                    few = ap is_too_many own ∙ few;
-                    programs_are = programs ∙ ap (λ (l : List Line). length (programs_of l)) (sym own);
-                    nodes_are = nodes ∙ ap (λ (l : List Line). length (nodes_of l)) (sym own);
-                    rows_are =
-                        ap (take x.words) stands
-                        ∙ take_at (table_of (rows_of (nodes_of lines))) _ x.words (omega arith)
-                        ∙ ap (λ (l : List Line). table_of (rows_of (nodes_of l))) (sym own);
-                  };
-              inside = omega arith;
-              nodes_few = omega arith;
-            }
+        go : TextPlaced (read text) rows₀ (said t) rows → TextJudged (read text) before (Err (number_of f.fault, f.line)) before
+        go (not_read_lem m line is_read r kept) = unread m line is_read (same_err (same r)) refl
+        go (large lines is_read many r kept) =
+            judged lines is_read (Err Unfoldings) (same_err (same r))
+            (refused_answer 22 (too_many (value_given text is_read) (ap is_too_many (lines_of_value lines) ∙ many)))
+        go (placed lines is_read few r kept) = absurd (err_ok (same r))
 
-    pub words_inside : x.words ≤ 4096
-    words_inside = rows_of_lem.inside
+    module _ (x : TextRows) (some_rows : t ≡ Ok x) where
+      -- the rows are those of a given workload
+      record RowsOf : Type 0 where
+        pub lines : List Line
+        pub is_read_lem : read text ≡ accepted lines
+        pub whole : RowsWhole (value_of lines) x.programs x.nodes (take x.words rows)
+        pub inside : x.words ≤ 4096
+        pub nodes_few : x.nodes ≤ 64
 
-    pub nodes_inside : x.nodes ≤ 64
-    nodes_inside = rows_of_lem.nodes_few
+      rows_of_lem : RowsOf
+      unfolding no_rows rows_told
+      rows_of_lem = go rows_told_lem
+        where
+          same : {y : Result TextRows (ℕ × ℕ)} → said t ≡ y → Ok x ≡ y
+          same r = ap said (sym some_rows) ∙ r
 
-    -- the word
-    pub text_word : {before after : List ℕ} (v : Result Verdict Fault) {r : Result Verdict (ℕ × ℕ)} → r ≡ on_text v
-        → RowsJudged (take x.words rows) x.programs x.nodes before (told v) after → TextJudged (read text) before r after
-    text_word v e answered = judged rows_of_lem.lines rows_of_lem.is_read_lem v e (answered _ rows_of_lem.whole)
+          go : TextPlaced (read text) rows₀ (said t) rows → RowsOf
+          go (not_read_lem m line is_read r kept) = absurd (err_ok (sym (same r)))
+          go (large lines is_read many r kept) = absurd (err_ok (sym (same r)))
+          go (placed lines is_read few r stands) =
+              let own = lines_of_value lines in
+              let each = few_each lines few in
+              let words : x.words ≡ 8 * statements_in (nodes_of lines) = ap (λ (y : TextRows). y.words) (ok_once (same r)) in
+              let nodes : x.nodes ≡ length (nodes_of lines) = ap (λ (y : TextRows). y.nodes) (ok_once (same r)) in
+              let programs : x.programs ≡ length (programs_of lines) = ap (λ (y : TextRows). y.programs) (ok_once (same r)) in
+              let a = table_of_length (rows_of (nodes_of lines)) in
+              let b = rows_of_length (nodes_of lines) in
+              record {
+                lines = lines;
+                is_read_lem = is_read;
+                whole =
+                    record {
+                      given = value_given text is_read;
+                      few = ap is_too_many own ∙ few;
+                      programs_are = programs ∙ ap (λ (l : List Line). length (programs_of l)) (sym own);
+                      nodes_are = nodes ∙ ap (λ (l : List Line). length (nodes_of l)) (sym own);
+                      rows_are =
+                          ap (take x.words) stands
+                          ∙ take_at (table_of (rows_of (nodes_of lines))) _ x.words (omega arith)
+                          ∙ ap (λ (l : List Line). table_of (rows_of (nodes_of l))) (sym own);
+                    };
+                inside = omega arith;
+                nodes_few = omega arith;
+              }
+
+      pub words_inside : x.words ≤ 4096
+      words_inside = rows_of_lem.inside
+
+      pub nodes_inside : x.nodes ≤ 64
+      nodes_inside = rows_of_lem.nodes_few
+
+      -- the word
+      pub text_word : {before after : List ℕ} (v : Result Verdict Fault) {r : Result Verdict (ℕ × ℕ)} → r ≡ on_text v
+          → RowsJudged (take x.words rows) x.programs x.nodes before (told v) after → TextJudged (read text) before r after
+      text_word v e answered = judged rows_of_lem.lines rows_of_lem.is_read_lem v e (answered _ rows_of_lem.whole)
 
 -- ---- nothing is free
 

@@ -11,6 +11,7 @@ pub returns : goal.returns
 unfolding Lent
 returns c =
     let rows = c.text_rows-t.ensures in
-    let linked = c.link_first.ensures in
-    (record { plain = _; placed = rows.text_placed; linked = linked_as c.rows_words.ensures linked.first_linked },
-      (rows.lent.0, rows.lent.1, linked.lent ∙ rows.lent.2))
+    let linked = c.link_first.ensures in (
+      record { plain = _; placed = rows.text_placed; linked = linked_as c.rows_words.ensures linked.first_linked },
+      (rows.lent.0, rows.lent.1, linked.lent ∙ rows.lent.2),
+    )
