@@ -1,5 +1,5 @@
-// Why a text or a workload value is refused: what is answered in place of a value. The rules number the refusals; callers in other languages and reports
-// are told the number.
+// Why a text or a workload value is refused: what is answered in place of a value. The rules number the refusals; callers in other languages and
+// reports are told the number.
 #![tactic(auto)]
 
 ghost use Rattle.std.specs.Prelude.{◌≡◌};
