@@ -68,9 +68,9 @@ module _ (text : List ℕ) {old : List ℕ} {t : Result TextRows (ℕ × ℕ)} {
     linked_settled word = text_settled text rows.placed plain_edges word
 
 -- the rows are as many words as are told
-pub put_at_words : {m n : ℕ} {table : List ℕ} {before after : List Edge} {answer : Result ℕ Fault} → m ≡ n
+pub put_at_words : (table : List ℕ) {m n : ℕ} {before after : List Edge} {answer : Result ℕ Fault} → m ≡ n
     → PutAs (table_edges (take m table)) before answer after → PutAs (table_edges (take n table)) before answer after
-put_at_words {table = table} {before} {after} {answer} e h = subst (λ (k : ℕ). PutAs (table_edges (take k table)) before answer after) e h
+put_at_words table {before = before} {after = after} {answer = answer} e h = subst (λ (k : ℕ). PutAs (table_edges (take k table)) before answer after) e h
 
 -- the word for the edges of a text that is read, and for those of one that is refused
 pub word_read : {t : Result TextRows Refusal} {x : TextRows} → t ≡ Ok x → {a b : ℕ ⊎ ℕ} → a ≡ b → {r : ℕ} → r ≡ edges_told 0 0 a

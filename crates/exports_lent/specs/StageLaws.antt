@@ -1,6 +1,6 @@
 -- A stage's answer after a refused and after an accepted text.
 use mathlib.Core.List.{List}
-use Rattle.std.specs.Prelude.{◌≡◌, refl, ℕ, Result, Ok, Err}
+use Rattle.std.specs.Prelude.{◌≡◌, refl, ℕ, length, Result, Ok, Err}
 use Rattle.std.proofs.Common.{sym, ap₂, ◌∙◌, arith}
 use Rattle.std.proofs.Math.Path.{ap, subst}
 use Rattle.refusal.specs.declared.Fault.{Fault}
@@ -127,13 +127,13 @@ module _ (text : List ℕ) {before : List ℕ} {v : Result Verdict Refusal} {aft
           let n_is : number ≡ m = cc in
           let l_is : f.line ≡ l = cc in
           subst (VerdictStage (given text) before r) (sym kept) (verdict_refused text is_read (word ∙ ap₂ refusal_word n_is l_is))
-      go (TextJudged.judged lines is_read (Err g) e judged) =
+      go (TextJudged.judged lines is_read (Err g) e holds) =
           let both = refusal_once (same e) in
           let n_is : number ≡ number_of g = cc in
           let l_is : f.line ≡ 0 = cc in
           verdict_goes_on text is_read
-          (record { told = Told.refused (number_of g); settled = judged; word = word ∙ ap₂ refusal_word n_is l_is })
-      go (TextJudged.judged lines is_read (Ok w) e judged) = let both = same e in let z : ◌≡◌ {A = ℕ} 0 1 = cc in absurd (omega arith)
+          (record { told = Told.refused (number_of g); settled = holds; word = word ∙ ap₂ refusal_word n_is l_is })
+      go (TextJudged.judged lines is_read (Ok w) e holds) = let both = same e in let z : ◌≡◌ {A = ℕ} 0 1 = cc in absurd (omega arith)
 
   pub stage_word : (w : Verdict) → v ≡ Ok w → r ≡ verdict_word (told_word w) → VerdictStage (given text) before r after
   stage_word w is word = go answered
@@ -143,9 +143,9 @@ module _ (text : List ℕ) {before : List ℕ} {v : Result Verdict Refusal} {aft
 
       go : TextJudged (read text) before (said v) after → VerdictStage (given text) before r after
       go (TextJudged.unread m l is_read e kept) = let both = same e in let z : ◌≡◌ {A = ℕ} 0 1 = cc in absurd (omega arith)
-      go (TextJudged.judged lines is_read (Err g) e judged) = let both = same e in let z : ◌≡◌ {A = ℕ} 0 1 = cc in absurd (omega arith)
-      go (TextJudged.judged lines is_read (Ok u) e judged) =
+      go (TextJudged.judged lines is_read (Err g) e holds) = let both = same e in let z : ◌≡◌ {A = ℕ} 0 1 = cc in absurd (omega arith)
+      go (TextJudged.judged lines is_read (Ok u) e holds) =
           let both = same e in
           let word_is : w ≡ u = cc in
           verdict_goes_on text is_read
-          (record { told = told_word u; settled = judged; word = word ∙ ap (λ (x : Verdict). verdict_word (told_word x)) word_is })
+          (record { told = told_word u; settled = holds; word = word ∙ ap (λ (x : Verdict). verdict_word (told_word x)) word_is })

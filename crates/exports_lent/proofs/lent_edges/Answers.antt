@@ -17,7 +17,7 @@ returns-in-Ok c =
     let placed = c.linked_rows-t.ensures in
     let said = said_numbered c.put_edges-edges.result c.map_err-put.result c.map_err-put.ensures.cases in
     let word = word_read c.in-Ok.is said c.edges_word.ensures in
-    (linked_settled _ placed.0 (put_at_words c.rows_words-n.ensures c.put_edges-edges.ensures) word,
+    (linked_settled _ placed.0 (put_at_words _ c.rows_words-n.ensures c.put_edges-edges.ensures) word,
       (placed.1.0, placed.1.1, placed.1.2, record { rows = _; linked = placed.0 }))
 
 pub returns-in-Err : goal.returns-in-Err
@@ -25,5 +25,5 @@ returns-in-Err c =
     let placed = c.linked_rows-t.ensures in
     let said = said_numbered c.put_edges-edges.result c.map_err-put.result c.map_err-put.ensures.cases in
     let word = word_refused _ c.in-Err.is c.number.ensures said c.edges_word-in-Err.ensures in
-    (linked_settled _ placed.0 (put_at_words c.rows_words-n.ensures c.put_edges-edges.ensures) word,
+    (linked_settled _ placed.0 (put_at_words _ c.rows_words-n.ensures c.put_edges-edges.ensures) word,
       (placed.1.0, placed.1.1, placed.1.2, record { rows = _; linked = placed.0 }))
