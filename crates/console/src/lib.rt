@@ -1,30 +1,18 @@
-// What the programs share: bytes and numbers on standard output, and arguments and files into lent areas. What becomes of what is handed to the
-// system and which bytes it gives, no contract can say; how many of them lie in an area, the contracts do.
+// What the programs share: arguments and files into lent areas. Which bytes the system gives, no contract can say; how many of them lie in an area,
+// and which names are names of files, the contracts do.
 #![tactic(auto)]
 
-ghost use Rattle.std.specs.Prelude.{◌≤◌, length, IfSome};
+ghost use Rattle.std.specs.Prelude.{◌≤◌, length, IfSome, IsUtf8};
 
 use std::env::{Env, FillError};
 use std::fs::File;
-use std::io::{Read, Stdout, Write};
+use std::io::{Read, Write};
 
 // The bytes of the area that a text is read into. It is longer than any text that is accepted: a text that fills it is refused, whatever follows.
 pub const INPUT_BYTES: usize = 65536;
 
 // The bytes of the area that an argument is read into.
 pub const WORD_BYTES: usize = 4096;
-
-// Hands bytes to standard output.
-pub fn print(mut out: Stdout, bytes: &[u8]) {
-    let _ = out.write_all(bytes);
-}
-
-// Numbers in decimal, each after a space.
-pub fn print_numbers(mut out: Stdout, numbers: &[u64]) {
-    for n in numbers {
-        let _ = write!(out, " {n}");
-    }
-}
 
 // How many bytes an area takes of a file: until the file ends, the area is full or a read fails.
 pub fn read_full<R: Read>(file: &mut R, area: &mut [u8]) -> usize
@@ -40,8 +28,10 @@ pub fn read_full<R: Read>(file: &mut R, area: &mut [u8]) -> usize
     n
 }
 
-// The file of this name, opened for reading. One that cannot be opened is named on standard error.
-pub fn open_read(rt: &HostRuntime, path: &[u8]) -> Option<File> {
+// The file of this name, opened for reading. One that cannot be opened is named on standard error. Bytes that are no text name none.
+pub fn open_read(rt: &HostRuntime, path: &[u8]) -> Option<File>
+    ensures { IfSome result (λ _. IsUtf8 path.now) }
+{
     let Ok(name) = std::str::from_utf8(path) else {
         let _ = rt.stderr().write_all(path);
         let _ = rt.stderr().write_all(b": no name of a file\n");

@@ -3,7 +3,7 @@
 // `./judge --picture` into a drawing. What is told is computed by functions with their own promises; this program asks them and prints.
 #![tactic(auto)]
 
-use console::{INPUT_BYTES, print, print_numbers};
+use console::INPUT_BYTES;
 use edge_find::{edge_from, shared_by};
 use edge_record::Edge;
 use pick_laws::STEP_WORDS;
@@ -26,6 +26,18 @@ const FIRST_LINE: u64 = 2;
 const MOST_LINES: u64 = 65536;
 
 // ---- what all facts print
+
+// Hands bytes to standard output. Each program has its own: std's contracts tie no bytes to a stream, so a public function could promise nothing.
+fn print(mut out: Stdout, bytes: &[u8]) {
+    let _ = out.write_all(bytes);
+}
+
+// Numbers in decimal, each after a space.
+fn print_numbers(mut out: Stdout, numbers: &[u64]) {
+    for n in numbers {
+        let _ = write!(out, " {n}");
+    }
+}
 
 // A fact: its word and its numbers.
 fn tell(out: Stdout, word: &[u8], numbers: &[u64]) {

@@ -4,7 +4,7 @@
 #![tactic(auto)]
 
 use check::same;
-use console::{INPUT_BYTES, WORD_BYTES, argument, open_read, print, print_numbers, read_full};
+use console::{INPUT_BYTES, WORD_BYTES, argument, open_read, read_full};
 use edge_record::Edge;
 use place_row::{ROWS, TABLE_WORDS};
 use spec_text::{CELLS, Line, LineKind, StatementKind, Workload};
@@ -24,6 +24,18 @@ enum Listing {
 }
 
 // ---- what all listings print
+
+// Hands bytes to standard output. Each program has its own: std's contracts tie no bytes to a stream, so a public function could promise nothing.
+fn print(mut out: Stdout, bytes: &[u8]) {
+    let _ = out.write_all(bytes);
+}
+
+// Numbers in decimal, each after a space.
+fn print_numbers(mut out: Stdout, numbers: &[u64]) {
+    for n in numbers {
+        let _ = write!(out, " {n}");
+    }
+}
 
 // A refusal in place of a list.
 fn print_refused(mut out: Stdout, number: u8, line: u64) {

@@ -3,7 +3,7 @@
 #![tactic(auto)]
 
 use check::same;
-use console::{INPUT_BYTES, WORD_BYTES, argument, open_read, print, read_full};
+use console::{INPUT_BYTES, WORD_BYTES, argument, open_read, read_full};
 use refusal::{Fault, Refusal};
 use spec_text::{CELLS, Line, LineKind, Workload};
 use std::io::{Stdout, Write};
@@ -11,6 +11,11 @@ use text_read::read_text;
 use value_part::{NotGiven, part_of};
 
 // ---- what is printed
+
+// Hands bytes to standard output. Each program has its own: std's contracts tie no bytes to a stream, so a public function could promise nothing.
+fn print(mut out: Stdout, bytes: &[u8]) {
+    let _ = out.write_all(bytes);
+}
 
 fn print_same(out: Stdout, yes: bool) {
     print(out, if yes { b" same\n" } else { b" differs\n" });

@@ -100,6 +100,11 @@ judged_text_reported : (text : List ℕ) {before : List ℕ} → length before �
 judged_text_reported text {before} long lines is_read =
     judged_reported text (is_read ∙ ap accepted (sym (lines_of_value lines))) (value_given text is_read) before long
 
+-- P3: a refusal of the text, whatever area is lent
+pub reported_unread : (text : List ℕ) {number line : ℕ} {r : Printed} → read text ≡ refused number line
+    → r ≡ printed_as (refusal_report number line) → Reported text r
+reported_unread text {number} {line} is_read printed = reported_as (refusal number line is_read) printed
+
 module _ (text : List ℕ) {before : List ℕ} {v : Result Verdict Refusal} {after : List ℕ} (answered : TextJudged (read text) before (said v) after)
     (long : length before ≡ 260) {r : Printed} where
   -- P3: a refusal, of the text or, with line 0, of its value
