@@ -9,6 +9,7 @@ use Rattle.refusal.specs.Told.{told as said}
 use Rattle.spec_text.specs.declared.Workload.{Workload}
 use Rattle.unfold.specs.declared.Unfolded.{Unfolded}
 use Rattle.verdict_of.specs.VerdictLaws.{judged_one}
+use Rattle.verdict_of.specs.TextVerdictLaws.{refusal_once}
 use Rattle.export_word.specs.Word.{refusal_word, value_word, verdict_word}
 use Rattle.exports.specs.Stages.{middle_line, read_word, last_node_told, unfold_word, Unfolds, Judges, UnfoldStage, VerdictStage}
 
@@ -35,10 +36,6 @@ nodes_taken u is e = e ∙ ap unfold_word (sym is)
 -- no answer is a value and a refusal
 pub value_or_refusal : {w : Workload} {x : ℕ × ℕ} → ◌≡◌ {A = Result Workload (ℕ × ℕ)} (Err x) (Ok w) → ⊥
 value_or_refusal e = let z : ◌≡◌ {A = ℕ} 0 1 = cc in omega arith
-
--- a refusal's number and line are settled
-pub refusal_once : {number line m l : ℕ} → ◌≡◌ {A = Result Workload (ℕ × ℕ)} (Err (number, line)) (Err (m, l)) → (number ≡ m) × (line ≡ l)
-refusal_once e = (cc, cc)
 
 pub value_once : {v w : Workload} → ◌≡◌ {A = Result Workload (ℕ × ℕ)} (Ok v) (Ok w) → v ≡ w
 value_once e = cc

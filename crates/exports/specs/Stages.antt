@@ -1,5 +1,5 @@
 -- What the exports that are timed answer and leave in the area. Believed, with the words of export_word.
-use Rattle.std.specs.Prelude.{List, ◌≡◌, ℕ, ◌+◌, ◌*◌, ◌/◌, ◌%◌, get_or, Result, Ok, Err}
+use Rattle.std.specs.Prelude.{List, ◌≡◌, ℕ, ◌+◌, ◌/◌, ◌%◌, get_or, Result, Ok, Err}
 use Rattle.refusal.specs.declared.Fault.{Fault}
 use Rattle.refusal.specs.Numbers.{number_of}
 use Rattle.spec_text.specs.declared.Line.{Line}

@@ -8,7 +8,7 @@ use Rattle.std.proofs.Math.ListN.{length}
 use Rattle.std.proofs.Math.Seq.{take-append_seam}
 use Rattle.spec_text.specs.declared.Line.{Line}
 use Rattle.spec_text.specs.Reading.{read}
-use Rattle.spec_text.specs.Reading.Outcome.{refused, accepted}
+use Rattle.spec_text.specs.Reading.Outcome.{accepted}
 use Rattle.spec_text.specs.Value.{value_of}
 use Rattle.law_text.specs.ValueLaws.{lines_of_value, value_given}
 use Rattle.spec_graph.specs.Unfolding.{nodes_of}

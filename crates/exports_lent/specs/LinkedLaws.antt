@@ -5,7 +5,7 @@ use Rattle.std.proofs.Math.Seq.{take-append_seam, drop-append_seam}
 use Rattle.spec_base.specs.Basic.{numbers}
 use Rattle.spec_text.specs.Reading.{read}
 use Rattle.spec_graph.specs.Edge as E
-use Rattle.place_row.specs.RowTable.{row_count, table_rows, edges_of_rows}
+use Rattle.place_row.specs.RowTable.{table_rows, edges_of_rows}
 use Rattle.place_link.specs.Links.{LinkedAs}
 use Rattle.place_link.specs.LinkLaws.{linked_count, linked_row}
 use Rattle.place_text.specs.declared.TextRows.{TextRows}

@@ -25,7 +25,7 @@ use Rattle.refusal.specs.Told.{told as said}
 use Rattle.text_table.specs.Tabled.{not_read, lines_read, TextTabled}
 use Rattle.text_table.specs.Tabled.TextTabled.{unread, tabled}
 use Rattle.text_read.specs.Parse.{parsed_as}
-use Rattle.refusal_laws.specs.RefusalLaws.{refusal_bounds}
+use Rattle.verdict_of.specs.TextVerdictLaws.{refusal_once}
 use Rattle.export_word.specs.Word.{refusal_word, line_sum, value_word}
 use Rattle.exports.specs.Stages.{given, middle_line, read_word}
 use Rattle.exports_lent.specs.Middle.{row_line, table_middle}
@@ -146,10 +146,8 @@ module _ (text : List ℕ) {before : List ℕ} {t : Result ℕ Refusal} {after :
 
       go : TextTabled (read text) before (said t) after → r ≡ read_word (given text)
       go (unread n l o same) =
-          let both = told same in
-          let n_is : number ≡ n = cc in
-          let l_is : f.line ≡ l = cc in
-          e ∙ ap₂ refusal_word n_is l_is ∙ ap (λ (x : Outcome). read_word (parsed_as x)) (sym o)
+          let both = refusal_once (told same) in
+          e ∙ ap₂ refusal_word both.0 both.1 ∙ ap (λ (x : Outcome). read_word (parsed_as x)) (sym o)
       go (tabled lines o same words) = let both = told same in let z : ◌≡◌ {A = ℕ} 0 1 = cc in absurd (omega arith)
 
   pub table_taken : (count : ℕ) → t ≡ Ok count → {l : Line} → l ≡ table_middle after count → r ≡ value_word l count → r ≡ read_word (given text)

@@ -22,8 +22,9 @@ use Rattle.unfold.specs.UnfoldLines.{last_in, LastSettled}
 use Rattle.verdict_told.specs.declared.Verdict.{Verdict}
 use Rattle.verdict_told.specs.Told.{Told, told_word}
 use Rattle.verdict_of.specs.TextVerdict.{TextJudged}
+use Rattle.verdict_of.specs.TextVerdictLaws.{refusal_once}
 use Rattle.export_word.specs.Word.{refusal_word, verdict_word}
-use Rattle.exports.specs.StageLaws.{value_or_refusal, refusal_once, value_once}
+use Rattle.exports.specs.StageLaws.{value_or_refusal, value_once}
 use Rattle.exports.specs.Stages.{given, unfold_word, Unfolds, Judges, UnfoldStage, VerdictStage}
 use Rattle.exports_lent.specs.LastWord.{LastWord}
 
@@ -81,10 +82,9 @@ pub table_unread : (text : List ℕ) {lines₀ : List ℕ} {t : Result ℕ Refus
     → (f : Refusal) {number : ℕ} → t ≡ Err f → number ≡ number_of f.fault → read text ≡ refused number f.line
 unfolding not_read lines_read
 table_unread text {t = t} (TextTabled.unread n l is_read e) f {number} is number_is =
-    let both : ◌≡◌ {A = Result ℕ (ℕ × ℕ)} (Err (number, f.line)) (Err (n, l)) = ap (λ (m : ℕ). Err (m, f.line)) number_is ∙ ap said (sym is) ∙ e in
-    let n_is : number ≡ n = cc in
-    let l_is : f.line ≡ l = cc in
-    is_read ∙ sym (ap₂ refused n_is l_is)
+    let same : ◌≡◌ {A = Result ℕ (ℕ × ℕ)} (Err (number, f.line)) (Err (n, l)) = ap (λ (m : ℕ). Err (m, f.line)) number_is ∙ ap said (sym is) ∙ e in
+    let both = refusal_once same in
+    is_read ∙ sym (ap₂ refused both.0 both.1)
 table_unread text {t = t} (TextTabled.tabled ls is_read e stands) f {number} is number_is =
     let both : ◌≡◌ {A = Result ℕ (ℕ × ℕ)} (Err (number, f.line)) (Ok (length ls)) =
     ap (λ (m : ℕ). Err (m, f.line)) number_is ∙ ap said (sym is) ∙ e in
@@ -123,12 +123,12 @@ module _ (text : List ℕ) {before : List ℕ} {v : Result Verdict Refusal} {aft
 
       go : TextJudged (read text) before (said v) after → VerdictStage (given text) before r after
       go (TextJudged.unread m l is_read e kept) =
-          let both = same e in
+          let both = refusal_once (same e) in
           let n_is : number ≡ m = cc in
           let l_is : f.line ≡ l = cc in
           subst (VerdictStage (given text) before r) (sym kept) (verdict_refused text is_read (word ∙ ap₂ refusal_word n_is l_is))
       go (TextJudged.judged lines is_read (Err g) e judged) =
-          let both = same e in
+          let both = refusal_once (same e) in
           let n_is : number ≡ number_of g = cc in
           let l_is : f.line ≡ 0 = cc in
           verdict_goes_on text is_read

@@ -30,6 +30,7 @@ use Rattle.verdict_of.specs.Verdict.Word.{robust as robust_word_lem, danger as d
 use Rattle.verdict_of.specs.Verdict.Judged.{refused as refused_answer, judged as judged_answer}
 use Rattle.verdict_of.specs.TextVerdict.{TextJudged}
 use Rattle.verdict_of.specs.TextVerdict.TextJudged.{unread as not_read_lem, judged as judged_text}
+use Rattle.verdict_of.specs.TextVerdictLaws.{refusal_once}
 use Rattle.report_print.specs.declared.Printed.{Printed}
 use Rattle.report_print.specs.Printed.{printed_as, bytes_for}
 use Rattle.report_print.specs.ShownWalkLaws.{walk_shown}
@@ -94,13 +95,13 @@ module _ {w : Workload} (text : List ℕ) (is_read : read text ≡ accepted (lin
 
 -- ---- what the verdict on a text answers, printed
 
+judged_text_reported : (text : List ℕ) {before : List ℕ} → length before ≡ 260 → (lines : List Line) → read text ≡ accepted lines
+    → {answer : Told} {after : List ℕ} → Judged (value_of lines) before answer after → Report text (bytes_for answer after)
+judged_text_reported text {before} long lines is_read =
+    judged_reported text (is_read ∙ ap accepted (sym (lines_of_value lines))) (value_given text is_read) before long
+
 module _ (text : List ℕ) {before : List ℕ} {v : Result Verdict Refusal} {after : List ℕ} (answered : TextJudged (read text) before (said v) after)
     (long : length before ≡ 260) {r : Printed} where
-  judged_text_reported : (lines : List Line) → read text ≡ accepted lines → {answer : Told} → Judged (value_of lines) before answer after
-      → Report text (bytes_for answer after)
-  judged_text_reported lines is_read =
-      judged_reported text (is_read ∙ ap accepted (sym (lines_of_value lines))) (value_given text is_read) before long
-
   -- P3: a refusal, of the text or, with line 0, of its value
   pub reported_refused : (f : Refusal) {number : ℕ} → v ≡ Err f → number ≡ number_of f.fault → r ≡ printed_as (refusal_report number f.line)
       → Reported text r
@@ -112,19 +113,19 @@ module _ (text : List ℕ) {before : List ℕ} {v : Result Verdict Refusal} {aft
 
       go : TextJudged (read text) before (said v) after → Reported text r
       go (not_read_lem m l is_read is kept) =
-          let pair = same is in
+          let pair = refusal_once (same is) in
           let same_number : m ≡ number = cc in
           let same_line : l ≡ f.line = cc in
           reported_as (refusal number f.line (is_read ∙ ap₂ refused same_number same_line)) printed
-      go (judged_text lines is_read (Err g) is judged) =
-          let pair = same is in
+      go (judged_text lines is_read (Err g) is holds) =
+          let pair = refusal_once (same is) in
           let same_number : number_of g ≡ number = cc in
           let same_line : 0 ≡ f.line = cc in
           reported_as
           (subst (λ (n : ℕ). Report text (refusal_report n f.line)) same_number
-          (subst (λ (n : ℕ). Report text (refusal_report (number_of g) n)) same_line (judged_text_reported lines is_read judged)))
+          (subst (λ (n : ℕ). Report text (refusal_report (number_of g) n)) same_line (judged_text_reported text long lines is_read holds)))
           printed
-      go (judged_text lines is_read (Ok w) is judged) = let pair = same is in let z : ◌≡◌ {A = ℕ} 0 1 = cc in absurd (omega arith)
+      go (judged_text lines is_read (Ok w) is holds) = let pair = same is in let z : ◌≡◌ {A = ℕ} 0 1 = cc in absurd (omega arith)
 
   -- P1, P2: with an area of 65 steps the word
   pub reported_word : (w : Verdict) → v ≡ Ok w → r ≡ printed_as (bytes_for (told_word w) after) → Reported text r
@@ -135,12 +136,12 @@ module _ (text : List ℕ) {before : List ℕ} {v : Result Verdict Refusal} {aft
 
       go : TextJudged (read text) before (said v) after → Reported text r
       go (not_read_lem m l is_read is kept) = let pair = same is in let z : ◌≡◌ {A = ℕ} 0 1 = cc in absurd (omega arith)
-      go (judged_text lines is_read (Err g) is judged) = let pair = same is in let z : ◌≡◌ {A = ℕ} 0 1 = cc in absurd (omega arith)
-      go (judged_text lines is_read (Ok u) is judged) =
+      go (judged_text lines is_read (Err g) is holds) = let pair = same is in let z : ◌≡◌ {A = ℕ} 0 1 = cc in absurd (omega arith)
+      go (judged_text lines is_read (Ok u) is holds) =
           let pair = same is in
           let word : u ≡ w = cc in
           reported_as
-          (subst (λ (x : Verdict). Report text (bytes_for (told_word x) after)) word (judged_text_reported lines is_read judged))
+          (subst (λ (x : Verdict). Report text (bytes_for (told_word x) after)) word (judged_text_reported text long lines is_read holds))
           printed
 
 -- ---- nothing is free

@@ -1,25 +1,25 @@
 -- From the rows of a text to the verdict on it.
-use Rattle.std.specs.Prelude.{true, false, ◌≡◌, ℕ, ◌*◌, ◌/◌, ◌≤◌, ltb, take, drop, Result, Ok, Err}
+use Rattle.std.specs.Prelude.{false, ◌≡◌, ℕ, ◌*◌, ◌≤◌, ltb, take, Result, Ok, Err}
 use Rattle.refusal.specs.declared.Fault.{Fault}
 use Rattle.refusal.specs.declared.Fault.TheVariants.{Unfoldings}
 use Rattle.refusal.specs.declared.Refusal.{Refusal}
 use Rattle.refusal.specs.Numbers.{number_of}
 use Rattle.refusal.specs.Told.{told as said}
-use Rattle.refusal.specs.NumberLaws.{number_settles}
-use mathlib.Core.List.{List, ◌++◌}
+use Rattle.refusal.specs.Refusing.{same_fault}
+use mathlib.Core.List.{List}
 use Rattle.std.proofs.Math.Path.{refl, ap}
-use Rattle.std.proofs.Common.{sym, ap₂, subst, ◌∙◌, arith, length-append, ltb-false}
+use Rattle.std.proofs.Common.{sym, ap₂, subst, ◌∙◌, arith, ltb-false}
 use Rattle.std.proofs.Math.ListN.{length}
 use Rattle.std.proofs.Math.Seq.{take_at}
 use Rattle.law_base.specs.BoolLaws.{or_false}
 use Rattle.spec_text.specs.declared.Line.{Line}
 use Rattle.spec_text.specs.Reading.{Outcome, read}
 use Rattle.spec_text.specs.Reading.Outcome.{refused, accepted}
-use Rattle.spec_text.specs.Value.{Given, lines_of, value_of}
+use Rattle.spec_text.specs.Value.{lines_of, value_of}
 use Rattle.law_text.specs.ValueLaws.{lines_of_value, value_given}
 use Rattle.spec_graph.specs.Program.{programs_of}
-use Rattle.spec_graph.specs.Unfolding.{Node, nodes_of}
-use Rattle.spec_report.specs.State.{statements_in, is_too_many, short_for_walk}
+use Rattle.spec_graph.specs.Unfolding.{nodes_of}
+use Rattle.spec_report.specs.State.{statements_in, is_too_many}
 use Rattle.spec_report.specs.State.StateRefusal.{too_many}
 use Rattle.place_row.specs.RowTable.{rows_of, table_of}
 use Rattle.place_row.specs.RowTableLaws.{table_of_length}
@@ -49,6 +49,11 @@ err_ok e = let z : ◌≡◌ {A = ℕ} 0 1 = cc in omega arith
 -- an answer's refusal or its value does not depend on what else there could be
 same_err : {A B : Type 0} {e f : ℕ × ℕ} → ◌≡◌ {A = Result A (ℕ × ℕ)} (Err e) (Err f) → ◌≡◌ {A = Result B (ℕ × ℕ)} (Err e) (Err f)
 same_err {e = e} {f = f} same = let is : e ≡ f = cc in ap Err is
+
+-- a refusal's number and line are settled
+pub refusal_once : {A : Type 0} {number line m l : ℕ} → ◌≡◌ {A = Result A (ℕ × ℕ)} (Err (number, line)) (Err (m, l)) → (number ≡ m) × (line ≡ l)
+refusal_once {number = number} {line} {m} {l} e =
+    let both : ◌≡◌ {A = ℕ × ℕ} (number, line) (m, l) = cc in (ap (λ (p : ℕ × ℕ). p.0) both, ap (λ (p : ℕ × ℕ). p.1) both)
 
 ok_once : {A B : Type 0} {x y : A} → ◌≡◌ {A = Result A B} (Ok x) (Ok y) → x ≡ y
 ok_once e = cc
@@ -137,7 +142,7 @@ word_of (Told.danger c steps) = Verdict.Danger (record { programs = c.programs; 
 -- an answer is settled by what it tells
 same_told : (v w : Result Verdict Fault) → told v ≡ told w → v ≡ w
 unfolding word_of
-same_told (Err f) (Err g) e = let number : number_of f ≡ number_of g = cc in ap Err (number_settles f g number)
+same_told (Err f) (Err g) e = let number : number_of f ≡ number_of g = cc in ap Err (same_fault f g number)
 same_told (Err f) (Ok (Verdict.Robust c)) e = cc
 same_told (Err f) (Ok (Verdict.Danger c steps)) e = cc
 same_told (Ok (Verdict.Robust c)) (Err f) e = cc
@@ -153,9 +158,9 @@ same_said (Ok v) (Ok w) e = let same : v ≡ w = cc in ap Ok same
 same_said (Ok v) (Err f) e = absurd (err_ok (sym e))
 same_said (Err f) (Ok v) e = absurd (err_ok e)
 same_said (Err f) (Err g) e =
-    let number : number_of f.fault ≡ number_of g.fault = cc in
-    let line : f.line ≡ g.line = cc in
-    let fault = number_settles f.fault g.fault number in
+    let both = refusal_once e in
+    let fault = same_fault f.fault g.fault both.0 in
+    let line = both.1 in
     λ i. Err (record { fault = fault i; line = line i })
 
 -- Req 01: the text and the area before settle the answer and the area after

@@ -1,6 +1,5 @@
 -- What became of an input. Believed.
 use Rattle.std.specs.Prelude.{ℕ}
-use Rattle.stdin.specs.declared.Input.{Input}
 use Rattle.stdin.specs.Ends.{Ends}
 use Rattle.verdict_run.specs.declared.Answer.{Answer}
 use Rattle.verdict_run.specs.declared.Answer.TheVariants.{Shown, Cut, Unread}

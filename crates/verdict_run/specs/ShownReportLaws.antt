@@ -1,15 +1,15 @@
 -- A report of the bytes that were read may be shown.
-use Rattle.std.specs.Prelude.{Bool, true, false, List, ◌++◌, ◌≡◌, refl, ℕ, ◌≤◌, ◌<◌, leb, length, take}
+use Rattle.std.specs.Prelude.{List, ◌++◌, ◌≡◌, ℕ, ◌≤◌, ◌<◌, leb, length, take}
 use Rattle.std.proofs.Common.{sym, ap, subst, ◌∙◌, arith, length-append, take_all, length-take-le}
 use Rattle.std.proofs.lemmas.Bool.{lt-leb}
-use Rattle.spec_text.specs.Reading.{Outcome, read}
-use Rattle.spec_text.specs.Reading.Outcome.{refused, accepted}
+use Rattle.spec_text.specs.Reading.{read}
+use Rattle.spec_text.specs.Reading.Outcome.{refused}
 use Rattle.spec_report.specs.Report.{Report}
 use Rattle.spec_report.specs.Report.Report.{refusal, unfolding_refusal, robust, danger}
 use Rattle.stdin.specs.declared.Input.{Input}
 use Rattle.stdin.specs.declared.Input.TheVariants.{Ended, Full, Failed}
 use Rattle.stdin.specs.Ends.{Ends}
-use Rattle.verdict_run.specs.ShownReport.{Came, bytes_read, ReportRead, Shows}
+use Rattle.verdict_run.specs.ShownReport.{Came, bytes_read, Shows}
 
 -- texts that read alike have the same report
 same_reading : {text other bytes : List ℕ} → read other ≡ read text → Report text bytes → Report other bytes

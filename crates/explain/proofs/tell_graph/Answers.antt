@@ -1,7 +1,6 @@
 -- It is safe: the rows of a filled table lie inside it (whole-filled).
 use native.Mathlib.Omega.{arith}
 use mathlib.Core.Path.{sym}
-use borrow.Author.Rules.{rules}
 use lib.Seq.{length-take-le}
 use Rattle.place_table.specs.Whole.{whole_filled}
 use Rattle.explain.proofs.tell_graph.Goals as goal

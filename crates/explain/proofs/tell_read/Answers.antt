@@ -1,6 +1,5 @@
 -- It is safe: as many bytes are taken of the area as the test says it has.
 use mathlib.Core.Path.{sym}
-use borrow.Author.Rules.{rules}
 use lib.Seq.{length-take-le}
 use Rattle.explain.proofs.tell_read.Goals as goal
 

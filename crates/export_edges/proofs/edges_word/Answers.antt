@@ -1,6 +1,5 @@
 -- A refusal of the text gives its word; else what became of the edges does.
 use mathlib.Core.Path.{◌∙◌}
-use borrow.Author.Rules.{rules}
 use Rattle.export_edges.specs.ToldLaws.{word_unread, word_put}
 use Rattle.export_edges.proofs.edges_word.Goals as goal
 

@@ -1,5 +1,4 @@
 -- The count, or the refusal's word.
-use borrow.Author.Rules.{rules}
 use Rattle.export_edges.specs.ToldLaws.{all_word, refused_word}
 use Rattle.export_edges.proofs.put_word.Goals as goal
 

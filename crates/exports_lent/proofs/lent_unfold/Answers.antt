@@ -1,13 +1,7 @@
 -- A refusal of the text gives its word and leaves the area (unfold_refused); else its lines stand in the table, and are unfolded into the area
 -- (lines_unfolded).
 use native.Mathlib.Omega.{arith}
-use mathlib.Core.Path.{subst}
-use mathlib.Core.List.{List}
-use Rattle.std.specs.Prelude.{ℕ, Result}
-use Rattle.refusal.specs.declared.Refusal.{Refusal}
-use Rattle.refusal.specs.Told.{told as said}
 use Rattle.spec_text.specs.Reading.{read}
-use Rattle.text_table.specs.Tabled.{TextTabled}
 use Rattle.place_text.specs.PlacedLaws.{lines_read_lem}
 use Rattle.exports_lent.specs.StageLaws.{table_unread, unfold_refused, lines_unfolded, tabled_at}
 use Rattle.exports_lent.proofs.lent_unfold.Goals as goal

@@ -2,7 +2,6 @@
 use mathlib.Core.Path.{sym}
 use native.Mathlib.Omega.{arith}
 use lib.Seq.{length-take-le}
-use borrow.Author.Rules.{rules}
 use Rattle.place_table.specs.Whole.{whole_filled}
 use Rattle.inspect.proofs.list_edges.Goals as goal
 

@@ -1,7 +1,6 @@
 -- A refusal of the table is the verdict's (judged-rows); else the word by the rows of the workload's places is the word (rows_whole).
 use native.Mathlib.Omega.{arith}
 use mathlib.Core.Path.{sym}
-use borrow.Author.Rules.{rules}
 use Prim.Native.Nat.{ℕ}
 use lib.ListN.{length-replicate}
 use lib.Seq.{length-take-le}

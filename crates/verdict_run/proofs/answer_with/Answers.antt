@@ -1,8 +1,4 @@
 -- Each arm of the match knows which way reading ended, and `read_input` ensures what that way says of the reads; a failed one is no text that came.
-use mathlib.Core.Path.{subst}
-use lib.ListN.{length}
-use borrow.Author.Rules.{rules}
-use Rattle.stdin.specs.Ends.{Ends}
 use Rattle.verdict_run.proofs.answer_with.Goals as goal
 
 pub report_read-requires-clause-ends : goal.report_read-requires-clause-ends

@@ -4,7 +4,6 @@ use mathlib.Core.Path.{subst, sym}
 use mathlib.Core.List.{List}
 use Prim.Native.Nat.{ℕ}
 use lib.ListN.{length, take}
-use borrow.Author.Rules.{rules}
 use Rattle.spec_report.specs.Report.{Report}
 use Rattle.verdict_run.specs.ShownReport.{Shows}
 use Rattle.verdict_run.specs.ShownReportLaws.{report_shown, read_fits, first_bytes}

@@ -1,5 +1,4 @@
 -- What a caller had to show of the report says how reading ended, and that no read failed.
-use borrow.Author.Rules.{rules}
 use Rattle.verdict_run.specs.ShownReportLaws.{shown_came}
 use Rattle.verdict_run.proofs.show.Goals as goal
 
