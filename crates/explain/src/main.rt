@@ -12,6 +12,7 @@ use place_row::{ROW_SLOTS, ROW_WORDS, ROWS, SLOTS, TABLE_WORDS};
 use spec_text::Workload;
 use std::io::{Stdout, Write};
 use stdin::Input;
+use unfold::{NO_UNFOLDING, Unfolding};
 use unfold_choice::{Choices, TAKEN};
 use unfold_laws::{UNFOLDINGS, WORD_LINES};
 use unfold_program::{ProgramUnfoldings, program_unfoldings};
@@ -92,24 +93,21 @@ fn tell_unfolds(out: Stdout, w: Workload) {
 
 // ---- programs and nodes
 
-// The tables of a workload: the places of its nodes, the program of each node, where its statements start and how many they are, and the lines of
-// all.
+// The tables of a workload: the places of its nodes, the unfolding of each node, and the lines of all.
 #[derive(Clone, Copy)]
 struct Tables<'a> {
     table: &'a [u64],
-    programs: &'a [u8],
-    starts: &'a [u64],
-    lengths: &'a [u64],
+    unfoldings: &'a [Unfolding],
     words: &'a [u64],
     nodes: u64,
 }
 
 // How many of the first nodes are of programs before one: programs go in order, so these are the nodes before its own. Cells past the last node are
 // of no node, so that they may count.
-fn nodes_before(programs: &[u8], program: u64) -> u64 {
-    programs
+fn nodes_before(unfoldings: &[Unfolding], program: u64) -> u64 {
+    unfoldings
         .iter()
-        .take_while(|p| u64::from(**p) < program)
+        .take_while(|u| u64::from(u.program) < program)
         .count() as u64
 }
 
@@ -119,8 +117,8 @@ fn tell_program(out: Stdout, w: Workload, t: Tables, p: u64) {
         Ok(Some(u)) => u,
         _ => ProgramUnfoldings::default(),
     };
-    let first = nodes_before(t.programs, p);
-    let next = nodes_before(t.programs, p % 16 + 1);
+    let first = nodes_before(t.unfoldings, p);
+    let next = nodes_before(t.unfoldings, p % 16 + 1);
     let c = edge_between::count_between(t.table, first, next, 0, UNFOLDINGS as u64);
     tell(
         out,
@@ -170,10 +168,18 @@ fn tell_nodes(out: Stdout, w: Workload, nodes: u64) {
 }
 
 impl Tables<'_> {
+    // The unfolding of a node; of a number past the last, that of no node.
+    fn unfolding(self, node: u64) -> Unfolding {
+        self.unfoldings
+            .get(node as usize)
+            .copied()
+            .unwrap_or(NO_UNFOLDING)
+    }
+
     // The place's number among the places of all nodes, by where each node's start.
     fn row_of(self, node: u64, place: u64) -> usize {
         let rows = ROWS as u64;
-        ((word_at(self.starts, node as usize) % rows + place % rows) % rows) as usize
+        ((self.unfolding(node).start % rows + place % rows) % rows) as usize
     }
 
     // The line of the statement in a row.
@@ -186,7 +192,7 @@ impl Tables<'_> {
 fn tell_places_of(out: Stdout, t: Tables, node: u64) {
     print(out, b"places");
     print_numbers(out, &[node]);
-    for i in 0..word_at(t.lengths, node as usize) {
+    for i in 0..t.unfolding(node).length {
         print_numbers(out, &[t.row_line(t.row_of(node, i))]);
     }
     print(out, b"\n");
@@ -379,9 +385,7 @@ fn tell_all(out: Stdout, w: Workload, table: &[u64], programs: u64, walk: Walk) 
     };
     let tables = Tables {
         table,
-        programs: &told.program,
-        starts: &told.start,
-        lengths: &told.length,
+        unfoldings: &told.unfoldings,
         words: &words,
         nodes: told.count,
     };

@@ -8,6 +8,7 @@ use Rattle.spec_text.specs.declared.Workload.{Workload}
 use Rattle.spec_text.specs.Reading.{read}
 use Rattle.text_read.specs.Parse.{parsed_as}
 use Rattle.unfold.specs.declared.Unfolded.{Unfolded}
+use Rattle.unfold.specs.UnfoldTold.{no_unfolding}
 use Rattle.unfold.specs.UnfoldSettled.{Settled}
 use Rattle.verdict_told.specs.Told.{Told}
 use Rattle.verdict_of.specs.Verdict.{Judged}
@@ -26,13 +27,15 @@ unfoldable pub read_word : Result Workload (ℕ × ℕ) → ℕ
 read_word (Ok w) = value_word (middle_line w) w.count
 read_word (Err refusal) = refusal_word refusal.0 refusal.1
 
--- the row of the last node; 63 where there is no node
+-- the cell of the last node; 63 where there is no node
 abbrev pub last_row : Unfolded → ℕ
 last_row u = (u.count % 64 + 63) % 64
 
 -- nodes, and where the last one's statements end
 abbrev pub last_node_told : Unfolded → ℕ
-last_node_told u = nodes_word u.count (get_or u.start (last_row u) 0) (get_or u.length (last_row u) 0)
+last_node_told u =
+    let last = get_or u.unfoldings (last_row u) no_unfolding in
+    nodes_word u.count last.start last.length
 
 unfoldable pub unfold_word : Result Unfolded Fault → ℕ
 unfold_word (Ok u) = last_node_told u

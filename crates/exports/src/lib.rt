@@ -34,8 +34,8 @@ fn unfold_word(u: Result<Unfolded, Fault>) -> u32
 {
     match u {
         Ok(u) => {
-            let last = ((u.count % 64 + 63) % 64) as usize;
-            nodes_word(u.count, u.start[last], u.length[last])
+            let last = u.unfoldings[((u.count % 64 + 63) % 64) as usize];
+            nodes_word(u.count, last.start, last.length)
         }
         Err(fault) => refusal_word(fault.number(), 0),
     }

@@ -9,7 +9,7 @@ use edge_record::Edge;
 use place_row::{ROWS, TABLE_WORDS};
 use spec_text::{CELLS, Line, LineKind, StatementKind, Workload};
 use std::io::{Stdout, Write};
-use unfold::Unfolded;
+use unfold::{Unfolded, Unfolding};
 use verdict_told::Verdict;
 use walk_first::WALK_WORDS;
 
@@ -106,17 +106,10 @@ fn list_lines(mut out: Stdout, w: Workload) {
 // ---- unfoldings
 
 // An unfolding: its number, its program, where it starts and how long it is, then its statements, which all lie in the area.
-fn print_unfolding(
-    mut out: Stdout,
-    node: u64,
-    program: u8,
-    start: u64,
-    length: u64,
-    statements: &[u64; ROWS],
-) {
-    let _ = write!(out, "{node} {program} {start} {length}");
-    for k in 0..length {
-        let at = (start as usize % ROWS + k as usize % ROWS) % ROWS;
+fn print_unfolding(mut out: Stdout, node: u64, u: Unfolding, statements: &[u64; ROWS]) {
+    let _ = write!(out, "{node} {} {} {}", u.program, u.start, u.length);
+    for k in 0..u.length {
+        let at = (u.start as usize % ROWS + k as usize % ROWS) % ROWS;
         print_numbers(out, &[statements[at]]);
     }
     print(out, b"\n");
@@ -133,14 +126,7 @@ fn list_unfoldings(out: Stdout, w: Workload) {
     };
     print(out, b"node program start length statements\n");
     for i in 0..64.min(told.count as usize) {
-        print_unfolding(
-            out,
-            i as u64,
-            told.program[i],
-            told.start[i],
-            told.length[i],
-            &statements,
-        );
+        print_unfolding(out, i as u64, told.unfoldings[i], &statements);
     }
 }
 
@@ -255,9 +241,9 @@ fn show_put(out: Stdout, w: Workload) {
 
 // Where the statements of the last unfolding end.
 fn last_end(told: Unfolded) -> u64 {
-    let last = ((told.count % 64 + 63) % 64) as usize;
+    let last = told.unfoldings[((told.count % 64 + 63) % 64) as usize];
     let rows = ROWS as u64;
-    told.start[last] % rows + told.length[last] % rows
+    last.start % rows + last.length % rows
 }
 
 // The unfoldings put into so much of an area of twelve cells, all marked with 77. Answers where the last one's statements end.
