@@ -381,6 +381,7 @@ fn tell_pair(out: Stdout, t: Tables, walk: Walk) {
 fn tell_all(out: Stdout, w: Workload, table: &[u64], programs: u64, walk: Walk) {
     let mut words = [0u64; ROWS];
     let Ok(told) = unfold::unfold_places(w, &mut words) else {
+        // Never met: the rows of this value are filled, so its unfoldings are not refused either.
         return;
     };
     let tables = Tables {
