@@ -14,7 +14,7 @@ pub const INPUT_BYTES: usize = 65536;
 // The bytes of the area that an argument is read into.
 pub const WORD_BYTES: usize = 4096;
 
-// How many bytes an area takes of a file: until the file ends, the area is full or a read fails.
+// How many bytes an area takes of a file: until the file ends, the area is full or a read fails. It stays a loop: each read tells how far it came.
 pub fn read_full<R: Read>(file: &mut R, area: &mut [u8]) -> usize
     ensures { result ≤ length area.new }
 {

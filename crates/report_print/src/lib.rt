@@ -20,7 +20,7 @@ pub const REPORT_BYTES: usize = 8192;
 // So many steps of a walk are shown (W5).
 const SHOWN_STEPS: usize = 65;
 
-// A report: how many bytes it has, and the bytes with zeros after them.
+// A report: how many bytes it has, and the bytes with zeros after them. There is no heap: the bytes stand in as many cells as any report has.
 #[derive(Clone, Copy)]
 pub struct Printed {
     pub length: usize,

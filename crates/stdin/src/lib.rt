@@ -9,7 +9,8 @@ ghost use Rattle.stdin.specs.Ends.{Ends};
 pub use reads::Received;
 use std::io::Stdin;
 
-// How reading ended, each time with the reads that were made: the input ended; the area is full; a read failed.
+// How reading ended, each time with the reads that were made: the input ended; the area is full; a read failed. An enum and no Result: what is promised
+// of each of the three is another thing, and a read that failed has brought bytes too.
 #[derive(Clone, Copy)]
 pub enum Input {
     Ended(Received),
@@ -19,7 +20,8 @@ pub enum Input {
 
 // Reads into an area until the input ends, the area is full or a read fails, and tells these three apart: a text that is cut off at
 // a line's end is a text too. A read that brings fewer bytes than it was lent room for is none of the three. What the area holds is the
-// system's choice: reading's contract leaves every byte that it is lent free, so no promise on them could tell this function from a wrong one.
+// system's choice: reading's contract leaves every byte that it is lent free, so no promise on them could tell this function from a wrong one. It
+// stays a loop: each read tells how far it came.
 pub fn read_input(stdin: Stdin, area: &mut [u8]) -> Input
     ensures { Ends (length area.new) result }
 {

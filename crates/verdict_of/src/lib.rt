@@ -102,7 +102,8 @@ fn on_text(v: Result<Verdict, Fault>) -> Result<Verdict, Refusal>
 }
 
 // The verdict on any text, with the first dangerous walk at the front of the area. The rows of its places stand in `rows`; the other words are lent
-// to work in: what they hold afterwards is free. That a text gives the value is known from reading it, so it is not decided again (S21).
+// to work in: what they hold afterwards is free. That a text gives the value is known from reading it, so it is not decided again (S21). The words
+// are lent one by one, as callers in C lend them.
 pub fn text_verdict(
     text: &[u8],
     state: &mut [u64; line_state::WORDS],

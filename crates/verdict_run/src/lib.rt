@@ -14,7 +14,8 @@ ghost use Rattle.verdict_run.specs.Answered.{Answered};
 use std::io::Write;
 use stdin::Input;
 
-// What became of an input, and how reading it ended: standard output took its whole report; it did not; there is no report, since a read failed.
+// What became of an input, and how reading it ended: standard output took its whole report; it did not; there is no report, since a read failed. An
+// enum and no Result: each of the three has how reading ended.
 #[derive(Clone, Copy)]
 pub enum Answer {
     Shown(Input),
