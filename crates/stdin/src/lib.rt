@@ -9,8 +9,8 @@ ghost use Rattle.stdin.specs.Ends.{Ends};
 pub use reads::Received;
 use std::io::Stdin;
 
-// How reading ended, each time with the reads that were made: the input ended; the area is full; a read failed. An enum and no Result: what is promised
-// of each of the three is another thing, and a read that failed has brought bytes too.
+// How reading ended, each time with the reads that were made: the input ended; the area is full; a read failed. An enum and no Result: of each of the
+// three another thing is promised, and before a read that failed others may have brought bytes.
 #[derive(Clone, Copy)]
 pub enum Input {
     Ended(Received),
