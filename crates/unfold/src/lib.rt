@@ -117,7 +117,9 @@ fn write_stretch(source: &Source, seen: u32, at: usize, out: &mut [u64]) -> Stre
     ensures { Stretched (codes_in source.now) (words_in source.now) (marks_in source.now) seen at
         out.old result out.new }
 {
-    let n = lines_in(source.lines);
+    // A copy, so that what it holds is not read again after each store.
+    let here = *source;
+    let n = lines_in(here.lines);
     let mut sees = seen;
     for m in 0..out.len() {
         let line = at + m;
@@ -127,7 +129,7 @@ fn write_stretch(source: &Source, seen: u32, at: usize, out: &mut [u64]) -> Stre
                 block: None,
             };
         }
-        let code = code_at(source.lines, line);
+        let code = code_at(here.lines, line);
         match code {
             LineCode::Statement => {}
             _ => {
@@ -137,8 +139,8 @@ fn write_stretch(source: &Source, seen: u32, at: usize, out: &mut [u64]) -> Stre
                 };
             }
         }
-        out[m] = place_word(source, line, sees);
-        sees |= mark_by(source, line);
+        out[m] = place_word(&here, line, sees);
+        sees |= mark_by(&here, line);
     }
     Stretch {
         many: out.len(),
