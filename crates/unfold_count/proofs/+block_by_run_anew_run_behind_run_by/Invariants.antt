@@ -1,0 +1,16 @@
+-- The measure is four times `left`, one more for a run at a place, two for a block and three for a run at a line: a run past the words goes to the
+-- line with one less left, the others call with as many.
+use Rattle.std.proofs.Common.{◌+◌, ◌*◌}
+use Rattle.unfold_count.proofs.+block_by_run_anew_run_behind_run_by.Given as goal
+
+abbrev pub decreases-block_by : goal.decreases-block_by
+decreases-block_by l = 4 * l.left + 2
+
+abbrev pub decreases-run_anew : goal.decreases-run_anew
+decreases-run_anew l = 4 * l.left
+
+abbrev pub decreases-run_behind : goal.decreases-run_behind
+decreases-run_behind l = 4 * l.left + 3
+
+abbrev pub decreases-run_by : goal.decreases-run_by
+decreases-run_by l = 4 * l.left + 1
