@@ -4,11 +4,11 @@
 
 use check::same;
 use console::{INPUT_BYTES, WORD_BYTES, argument, open_read, read_full};
-use refusal::{Fault, Refusal};
+use refusal::Refusal;
 use spec_text::{CELLS, Line, LineKind, Workload};
 use std::io::{Stdout, Write};
 use text_read::read_text;
-use value_part::{NotGiven, part_of};
+use value_part::part_of;
 
 // ---- what is printed
 
@@ -36,7 +36,7 @@ fn show_part(out: Stdout, whole: Workload, group: u16, parsed: Result<Workload, 
     };
     match part_of(whole, group) {
         Ok(part) => print_same(out, part == w),
-        Err(_) => print_refused(out, Fault::NotGiven.number()),
+        Err(refused) => print_refused(out, refused.fault.number()),
     }
 }
 
@@ -46,7 +46,7 @@ fn show_part(out: Stdout, whole: Workload, group: u16, parsed: Result<Workload, 
 fn show_near(mut out: Stdout, near: Workload) {
     let (number, back) = match part_of(near, u16::MAX) {
         Ok(part) => (0, part),
-        Err(NotGiven(back)) => (Fault::NotGiven.number(), back),
+        Err(refused) => (refused.fault.number(), refused.work),
     };
     let _ = write!(out, ": {number}");
     print_same(out, back == near);
