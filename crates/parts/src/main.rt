@@ -7,7 +7,7 @@ use console::{INPUT_BYTES, WORD_BYTES, argument, open_read, read_full};
 use refusal::Refusal;
 use spec_text::{CELLS, Line, LineKind, Workload};
 use std::io::{Stdout, Write};
-use text_read::read_text;
+use text_read::{read_text, work_of};
 use value_part::part_of;
 
 // ---- what is printed
@@ -111,19 +111,16 @@ fn no_value() -> Workload {
     value_unused::unused_cells(CELLS + 1)
 }
 
-// The whole that a file gives; of one that some text gives also what is answered for values near it.
+// The whole that a file gives: of a refused text a value that no text gives. Of one that some text gives also what is answered for values near it.
 fn take_whole(out: Stdout, parsed: Result<Workload, Refusal>) -> Workload {
     match parsed {
         Ok(w) => {
             print(out, b"\n");
             show_all_near(out, w);
-            w
         }
-        Err(r) => {
-            print_refused(out, r.fault.number());
-            no_value()
-        }
+        Err(r) => print_refused(out, r.fault.number()),
     }
+    work_of(parsed)
 }
 
 // What two words ask.
