@@ -4,11 +4,11 @@
 
 use check::same;
 use console::{INPUT_BYTES, WORD_BYTES, argument, open_read, read_full};
-use refusal::{Fault, Refusal};
+use refusal::Refusal;
 use spec_text::{CELLS, Line, LineKind, Workload};
 use std::io::{Stdout, Write};
-use text_read::read_text;
-use value_part::{NotGiven, part_of};
+use text_read::{read_text, work_of};
+use value_part::part_of;
 
 // ---- what is printed
 
@@ -36,7 +36,7 @@ fn show_part(out: Stdout, whole: Workload, group: u16, parsed: Result<Workload, 
     };
     match part_of(whole, group) {
         Ok(part) => print_same(out, part == w),
-        Err(_) => print_refused(out, Fault::NotGiven.number()),
+        Err(refused) => print_refused(out, refused.fault.number()),
     }
 }
 
@@ -46,7 +46,7 @@ fn show_part(out: Stdout, whole: Workload, group: u16, parsed: Result<Workload, 
 fn show_near(mut out: Stdout, near: Workload) {
     let (number, back) = match part_of(near, u16::MAX) {
         Ok(part) => (0, part),
-        Err(NotGiven(back)) => (Fault::NotGiven.number(), back),
+        Err(refused) => (refused.fault.number(), refused.work),
     };
     let _ = write!(out, ": {number}");
     print_same(out, back == near);
@@ -111,19 +111,16 @@ fn no_value() -> Workload {
     value_unused::unused_cells(CELLS + 1)
 }
 
-// The whole that a file gives; of one that some text gives also what is answered for values near it.
+// The whole that a file gives: of a refused text a value that no text gives. Of one that some text gives also what is answered for values near it.
 fn take_whole(out: Stdout, parsed: Result<Workload, Refusal>) -> Workload {
     match parsed {
         Ok(w) => {
             print(out, b"\n");
             show_all_near(out, w);
-            w
         }
-        Err(r) => {
-            print_refused(out, r.fault.number());
-            no_value()
-        }
+        Err(r) => print_refused(out, r.fault.number()),
     }
+    work_of(parsed)
 }
 
 // What two words ask.

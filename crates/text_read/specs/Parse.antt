@@ -1,4 +1,4 @@
--- What reading a text answers, and the steps of the code that reads it. Believed: `parsed_as`.
+-- What reading a text answers, and the steps of the code that reads it. Believed: `parsed_as`, `work_of`.
 use Rattle.std.specs.Prelude.{List, [], ◌≡◌, ℕ, drop, Result, Ok, Err}
 use Rattle.spec_text.specs.declared.Line.{Line}
 use Rattle.spec_text.specs.declared.Workload.{Workload}

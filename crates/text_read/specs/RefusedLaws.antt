@@ -1,4 +1,4 @@
--- S21: what a refused text is read into is no value that a text gives, so no later call takes it.
+-- S21: what a refused text is read into (`work_of`) is no value that a text gives, so no later call takes it.
 use Rattle.std.specs.Prelude.{List, ◌≡◌, refl, ℕ}
 use Rattle.std.proofs.Common.{subst}
 use Rattle.spec_text.specs.declared.Line.{Line}

@@ -5,11 +5,11 @@ ghost use Rattle.std.specs.Prelude.{◌≡◌, [], drop};
 ghost use Rattle.refusal.specs.Told.{told};
 ghost use Rattle.spec_text.specs.Text.{lines_in};
 ghost use Rattle.spec_text.specs.Reading.{read_lines, read};
-ghost use Rattle.text_read.specs.Parse.{parsed_as};
+ghost use Rattle.text_read.specs.Parse.{parsed_as, work_of};
 
 use line_rules::take_tested;
 use refusal::{Fault, Refusal};
-use spec_text::Workload;
+use spec_text::{CELLS, Workload};
 use text_fields::line_in;
 use value_unused::unused_cells;
 
@@ -45,4 +45,15 @@ pub fn read_text(text: &[u8]) -> Result<Workload, Refusal>
 {
     let place = text_whole::whole_text(text)?;
     read_lines(text, place)
+}
+
+// The value that an answer of reading gives. A refused text gives none: in its place stands a value that no text gives (`no_workload`), which every
+// later call refuses, so nobody who goes on with it can take the text for an accepted one.
+pub fn work_of(r: Result<Workload, Refusal>) -> Workload
+    ensures { result ≡ work_of (told r) }
+{
+    match r {
+        Ok(w) => w,
+        Err(_) => unused_cells(CELLS + 1),
+    }
 }

@@ -8,11 +8,15 @@ ghost use Rattle.spec_text.specs.Value.{Given};
 ghost use Rattle.value_part.specs.Parted.{Parted};
 ghost use Rattle.value_part.specs.PartSteps.{numbered_as, gone_on};
 
+use refusal::Fault;
 use spec_text::{Line, LineKind, Workload};
 
-// A value that no text gives, handed back as it is.
+// A value that no text gives, handed back as it is beside the fault that says so.
 #[derive(Clone, Copy)]
-pub struct NotGiven(pub Workload);
+pub struct NotGiven {
+    pub fault: Fault,
+    pub work: Workload,
+}
 
 // How far the lines of the whole have been gone through: how many programs were passed, how many of them were chosen, and whether the lines at
 // hand are kept.
@@ -95,12 +99,16 @@ fn kept_lines(w: Workload, group: u16) -> Workload
     part
 }
 
-// The part of a value that a group of its programs makes: bit k of the group chooses program k. A value that no text gives is handed back.
+// The part of a value that a group of its programs makes: bit k of the group chooses program k. A value that no text gives is handed back beside
+// its fault, 21.
 pub fn part_of(w: Workload, group: u16) -> Result<Workload, NotGiven>
     ensures { Parted w group result }
 {
     if !value_given::is_given(w) {
-        return Err(NotGiven(w));
+        return Err(NotGiven {
+            fault: Fault::NotGiven,
+            work: w,
+        });
     }
     Ok(kept_lines(w, group))
 }
