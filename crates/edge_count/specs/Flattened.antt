@@ -17,8 +17,8 @@ use Rattle.place_row.specs.RowTable.{row_at, row_count, row_forward, row_back, r
 use Rattle.law_base.specs.FlatLaws.{flat_map_map, flat_map_append, flat_map_same, flat_map_none}
 use Rattle.edge_count.specs.declared.Counts.{Counts}
 use Rattle.edge_count.specs.Slots.{table_edges, table_counts, slots, left_row, right_row, stands_at, slot_edge}
-use Rattle.edge_count.specs.Slots.{one, edges_below, back_below, counts_below}
-use Rattle.edge_count.specs.SlotLaws.{rows_small}
+use Rattle.edge_count.specs.Slots.{one, edges_below, back_below, counts_below, counts_plus, edges_leaving, row_counts, LeavingTo}
+use Rattle.edge_count.specs.SlotLaws.{rows_small, rows_few, edges_few, back_few, plus_parts, row_counted}
 
 -- ---- numbers in rows
 
@@ -184,6 +184,72 @@ module _ (table : List ℕ) where
     edges = (edges_below_lem (slots table) ∙ sym (ap length edges_flat)) i;
     back = (back_below_lem (slots table) ∙ sym (ap (count (λ e. G.is_back e.flow)) edges_flat)) i;
   }
+
+-- ---- the edges that leave a row
+
+module _ (table : List ℕ) (i : ℕ) where
+  -- they are what stands in its slots
+  leaving_flat : edges_leaving table i ≡ flat_map (slot_edges table) (numbers_from (i * 1024) 1024)
+  unfolding table_rows
+  leaving_flat =
+      flat_map_map (row_edges (row_at table i)) (row_at table) (numbers (row_count table))
+      ∙ row_flat table (row_at table i)
+      ∙ row_part (λ i y. row_slot table (row_at table i) y) 1024 i 0 1024 (omega arith)
+      ∙ ap (λ (b : ℕ). flat_map (λ x. row_slot table (row_at table (x / 1024)) (x % 1024)) (numbers_from b 1024)) (add-zero (i * 1024))
+      ∙ flat_map_same _ _ (numbers_from (i * 1024) 1024) (λ x h. slot_is table x)
+
+  -- what stands in the slots of all rows up to this one
+  leaving_next : flat_map (slot_edges table) (numbers (i * 1024 + 1024))
+      ≡ flat_map (slot_edges table) (numbers (i * 1024)) ++ edges_leaving table i
+  leaving_next =
+      ap (flat_map (slot_edges table)) (numbers_from_append 0 (i * 1024) 1024)
+      ∙ flat_map_append (slot_edges table) (numbers (i * 1024)) (numbers_from (0 + i * 1024) 1024)
+      ∙ ap (λ (b : ℕ). flat_map (slot_edges table) (numbers (i * 1024)) ++ flat_map (slot_edges table) (numbers_from b 1024)) (zero-add (i * 1024))
+      ∙ ap (λ (l : List E.Edge). flat_map (slot_edges table) (numbers (i * 1024)) ++ l) (sym leaving_flat)
+
+  -- so they and the edges below its slots are the edges below the next row's
+  pub leaving_edges : {c : Counts} → c ≡ row_counts table i → edges_below table (i * 1024) + c.edges ≡ edges_below table (i * 1024 + 1024)
+  unfolding row_counts
+  leaving_edges e =
+      ap₂ ◌+◌ (edges_below_lem table (i * 1024)) (ap (λ (c : Counts). c.edges) e)
+      ∙ sym (length-append (flat_map (slot_edges table) (numbers (i * 1024))) (edges_leaving table i))
+      ∙ sym (ap length leaving_next)
+      ∙ sym (edges_below_lem table (i * 1024 + 1024))
+
+  leaving_back : {c : Counts} → c ≡ row_counts table i → back_below table (i * 1024) + c.back ≡ back_below table (i * 1024 + 1024)
+  unfolding row_counts
+  leaving_back e =
+      ap₂ ◌+◌ (back_below_lem table (i * 1024)) (ap (λ (c : Counts). c.back) e)
+      ∙ sym (count_append (λ e. G.is_back e.flow) (flat_map (slot_edges table) (numbers (i * 1024))) (edges_leaving table i))
+      ∙ sym (ap (count (λ e. G.is_back e.flow)) leaving_next)
+      ∙ sym (back_below_lem table (i * 1024 + 1024))
+
+  -- a row's edges into all rows are those that leave it
+  pub leaving_all : {j : ℕ} {counts : Counts} → j ≡ row_count table → LeavingTo table i j counts → counts ≡ row_counts table i
+  unfolding counts_below
+  leaving_all {j} {counts} rows to =
+      let all = row_counted table i j _ _ rows to.edges to.back in
+      let whole = ap (λ (c : Counts). c.edges) all in
+      let whole_back = ap (λ (c : Counts). c.back) all in
+      let edges = leaving_edges {c = row_counts table i} refl in
+      let back = leaving_back {c = row_counts table i} refl in
+      ap₂ (λ (a b : ℕ). record { edges = a; back = b }) (omega (arith, whole, edges)) (omega (arith, whole_back, back))
+
+  -- the counts below a row's slots and those of the row are the counts below the next row's: no sum passes 64 bits
+  pub counts_more : {n : ℕ} {counts more r : Counts} → n ≡ row_count table → i < n → counts ≡ counts_below table (i * 1024)
+      → more ≡ row_counts table i → r ≡ counts_plus counts more → r ≡ counts_below table (i * 1024 + 1024)
+  unfolding counts_below
+  counts_more {n} {counts} {more} rows inside e told is =
+      let few = rows_few table n rows in
+      let edges = ap (λ (c : Counts). c.edges) e in
+      let back = ap (λ (c : Counts). c.back) e in
+      let edges_next = leaving_edges told in
+      let back_next = leaving_back told in
+      let most = edges_few table (i * 1024 + 1024) _ refl in
+      let back_most = back_few table (i * 1024 + 1024) _ refl in
+      let sum = plus_parts counts more is (omega (arith, edges, edges_next, most, few, inside)) (omega (arith, back, back_next, back_most, few, inside)) in
+      ap₂ (λ (a b : ℕ). record { edges = a; back = b })
+      (omega (arith, sum.0, edges, edges_next)) (omega (arith, sum.1, back, back_next))
 
 -- the counts below all rows are the counts of the table
 pub counts_all : (table : List ℕ) (n i : ℕ) (counts : Counts)

@@ -11,7 +11,7 @@ use Rattle.place_row.specs.declared.Row.{Row}
 use Rattle.place_row.specs.RowTable.{row_at, row_count, row_forward, row_back, row_stands, row_edge}
 use Rattle.edge_count.specs.declared.Counts.{Counts}
 use Rattle.edge_record.specs.Coded.{coded}
-use Rattle.edge_count.specs.Slots.{left_row, right_row}
+use Rattle.edge_count.specs.Slots.{left_row, right_row, LeavingTo}
 use Rattle.edge_count.specs.Slots.{stands_at, slot_edge, edge_at, one, pair_counts, counts_plus, back_one, edges_below, back_below, counts_below}
 
 -- a table has at most 512 rows
@@ -210,30 +210,33 @@ row_counted table i j edges back e f g =
     (f ∙ sym past.0 ∙ ap (edges_below table) whole)
     (g ∙ sym past.1 ∙ ap (back_below table) whole)
 
--- counts before a row are those up to its first slot
-pub counts_start : (table : List ℕ) (i : ℕ) (before : Counts) → before ≡ counts_below table (i * 1024)
-    → before ≡ counts_below table (i * 1024 + 0 * 2)
-counts_start table i before e = e ∙ ap (counts_below table) (sym (add-zero (i * 1024)))
+-- no edge of a row is counted before its first slot
+pub leaving_none : (table : List ℕ) (i : ℕ) → LeavingTo table i 0 (record { edges = 0; back = 0 })
+leaving_none table i = record {
+  edges = add-zero (edges_below table (i * 1024)) ∙ ap (edges_below table) (sym (add-zero (i * 1024)));
+  back = add-zero (back_below table (i * 1024)) ∙ ap (back_below table) (sym (add-zero (i * 1024)));
+  few = omega arith;
+  back_few = omega arith;
+}
 
--- the counts up to a pair's slots and those of the pair are the counts up to the next pair's: no sum passes 64 bits
-pub counts_pair : (table : List ℕ) (n i j : ℕ) (rows : n ≡ row_count table) (left : i < n) (inside : j < n) (counts : Counts) {c r : Counts}
-    → counts ≡ counts_below table (i * 1024 + j * 2) → c ≡ pair_counts (row_forward (row_at table i) (row_at table j)) (row_back (row_at table i) (row_at table j))
-    → r ≡ counts_plus counts c → r ≡ counts_below table (i * 1024 + (j + 1) * 2)
-unfolding counts_below
-counts_pair table n i j rows left inside counts {c} {r} e told is =
-    let edges = pair_edges table n i j rows inside counts.edges (ap (λ (x : Counts). x.edges) e) told in
-    let back = pair_back table n i j rows inside counts.back (ap (λ (x : Counts). x.back) e) told in
+-- a row's edges up to a pair's slots and those of the pair are its edges up to the next pair's: no sum passes 64 bits
+pub leaving_pair : (table : List ℕ) (n i j : ℕ) (rows : n ≡ row_count table) (inside : j < n) {counts c r : Counts} → LeavingTo table i j counts
+    → c ≡ pair_counts (row_forward (row_at table i) (row_at table j)) (row_back (row_at table i) (row_at table j))
+    → r ≡ counts_plus counts c → LeavingTo table i (j + 1) r
+leaving_pair table n i j rows inside {counts} {c} before told is =
+    let edges = pair_edges table n i j rows inside (edges_below table (i * 1024) + counts.edges) before.edges told in
+    let back = pair_back table n i j rows inside (back_below table (i * 1024) + counts.back) before.back told in
+    let pair = pair_most _ _ told in
     let most = rows_few table n rows in
-    let some = edges_below_le table (i * 1024 + (j + 1) * 2) in
-    let less = back_below_le table (i * 1024 + (j + 1) * 2) in
-    is ∙ ap₂ (λ (a b : ℕ). record { edges = a; back = b }) (mod-eq_of_lt (omega arith) ∙ edges) (mod-eq_of_lt (omega arith) ∙ back)
-
--- a row's counts are those up to the table's last row
-pub counts_row : (table : List ℕ) (i j : ℕ) (counts : Counts) → j ≡ row_count table → counts ≡ counts_below table (i * 1024 + j * 2)
-    → counts ≡ counts_below table (i * 1024 + 1024)
-unfolding counts_below
-counts_row table i j counts e f =
-    f ∙ row_counted table i j (edges_below table (i * 1024 + j * 2)) (back_below table (i * 1024 + j * 2)) e refl refl
+    let few = before.few in
+    let back_few = before.back_few in
+    let sum = plus_parts counts c is (omega (arith, few, pair.0, most, inside)) (omega (arith, back_few, pair.1, most, inside)) in
+    record {
+      edges = omega (arith, sum.0, edges);
+      back = omega (arith, sum.1, back);
+      few = omega (arith, sum.0, few, pair.0);
+      back_few = omega (arith, sum.1, back_few, pair.1);
+    }
 
 -- the rows counted before the first row, and before the row after a row
 pub counts_none : (table : List ℕ) → ◌≡◌ {A = Counts} (record { edges = 0; back = 0 }) (counts_below table (0 * 1024))

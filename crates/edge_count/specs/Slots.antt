@@ -1,11 +1,12 @@
 -- Slots: each row of a table has 1024 slots, two for each row that an edge of it can enter, the forward edge's first.
 -- So a slot's rows and flow are told without dividing by the number of rows. Slots past the table's last row stay empty.
-use Rattle.std.specs.Prelude.{Bool, cond, ◌&&◌, List, ◌≡◌, ℕ, zero, suc, ◌+◌, ◌-◌, ◌*◌, ◌/◌, ◌%◌, ◌<◌, eqb, ltb, length}
+use Rattle.std.specs.Prelude.{Bool, cond, ◌&&◌, List, ◌≡◌, ℕ, zero, suc, ◌+◌, ◌-◌, ◌*◌, ◌/◌, ◌%◌, ◌≤◌, eqb, ltb, length}
+use mathlib.Core.List.{flat_map}
 use Rattle.spec_base.specs.Basic.{count}
 use Rattle.spec_graph.specs.Graph as G
 use Rattle.spec_graph.specs.Edge as E
 use Rattle.place_row.specs.declared.Row.{Row}
-use Rattle.place_row.specs.RowTable.{row_at, row_count, row_stands, row_edge, table_rows, edges_of_rows}
+use Rattle.place_row.specs.RowTable.{row_at, row_count, row_stands, row_edge, row_edges, table_rows, edges_of_rows}
 use Rattle.edge_record.specs.declared.Edge.{Edge}
 use Rattle.edge_record.specs.Coded.{coded}
 use Rattle.edge_count.specs.declared.Counts.{Counts}
@@ -16,6 +17,14 @@ table_edges table = edges_of_rows (table_rows table)
 
 unfoldable pub table_counts : List ℕ → Counts
 table_counts table = record { edges = length (table_edges table); back = count (λ e. G.is_back e.flow) (table_edges table) }
+
+-- the edges that leave row i, which are those between it and each row, and how many they are
+abbrev pub edges_leaving : List ℕ → ℕ → List E.Edge
+edges_leaving table i = flat_map (row_edges (row_at table i)) (table_rows table)
+
+unfoldable pub row_counts : List ℕ → ℕ → Counts
+row_counts table i =
+    record { edges = length (edges_leaving table i); back = count (λ e. G.is_back e.flow) (edges_leaving table i) }
 
 -- ---- slots
 
@@ -76,8 +85,9 @@ back_below table (suc x) = back_below table x + back_one (stands_at table x) x
 unfoldable pub counts_below : List ℕ → ℕ → Counts
 counts_below table x = record { edges = edges_below table x; back = back_below table x }
 
--- the edges that leave the rows before row i are counted
-pub record CountedTo (table : List ℕ) (n i : ℕ) (before : Counts) : Type 0 where
-  pub rows : n ≡ row_count table
-  pub inside : i < n
-  pub counts : before ≡ counts_below table (i * 1024)
+-- row i has its edges into the rows before row j counted: as many stand in its slots for them
+pub record LeavingTo (table : List ℕ) (i j : ℕ) (counts : Counts) : Type 0 where
+  pub edges : edges_below table (i * 1024) + counts.edges ≡ edges_below table (i * 1024 + j * 2)
+  pub back : back_below table (i * 1024) + counts.back ≡ back_below table (i * 1024 + j * 2)
+  pub few : counts.edges ≤ j * 2
+  pub back_few : counts.back ≤ j

@@ -1,5 +1,5 @@
 -- Laws of edges by their numbers.
-use Rattle.std.specs.Prelude.{◌≡◌, List, [], ◌∷◌, Option, None, Some, map, ℕ, zero, suc, ◌+◌, ◌≤◌, ◌<◌, length}
+use Rattle.std.specs.Prelude.{◌≡◌, List, [], ◌∷◌, None, Some, map, ℕ, zero, suc, ◌+◌, ◌-◌, ◌*◌, ◌≤◌, ◌<◌, length}
 use Rattle.std.proofs.Math.Path.{refl, ap}
 use Rattle.std.proofs.Common.{sym, ◌∙◌, not-suc-le-zero, le_of_suc-le-suc}
 use Rattle.std.proofs.Math.Option.{none, some}
@@ -9,11 +9,14 @@ use Rattle.law_base.specs.ListLaws.{get_elem?_past, some_injective}
 use Rattle.spec_graph.specs.Edge as E
 use Rattle.edge_record.specs.declared.Edge.{Edge}
 use Rattle.edge_record.specs.Coded.{coded, found_as}
-use Rattle.edge_count.specs.Slots.{table_edges, slots, edges_below}
+use Rattle.place_row.specs.RowTable.{row_count}
+use Rattle.edge_count.specs.declared.Counts.{Counts}
+use Rattle.edge_count.specs.Slots.{table_edges, slots, edges_below, row_counts}
 use Rattle.edge_count.specs.SlotLaws.{rows_small}
+use Rattle.edge_count.specs.Flattened.{leaving_edges}
 use Rattle.edge_find.specs.declared.EdgeStep.{EdgeStep}
 use Rattle.edge_find.specs.Search.{edge_from}
-use Rattle.edge_find.specs.SearchLaws.{edge_after}
+use Rattle.edge_find.specs.SearchLaws.{edge_after, below_all}
 use Rattle.edge_number.specs.Numbers.{Ahead, Numbered}
 
 -- an edge that is told is there, as the code holds it
@@ -89,6 +92,26 @@ module _ (table : List ℕ) where
   pub ahead_first : edges_below table 0 ≡ 0
   unfolding edges_below
   ahead_first = refl
+
+  -- ---- row after row
+
+  -- the edges before row i are those with the numbers below k that are not left
+  module _ (k i left : ℕ) (before : edges_below table (i * 1024) + left ≡ k) where
+    -- where a row has no more edges than are left, it is passed over
+    pub row_passed : {c : Counts} → c ≡ row_counts table i → c.edges ≤ left → edges_below table ((i + 1) * 1024) + (left - c.edges) ≡ k
+    row_passed told few =
+        let next = leaving_edges table i told in
+        let s : (i + 1) * 1024 ≡ i * 1024 + 1024 = omega arith in
+        let e = ap (edges_below table) s in
+        omega arith
+
+    -- after the last row no edge has number k
+    pub rows_passed : {n : ℕ} → n ≡ row_count table → i ≡ n → None ≡ found_as (get_elem? (table_edges table) k)
+    unfolding slots found_as
+    rows_passed rows last =
+        let all = below_all table in
+        let e = ap (λ (m : ℕ). edges_below table (m * 1024)) (last ∙ rows) in
+        sym (ap found_as (get_elem?_past (table_edges table) k (omega arith)))
 
 -- an edge of the list, told
 told_at : (edges : List E.Edge) (k : ℕ) (e : Edge) → get_elem? (map coded edges) k ≡ some e → Some e ≡ found_as (get_elem? edges k)

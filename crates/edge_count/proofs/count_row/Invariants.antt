@@ -1,7 +1,6 @@
--- After j rows the counts are those of the slots up to there.
-use Rattle.std.proofs.Common.{◌≡◌, ◌+◌, ◌*◌}
-use Rattle.edge_count.specs.Slots.{counts_below}
+-- After j rows the edges into these are counted.
+use Rattle.edge_count.specs.Slots.{LeavingTo}
 use Rattle.edge_count.proofs.count_row.Given as goal
 
 abbrev pub invariant-loop-j : goal.invariant-loop-j
-invariant-loop-j l = l.counts ≡ counts_below l.table (l.i * 1024 + l.j * 2)
+invariant-loop-j l = LeavingTo l.table l.i l.j l.counts

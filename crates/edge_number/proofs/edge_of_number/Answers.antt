@@ -1,32 +1,26 @@
--- Where the edge with number i is not there, no later number has one (absent_later). Else the edges after its slot are those with higher numbers
--- (next_numbered), and after k of them the next is number k (found_is).
-use Rattle.std.proofs.Common.{◌≡◌, ◌∙◌, arith}
-use Rattle.edge_number.specs.NumberLaws.{ahead_first, found_ahead, found_is, absent_later, next_numbered}
-use Rattle.edge_number.specs.Numbers.{Numbered}
+-- Rows whose edges all have lower numbers are passed over (row_passed), and in another row the number that is left is the edge's from the row's first
+-- slot on. Where all rows are passed over there are no more edges than k (rows_passed).
+use Rattle.std.proofs.Common.{◌≡◌, ◌∙◌, ap, arith}
+use Rattle.std.proofs.Math.ListN.{get_elem?}
+use Rattle.edge_record.specs.Coded.{found_as}
+use Rattle.edge_count.specs.Slots.{table_edges}
+use Rattle.edge_count.specs.SlotLaws.{rows_few}
+use Rattle.edge_number.specs.NumberLaws.{ahead_first, row_passed, rows_passed}
 use Rattle.edge_number.proofs.edge_of_number.Goals as goal
-use Rattle.edge_number.proofs.edge_of_number.Goals.{In_ok-step}
 
 pub loop-i-init : goal.loop-i-init
-loop-i-init c = ahead_first _
+loop-i-init c = let none = ahead_first c.args.table.now in omega arith
 
-pub returns-in_err-step : goal.returns-in_err-step
-returns-in_err-step c =
-    let none = absent_later _ _ _ _ c.loop-i.invariant c.edge_from-step.ensures c.args.k (omega arith) c.in_err-step.was in
-    cc
+pub overflow_mul-i : goal.overflow_mul-i
+overflow_mul-i c = let few = rows_few _ _ c.row_count-n.ensures in let inside = c.loop-i-test.true in record { fits = omega arith }
 
--- the edge that is found has number i
-numbered : (c : In_ok-step) → Numbered c.args.table.now c.loop-i.i c.edge_from-step.result.slot c.in_ok-step.field-0
-numbered c =
-    next_numbered _ _ _ _ (found_ahead _ _ _ _ c.loop-i.invariant c.edge_from-step.ensures _ c.in_ok-step.was) c.edge_from-step.ensures _
-    c.in_ok-step.was
-
-pub overflow_add-from : goal.overflow_add-from
-overflow_add-from c = let h = (numbered (goal.at.overflow_add-from c).In_ok-step).few in record { fits = omega arith }
+pub returns-then-left-row : goal.returns-then-left-row
+returns-then-left-row c = c.numbered_from.ensures ∙ ap (λ m. found_as (get_elem? (table_edges c.args.table.now) m)) c.loop-i.invariant
 
 pub loop-i-preserved : goal.loop-i-preserved
-loop-i-preserved c = (numbered (goal.at.loop-i-preserved c).In_ok-step).after
+loop-i-preserved c = row_passed _ _ _ _ c.loop-i.invariant c.count_row-row.ensures c.if-left-row.false
 
 pub returns : goal.returns
 returns c =
-    let same : c.loop-i.i ≡ c.args.k = omega arith in
-    found_is _ _ _ _ (c.loop-i.invariant ∙ same) c.edge_from.ensures
+    let last : c.loop-i.i ≡ c.row_count-n.result = omega arith in
+    rows_passed _ _ _ _ c.loop-i.invariant c.row_count-n.ensures last
