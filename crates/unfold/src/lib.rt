@@ -112,8 +112,7 @@ fn mark_by(source: &Source, at: usize) -> u32
 }
 
 // Lays the words of the statements from a line on over an area, up to the first line that is none, or to the area's end; answers how many,
-// and, where a block is next, what is seen there (each one's mark is). It is inlined: a run calls it at each block.
-#[inline(always)]
+// and, where a block is next, what is seen there (each one's mark is).
 fn write_stretch(source: &Source, seen: u32, at: usize, out: &mut [u64]) -> Stretch
     ensures { Stretched (codes_in source.now) (words_in source.now) (marks_in source.now) seen at
         out.old result out.new }
@@ -261,7 +260,6 @@ fn write_block(source: &Source, seen: u32, at: usize, left: usize, k: u64, out: 
 }
 
 // Lays the words of unfolding number k of the run at a place in the same way; a run of statements alone is laid with no call.
-#[inline(always)]
 #[cycle(write_block_write_run_write_turn)]
 fn write_turn(source: &Source, seen: u32, at: usize, left: usize, k: u64, out: &mut [u64]) -> usize
     requires { Known (codes_in source.now) source.now.counts.now at left }

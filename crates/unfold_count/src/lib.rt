@@ -114,10 +114,8 @@ fn word_counted(word: u32) -> Counted
 }
 
 // The run at a place, up to the first line that begins no statement or block of its own: as the word for it says where the words reach, else
-// counted. `left` bounds its lines. It is inlined, as the two after the next are, so that a line whose words behind it are there is counted with no
-// call.
-#[inline(always)]
-#[cycle(block_by_run_anew_run_behind_run_by)]
+// counted, by the words behind it. `left` bounds its lines.
+#[cycle(block_by_run_behind_run_by)]
 fn run_by(lines: &[u64], counts: &[u32], at: usize, left: usize) -> Counted
     requires { Usable (table_codes lines.now) counts.now at left }
     ensures { RunCounted left (table_codes lines.now) at result }
@@ -125,16 +123,6 @@ fn run_by(lines: &[u64], counts: &[u32], at: usize, left: usize) -> Counted
     if at < counts.len() {
         return word_counted(counts[at]);
     }
-    run_anew(lines, counts, at, left)
-}
-
-// The run at a place that the words do not reach. The calls that go round go through here.
-#[inline(never)]
-#[cycle(block_by_run_anew_run_behind_run_by)]
-fn run_anew(lines: &[u64], counts: &[u32], at: usize, left: usize) -> Counted
-    requires { length counts.now ≤ at }
-    ensures { RunCounted left (table_codes lines.now) at result }
-{
     if left == 0 {
         return nothing(at);
     }
@@ -145,8 +133,7 @@ fn run_anew(lines: &[u64], counts: &[u32], at: usize, left: usize) -> Counted
 }
 
 // The run at a line, whatever its word, by the words behind it.
-#[inline(always)]
-#[cycle(block_by_run_anew_run_behind_run_by)]
+#[cycle(block_by_run_behind_run_by)]
 fn run_behind(lines: &[u64], counts: &[u32], at: usize, left: usize) -> Counted
     requires { Behind (table_codes lines.now) counts.now at left }
     ensures { RunCounted (left + 1) (table_codes lines.now) at result }
@@ -160,8 +147,7 @@ fn run_behind(lines: &[u64], counts: &[u32], at: usize, left: usize) -> Counted
 }
 
 // The statement or block at a line, in the same way.
-#[inline(always)]
-#[cycle(block_by_run_anew_run_behind_run_by)]
+#[cycle(block_by_run_behind_run_by)]
 fn block_by(lines: &[u64], counts: &[u32], at: usize, left: usize) -> Counted
     requires { Behind (table_codes lines.now) counts.now at left }
     ensures { Counting (item_at (count_at left (table_codes lines.now)) (table_codes lines.now) at) result }

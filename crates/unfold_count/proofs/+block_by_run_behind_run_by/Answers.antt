@@ -10,7 +10,7 @@ use Rattle.unfold_laws.specs.Codes.{after}
 use Rattle.value_tables.specs.TableLaws.{codes_many}
 use Rattle.unfold_count.proofs.RunLaws.{run_none, run_past, run_stop, block_statement, block_loop, block_branch}
 use Rattle.unfold_count.proofs.WordLaws.{usable_run, behind_past, behind_second, behind_onward, behind_next}
-use Rattle.unfold_count.proofs.+block_by_run_anew_run_behind_run_by.Goals as goal
+use Rattle.unfold_count.proofs.+block_by_run_behind_run_by.Goals as goal
 
 pub block_by-overflow_add-result : goal.block_by-overflow_add-result
 block_by-overflow_add-result t c = omega (arith, codes_many c.args.lines.now, c.requires.inside)
@@ -59,21 +59,17 @@ run_behind-returns t c =
 pub run_by-returns-then-at-counts : goal.run_by-returns-then-at-counts
 run_by-returns-then-at-counts t c = usable_run _ _ _ _ c.requires c.if-at-counts.true _ c.word_counted.ensures
 
-pub run_by-run_anew-requires : goal.run_by-run_anew-requires
-run_by-run_anew-requires t c = (search rules, omega (arith, c.if-at-counts.false))
+pub run_by-returns-then-left-eq0 : goal.run_by-returns-then-left-eq0
+run_by-returns-then-left-eq0 t c = run_none _ _ _ _ c.if-left-eq0.true c.nothing.ensures
 
-pub run_anew-returns-then-left-eq0 : goal.run_anew-returns-then-left-eq0
-run_anew-returns-then-left-eq0 t c = run_none _ _ _ _ c.if-left-eq0.true c.nothing.ensures
+pub run_by-returns-then-lines_in-at : goal.run_by-returns-then-lines_in-at
+run_by-returns-then-lines_in-at t c = run_past _ _ _ _ (omega (arith, c.lines_in.ensures, c.if-lines_in-at.true)) c.nothing-then-lines_in-at.ensures
 
-pub run_anew-returns-then-lines_in-at : goal.run_anew-returns-then-lines_in-at
-run_anew-returns-then-lines_in-at t c =
-    run_past _ _ _ _ (omega (arith, c.lines_in.ensures, c.if-lines_in-at.true)) c.nothing-then-lines_in-at.ensures
+pub run_by-run_behind-requires : goal.run_by-run_behind-requires
+run_by-run_behind-requires t c =
+    (search rules, behind_past _ _ _ _ (omega (arith, c.lines_in.ensures, c.if-lines_in-at.false)) (omega (arith, c.if-at-counts.false)))
 
-pub run_anew-run_behind-requires : goal.run_anew-run_behind-requires
-run_anew-run_behind-requires t c =
-    (search rules, behind_past _ _ _ _ (omega (arith, c.lines_in.ensures, c.if-lines_in-at.false)) c.requires)
-
-pub run_anew-returns : goal.run_anew-returns
-run_anew-returns t c =
+pub run_by-returns : goal.run_by-returns
+run_by-returns t c =
     let less : c.args.left - 1 + 1 ≡ c.args.left = omega (arith, c.if-left-eq0.false) in
     rw less at c.run_behind.ensures
