@@ -93,26 +93,6 @@ module _ (table : List ℕ) where
   unfolding edges_below
   ahead_first = refl
 
-  -- ---- row after row
-
-  -- the edges before row i are those with the numbers below k that are not left
-  module _ (k i left : ℕ) (before : edges_below table (i * 1024) + left ≡ k) where
-    -- where a row has no more edges than are left, it is passed over
-    pub row_passed : {c : Counts} → c ≡ row_counts table i → c.edges ≤ left → edges_below table ((i + 1) * 1024) + (left - c.edges) ≡ k
-    row_passed told few =
-        let next = leaving_edges table i told in
-        let s : (i + 1) * 1024 ≡ i * 1024 + 1024 = omega arith in
-        let e = ap (edges_below table) s in
-        omega arith
-
-    -- after the last row no edge has number k
-    pub rows_passed : {n : ℕ} → n ≡ row_count table → i ≡ n → None ≡ found_as (get_elem? (table_edges table) k)
-    unfolding slots found_as
-    rows_passed rows last =
-        let all = below_all table in
-        let e = ap (λ (m : ℕ). edges_below table (m * 1024)) (last ∙ rows) in
-        sym (ap found_as (get_elem?_past (table_edges table) k (omega arith)))
-
 -- an edge of the list, told
 told_at : (edges : List E.Edge) (k : ℕ) (e : Edge) → get_elem? (map coded edges) k ≡ some e → Some e ≡ found_as (get_elem? edges k)
 unfolding found_as
@@ -126,3 +106,23 @@ found_at table k slot edge n = told_at (table_edges table) k edge n.edge
 pub found_none : (table : List ℕ) (k n : ℕ) → n ≡ length (table_edges table) → n ≤ k → None ≡ found_as (get_elem? (table_edges table) k)
 unfolding found_as
 found_none table k n c l = sym (ap found_as (get_elem?_past (table_edges table) k (omega arith)))
+
+-- ---- row after row
+
+-- the edges before row i are those with the numbers below k that are not left
+module _ (table : List ℕ) (k i left : ℕ) (before : edges_below table (i * 1024) + left ≡ k) where
+  -- where a row has no more edges than are left, it is passed over
+  pub row_passed : {c : Counts} → c ≡ row_counts table i → c.edges ≤ left → edges_below table ((i + 1) * 1024) + (left - c.edges) ≡ k
+  row_passed told few =
+      let next = leaving_edges table i told in
+      let s : (i + 1) * 1024 ≡ i * 1024 + 1024 = omega arith in
+      let e = ap (edges_below table) s in
+      omega arith
+
+  -- after the last row no edge has number k
+  pub rows_passed : {n : ℕ} → n ≡ row_count table → i ≡ n → None ≡ found_as (get_elem? (table_edges table) k)
+  unfolding slots
+  rows_passed rows last =
+      let all = below_all table in
+      let e = ap (λ (m : ℕ). edges_below table (m * 1024)) (last ∙ rows) in
+      found_none table k (length (table_edges table)) refl (omega arith)
