@@ -342,7 +342,8 @@ fn list_areas(out: Stdout, w: Workload) {
 
 // ---- from the arguments to the listings
 
-// What is asked of a text that is read, or its refusal.
+// What is asked of a text that is read, or its refusal. It is not inlined, so that the stack holds the areas of one listing at a time.
+#[inline(never)]
 fn list_value<List: Fn(Stdout, Workload)>(out: Stdout, text: &[u8], list: List)
     requires { List.IsAlwaysCallable list }
 {
